@@ -1,0 +1,4 @@
+pub mod Sent
+pub mod Named
+pub mod Buffered
+pub mod Parted

@@ -1,0 +1,10 @@
+pub mod Causes
+pub mod Known
+pub mod Calls
+pub mod Memory
+pub mod MemOut
+pub mod MemFiles
+pub mod Parts
+pub mod Buffer
+pub mod Timetable
+pub mod Counted

@@ -1,0 +1,120 @@
+// A buffer of fixed size beside a stream.
+ghost use Rattle.std.specs.Prelude.{◌≡◌, ◌↔◌, [], false, IsTrue, IsErr, OnOk};
+ghost use Rattle.dev_io.specs.Calls.{Tells, SendsAll};
+ghost use Rattle.dev_io.specs.Causes.{HasCause};
+ghost use Rattle.dev_io.specs.Parts.{joined};
+
+use crate::output::{Out, WriteFault, write_all};
+use arrayvec::ArrayVec;
+
+/// How many bytes a buffer holds at most, which is about the size of the pieces that a stream is handed.
+pub const BUFFER_SIZE: usize = 8192;
+
+/// A buffer of fixed size that goes beside a stream, so that many small texts leave in pieces of some kilobytes.
+///
+/// It keeps whether a write failed. From then on it takes what it is handed and sends nothing, so a writer of many
+/// parts hands them over one by one and asks once, at `flush`. What is held when it is dropped is not sent. It takes
+/// no memory.
+#[derive(Drop)]
+pub struct OutBuffer {
+    held: ArrayVec<u8, BUFFER_SIZE>,
+    failed: bool,
+}
+
+impl OutBuffer {
+    ghost use Rattle.dev_io.specs.Buffer.{standing, Puts, Flushes, held_of, has_failed};
+
+    /// An empty buffer.
+    pub fn new() -> OutBuffer
+        ensures held { held_of result ≡ [] }
+        ensures failed { has_failed result ≡ false }
+    {
+        OutBuffer {
+            held: ArrayVec::new(),
+            failed: false,
+        }
+    }
+
+    /// Hands these bytes over. What was held is sent where there is no room for them, and they too where they are
+    /// too many for an empty buffer.
+    #[inline]
+    pub fn put<W: Out>(&mut self, out: &mut W, bytes: &[u8])
+        ensures { Puts (standing W.known W.faults out.old self.old) (standing W.known W.faults out.new self.new) bytes.now }
+    {
+        if self.failed {
+            return;
+        }
+        match self.held.try_extend_from_slice(bytes) {
+            Ok(()) => {}
+            Err(_) => self.put_past(out, bytes),
+        }
+    }
+
+    // Hands over bytes for which there is no room.
+    #[inline(never)]
+    fn put_past<W: Out>(&mut self, out: &mut W, bytes: &[u8])
+        requires { has_failed self.old ≡ false }
+        ensures { Puts (standing W.known W.faults out.old self.old) (standing W.known W.faults out.new self.new) bytes.now }
+    {
+        match self.flush(out) {
+            Ok(()) => self.put_first(out, bytes),
+            Err(_) => {}
+        }
+    }
+
+    // Hands over the first bytes to an empty buffer.
+    fn put_first<W: Out>(&mut self, out: &mut W, bytes: &[u8])
+        requires empty { held_of self.old ≡ [] }
+        requires sound { has_failed self.old ≡ false }
+        ensures { Puts (standing W.known W.faults out.old self.old) (standing W.known W.faults out.new self.new) bytes.now }
+    {
+        match self.held.try_extend_from_slice(bytes) {
+            Ok(()) => {}
+            Err(_) => match write_all(out, bytes) {
+                Ok(()) => {}
+                Err(_) => self.failed = true,
+            },
+        }
+    }
+
+    /// Hands these parts over, one after another.
+    pub fn put_parts<W: Out>(&mut self, out: &mut W, parts: &[&[u8]])
+        ensures { Puts (standing W.known W.faults out.old self.old) (standing W.known W.faults out.new self.new) (joined parts.now) }
+    {
+        for part in parts {
+            self.put(out, part);
+        }
+    }
+
+    /// Sends what is held. `Sink` comes where a write has failed, now or before, and then a prefix of all that was
+    /// handed over was sent.
+    pub fn flush<W: Out>(&mut self, out: &mut W) -> Result<(), WriteFault>
+        ensures sent { Flushes (standing W.known W.faults out.old self.old) (standing W.known W.faults out.new self.new) result }
+        ensures empty { OnOk result (held_of self.new ≡ []) }
+        ensures failed { IsTrue (has_failed self.new) ↔ IsErr result }
+    {
+        if self.failed {
+            return Err(WriteFault::Sink);
+        }
+        match write_all(out, self.held.as_slice()) {
+            Ok(()) => {
+                self.held.clear();
+                Ok(())
+            }
+            Err(_) => {
+                self.failed = true;
+                Err(WriteFault::Sink)
+            }
+        }
+    }
+}
+
+/// Sends the parts, one after another, through a buffer. Where it fails, a prefix of all of them was sent.
+pub fn write_parts<W: Out>(out: &mut W, parts: &[&[u8]]) -> Result<(), WriteFault>
+    ensures told { Tells (SendsAll (joined parts.now) result) (W.known out.old) (W.known out.new) }
+    ensures cause { HasCause (W.faults out.old) (W.faults out.new) result }
+{
+    let mut buffer = OutBuffer::new();
+    buffer.put_parts(out, parts);
+    buffer.flush(out)
+}

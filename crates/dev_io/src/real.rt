@@ -1,0 +1,196 @@
+// The files and the standard streams of the system. They tell no content.
+ghost use Rattle.std.specs.Prelude.{◌≡◌, ◌<◌, ◌≤◌, length, None, IfOk, is_err};
+ghost use Rattle.std.specs.Io.{ReadsAtMost, WritesAtMost};
+ghost use Rattle.dev_io.specs.Causes.{HasCause, HasExactCause, HasOpenCause};
+ghost use Rattle.dev_io.specs.Timetable.{raised, raised_if, is_failed};
+
+use crate::files::{Failed, Files, Opened};
+use crate::output::Out;
+use std::fs::File;
+use std::io;
+use std::io::{ErrorKind, Read, Write};
+use std::rt::Files as System;
+
+// The file in hand.
+#[derive(Drop)]
+enum Hand<F, I> {
+    Nothing,
+    File(F),
+    Input(I),
+}
+
+/// The files of the system, and its standard input under the name `-`. They tell no content.
+///
+/// The count of faults rises by one at each error, until it stands at 2^64 - 1. A file that is not there is no error.
+#[derive(Drop)]
+pub struct RealFiles<R: System + Input> {
+    rt: R,
+    hand: Hand<R::File, R::Reader>,
+    faults: u64,
+}
+
+impl<R: System + Input> RealFiles<R> {
+    ghost use Rattle.dev_io.specs.Counted.{file_faults};
+
+    /// The files of the system, none of them in hand.
+    pub fn new(rt: R) -> Self
+        ensures { file_faults result ≡ 0 }
+    {
+        RealFiles {
+            rt,
+            hand: Hand::Nothing,
+            faults: 0,
+        }
+    }
+}
+
+impl<R: System + Input> RealFiles<R> {
+    ghost use Rattle.dev_io.specs.Counted.{file_faults};
+
+    // Counts an error.
+    fn count_fault(&mut self)
+        ensures counted { file_faults self.new ≡ raised (file_faults self.old) }
+        ensures later { file_faults self.old ≤ file_faults self.new }
+    {
+        self.faults = self.faults.saturating_add(1);
+    }
+}
+
+impl<R: System + Input> Files for RealFiles<R> {
+    ghost use Rattle.dev_io.specs.Counted.{file_faults};
+
+    ghost known = { λ _. None };
+
+    ghost faults = { λ s. s.faults };
+
+    fn open_file(&mut self, name: &str) -> Opened
+        ensures cause { HasOpenCause (file_faults self.old) (file_faults self.new) result }
+        ensures count { file_faults self.new ≡ raised_if (is_failed result) (file_faults self.old) }
+    {
+        self.hand = Hand::Nothing;
+        if name == "-" {
+            self.hand = Hand::Input(self.rt.reader());
+            return Opened::Found;
+        }
+        match File::open(&self.rt, name) {
+            Ok(file) => {
+                self.hand = Hand::File(file);
+                Opened::Found
+            }
+            Err(e) if e.kind() == ErrorKind::NotFound => Opened::Absent,
+            Err(_) => {
+                self.count_fault();
+                Opened::Failed
+            }
+        }
+    }
+
+    fn read(&mut self, buf: &mut [u8]) -> Result<usize, Failed>
+        ensures bound { ReadsAtMost result buf.new }
+        ensures cause { HasExactCause (file_faults self.old) (file_faults self.new) result }
+        ensures count { file_faults self.new ≡ raised_if (is_err result) (file_faults self.old) }
+    {
+        let got = match &mut self.hand {
+            Hand::Nothing => Ok(0),
+            Hand::File(file) => file.read(buf),
+            Hand::Input(input) => input.read(buf),
+        };
+        match got {
+            Ok(count) => Ok(count),
+            Err(_) => {
+                self.count_fault();
+                Err(Failed)
+            }
+        }
+    }
+
+    fn close(&mut self) {
+        self.hand = Hand::Nothing;
+    }
+}
+
+/// A stream of the system, as its standard output, and after `aim` a file. It tells no content.
+///
+/// `aim` makes the file, or empties one that is there. The count of faults rises by one at each error, until it stands
+/// at 2^64 - 1. Taking no byte of a piece that is not empty is an error.
+#[derive(Drop)]
+pub struct RealOut<R: System, P: Print + Drop> {
+    rt: R,
+    stream: P,
+    file: Option<R::File>,
+    faults: u64,
+}
+
+impl<R: System, P: Print + Drop> RealOut<R, P> {
+    ghost use Rattle.dev_io.specs.Counted.{out_faults};
+
+    /// That stream, until it is aimed at a file.
+    pub fn new(rt: R, stream: P) -> Self
+        ensures { out_faults result ≡ 0 }
+    {
+        RealOut {
+            rt,
+            stream,
+            file: None,
+            faults: 0,
+        }
+    }
+
+    // Writes some bytes from the front of the piece to the file, or to the stream where there is none.
+    fn write_some(&mut self, piece: &[u8]) -> io::Result<usize>
+        ensures bound { WritesAtMost result piece.now }
+        ensures faults { out_faults self.new ≡ out_faults self.old }
+    {
+        match &mut self.file {
+            Some(file) => file.write(piece),
+            None => self.stream.write_some(piece),
+        }
+    }
+
+    // Counts an error.
+    fn count_fault(&mut self)
+        ensures counted { out_faults self.new ≡ raised (out_faults self.old) }
+        ensures later { out_faults self.old ≤ out_faults self.new }
+    {
+        self.faults = self.faults.saturating_add(1);
+    }
+}
+
+impl<R: System, P: Print + Drop> Out for RealOut<R, P> {
+    ghost use Rattle.dev_io.specs.Counted.{out_faults};
+
+    ghost known = { λ _. None };
+
+    ghost faults = { λ s. s.faults };
+
+    fn aim(&mut self, name: &str) -> Result<(), Failed>
+        ensures cause { HasCause (out_faults self.old) (out_faults self.new) result }
+        ensures count { out_faults self.new ≡ raised_if (is_err result) (out_faults self.old) }
+    {
+        match File::create(&self.rt, name) {
+            Ok(file) => {
+                self.file = Some(file);
+                Ok(())
+            }
+            Err(_) => {
+                self.count_fault();
+                Err(Failed)
+            }
+        }
+    }
+
+    fn write(&mut self, piece: &[u8]) -> Result<usize, Failed>
+        ensures bound { WritesAtMost result piece.now }
+        ensures some { IfOk result (λ n. 0 < length piece.now → 0 < n) }
+        ensures cause { HasCause (out_faults self.old) (out_faults self.new) result }
+        ensures count { out_faults self.new ≡ raised_if (is_err result) (out_faults self.old) }
+    {
+        match self.write_some(piece) {
+            Ok(count) if count > 0 || piece.is_empty() => Ok(count),
+            _ => {
+                self.count_fault();
+                Err(Failed)
+            }
+        }
+    }
+}

@@ -1,0 +1,5 @@
+pub mod Determined
+pub mod Frames
+pub mod Reels
+pub mod Spelled
+pub mod Readings

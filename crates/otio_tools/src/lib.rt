@@ -1,0 +1,59 @@
+//! The command lines of `otio`, over files and streams that are handed in.
+#![tactic(auto)]
+
+ghost use Rattle.std.specs.Prelude.{◌≡◌, ℕ, List, Option};
+ghost use Rattle.otio_tools.specs.Answer.{Answer, Answers};
+
+mod command;
+mod plan;
+mod say;
+mod whole;
+mod words;
+
+pub use command::run;
+
+/// Law: words and files have at most one answer. It does nothing.
+pub fn one_answer()
+    ensures { (words : List (List ℕ)) (held : List ℕ → Option (List ℕ)) (a b : Answer) → Answers words held a → Answers words held b → a ≡ b }
+{}
+
+/// The greatest length of a file, in bytes.
+pub const FILE_LIMIT: usize = 33_554_432;
+
+/// How a run ended. The number beside each is the exit status of the program.
+#[derive(Clone, Copy, Debug, PartialEq, Eq)]
+pub enum Status {
+    /// 0: all input was read to its end, and all output was taken.
+    Done,
+    /// 1: the input breaks a rule of its format; the message names the first fault.
+    Refused,
+    /// 2: the words are no command line of this program.
+    Usage,
+    /// 3: a file is absent, or opening or reading it failed.
+    Input,
+    /// 4: the stream of output failed; what was sent is a prefix of the output.
+    Output,
+    /// 5: no memory was left.
+    Memory,
+}
+
+impl Status {
+    ghost use Rattle.otio_tools.specs.Status.{exit_status};
+
+    /// The exit status of the program, from 0 to 5.
+    pub fn code(self) -> u8
+        ensures { result ≡ exit_status self }
+    {
+        match self {
+            Status::Done => 0,
+            Status::Refused => 1,
+            Status::Usage => 2,
+            Status::Input => 3,
+            Status::Output => 4,
+            Status::Memory => 5,
+        }
+    }
+}
+
+#[cfg(test)]
+mod tests;

@@ -1,0 +1,186 @@
+use crate::{Status, run};
+use dev_io::{MemFiles, MemOut};
+use std::alloc::{AllocError, Global};
+use std::test::Fail;
+
+const ONE: &[u8] =
+    b"TITLE: ONE\nFCM: NON-DROP FRAME\n\n7 TAPE1 V C 01:00:00:00 01:00:02:00 00:00:10:00 00:00:12:00\n";
+
+const ONE_SPELLED: &[u8] =
+    b"TITLE: ONE\nFCM: NON-DROP FRAME\n001  TAPE1    V     C        01:00:00:00 01:00:02:00 00:00:10:00 00:00:12:00\n";
+
+const USAGE_LINES: usize = 8;
+
+fn words_of(alloc: Global, line: &str) -> Result<Vec<String>, AllocError> {
+    let mut words = Vec::new(alloc);
+    for word in line.split_whitespace() {
+        words.push(String::from_str(alloc, word)?)?;
+    }
+    Ok(words)
+}
+
+fn some_files(alloc: Global) -> Result<MemFiles, AllocError> {
+    let mut files = MemFiles::new(alloc);
+    files.put("a.edl", ONE)?;
+    files.put("empty.edl", b"TITLE: EMPTY")?;
+    files.put(
+        "unequal.edl",
+        b"1 T1 V C 00:00:00:00 00:00:01:00 00:00:00:00 00:00:02:00",
+    )?;
+    files.put("-b.edl", ONE)?;
+    files.put("a.otio", ONE)?;
+    Ok(files)
+}
+
+#[test]
+fn each_answer_has_its_status_its_output_and_its_message(rt: HostRuntime) -> Result<(), Fail> {
+    let alloc = rt.alloc();
+    for (line, status, output, message) in [
+        (
+            "convert --to edl a.edl",
+            Status::Done,
+            ONE_SPELLED,
+            b"".as_slice(),
+        ),
+        (
+            "convert a.edl --to edl",
+            Status::Done,
+            ONE_SPELLED,
+            b"".as_slice(),
+        ),
+        (
+            "convert --to edl empty.edl",
+            Status::Done,
+            b"TITLE: EMPTY\nFCM: NON-DROP FRAME\n".as_slice(),
+            b"".as_slice(),
+        ),
+        (
+            "convert --to edl gone.edl",
+            Status::Input,
+            b"".as_slice(),
+            b"otio: gone.edl: absent\n".as_slice(),
+        ),
+        (
+            "convert --to edl unequal.edl",
+            Status::Refused,
+            b"".as_slice(),
+            b"otio: unequal.edl: L0 NotYet\n".as_slice(),
+        ),
+    ] {
+        let mut files = some_files(alloc)?;
+        let mut out = MemOut::new(alloc, 1000)?;
+        let mut err = MemOut::new(alloc, 1000)?;
+        let words = words_of(alloc, line)?;
+        assert_eq!(rt;
+            run(alloc, &words, &mut files, &mut out, &mut err),
+            status,
+            "{line}"
+        );
+        assert_eq!(rt; out.sent(), output, "{line}");
+        assert_eq!(rt; err.sent(), message, "{line}");
+        assert!(rt; out.target().is_none());
+        assert!(rt; err.target().is_none());
+    }
+    Ok(())
+}
+
+#[test]
+fn other_words_are_answered_by_the_usage_text(rt: HostRuntime) -> Result<(), Fail> {
+    let alloc = rt.alloc();
+    for line in [
+        "",
+        "paint",
+        "convert",
+        "convert --to edl",
+        "convert a.edl",
+        "convert --to edl a.edl a.edl",
+        "convert --to edl -b.edl",
+        "convert --to edl a.otio",
+        "convert --to json a.edl",
+        "convert --to --to edl",
+        "Convert --to edl a.edl",
+    ] {
+        let mut files = some_files(alloc)?;
+        let mut out = MemOut::new(alloc, 1000)?;
+        let mut err = MemOut::new(alloc, 1000)?;
+        let words = words_of(alloc, line)?;
+        assert_eq!(rt;
+            run(alloc, &words, &mut files, &mut out, &mut err),
+            Status::Usage,
+            "{line}"
+        );
+        assert!(rt; out.sent().is_empty());
+        assert!(rt; err.sent().starts_with(b"otio: usage\n  otio convert ["));
+        assert_eq!(rt;
+            err.sent().iter().filter(|b| **b == b'\n').count(),
+            USAGE_LINES
+        );
+    }
+    Ok(())
+}
+
+#[test]
+fn a_stream_of_output_that_fails_leaves_a_prefix(rt: HostRuntime) -> Result<(), Fail> {
+    let alloc = rt.alloc();
+    let words = words_of(alloc, "convert --to edl a.edl")?;
+    for call in 1..8u64 {
+        let mut files = some_files(alloc)?;
+        let mut out = MemOut::new(alloc, 1000)?;
+        out.piece(16);
+        out.fail_on(call)?;
+        let mut err = MemOut::new(alloc, 1000)?;
+        assert_eq!(rt;
+            run(alloc, &words, &mut files, &mut out, &mut err),
+            Status::Output
+        );
+        assert_eq!(rt; err.sent(), b"otio: output failed\n".as_slice());
+        assert!(rt; ONE_SPELLED.starts_with(out.sent()));
+        assert!(rt; out.sent().len() < ONE_SPELLED.len());
+    }
+    Ok(())
+}
+
+#[test]
+fn a_failing_stream_of_messages_changes_no_status(rt: HostRuntime) -> Result<(), Fail> {
+    let alloc = rt.alloc();
+    for (line, status) in [
+        ("convert --to edl gone.edl", Status::Input),
+        ("convert --to edl unequal.edl", Status::Refused),
+        ("paint", Status::Usage),
+    ] {
+        let mut files = some_files(alloc)?;
+        let mut out = MemOut::new(alloc, 1000)?;
+        let mut err = MemOut::new(alloc, 1000)?;
+        err.piece(5);
+        err.fail_on(2)?;
+        let words = words_of(alloc, line)?;
+        assert_eq!(rt;
+            run(alloc, &words, &mut files, &mut out, &mut err),
+            status,
+            "{line}"
+        );
+        assert_eq!(rt; err.sent(), b"otio:".as_slice());
+        assert!(rt; out.sent().is_empty());
+    }
+    Ok(())
+}
+
+#[test]
+fn a_file_that_fails_is_named(rt: HostRuntime) -> Result<(), Fail> {
+    let alloc = rt.alloc();
+    let words = words_of(alloc, "convert --to edl a.edl")?;
+    for call in 1..4u64 {
+        let mut files = some_files(alloc)?;
+        files.piece(64);
+        files.fail_on(call)?;
+        let mut out = MemOut::new(alloc, 1000)?;
+        let mut err = MemOut::new(alloc, 1000)?;
+        assert_eq!(rt;
+            run(alloc, &words, &mut files, &mut out, &mut err),
+            Status::Input
+        );
+        assert_eq!(rt; err.sent(), b"otio: a.edl: read failed\n".as_slice());
+        assert!(rt; out.sent().is_empty());
+    }
+    Ok(())
+}

@@ -1,0 +1,4 @@
+pub mod Lists
+pub mod Counting
+pub mod Labels
+pub mod Spellings

@@ -1,0 +1,4 @@
+pub mod Day
+pub mod Film
+pub mod Spelling
+pub mod Laws

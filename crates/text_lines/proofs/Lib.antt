@@ -1,0 +1,5 @@
+pub mod Bytes
+pub mod Places
+pub mod Splitting
+pub mod Stripping
+pub mod Trimming

@@ -1,0 +1,9 @@
+use Rattle.std.proofs.Common.{◌≡◌, length}
+use Rattle.text_lines.specs.Lines.{trimmed_front}
+use Rattle.text_lines.proofs.trim.trim_front.Given as goal
+
+abbrev pub invariant-spaces : goal.invariant-spaces
+invariant-spaces l = trimmed_front l.rest ≡ trimmed_front l.text
+
+abbrev pub decreases-spaces : goal.decreases-spaces
+decreases-spaces l = length l.rest
