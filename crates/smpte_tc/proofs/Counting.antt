@@ -56,7 +56,7 @@ pub record StandsAt (nominal t : ℕ) (a : TimeAddress) : Type 0 where
   pub inside : IsInDay nominal a
   pub place : t ≡ place_of nominal a
 
-second_from : (nominal h m s j : ℕ) (a : TimeAddress) → slice_get (second_of nominal h m s) j ≡ Some a → (j < nominal) × (a ≡ address h m s j)
+second_from : (nominal h m s j : ℕ) (a : TimeAddress) → slice_get (second_of nominal h m s) j ≡ Some a → (j < nominal) × (address h m s j ≡ a)
 unfolding second_of below
 second_from nominal h m s j a e =
     let found = option_from_map (address h m s) (slice_get (range_with_len 0 nominal) j) a (sym (slice_get-map (address h m s) (range_with_len 0 nominal) j) ∙ e) in
@@ -64,7 +64,7 @@ second_from nominal h m s j a e =
     let below : j < nominal = omega (arith, short, length-range_with_len 0 nominal) in
     let same : Some found.0 ≡ Some j = sym found.1 ∙ number_at nominal j below in
     let number : found.0 ≡ j = cc in
-    (below, found.2 ∙ ap (address h m s) number)
+    (below, sym (found.2 ∙ ap (address h m s) number))
 
 pub day_from : (nominal t : ℕ) (a : TimeAddress) → slice_get (day_of nominal) t ≡ Some a → StandsAt nominal t a
 unfolding day_of hour_of minute_of below
@@ -74,7 +74,7 @@ day_from nominal t a e =
     let in_minute = piece_of (second_of nominal in_day.0 in_hour.0) nominal 60 in_hour.1 a (length-second nominal in_day.0 in_hour.0) in_hour.2.there in
     let in_second = second_from nominal in_day.0 in_hour.0 in_minute.0 in_minute.1 a in_minute.2.there in
     let order : t ≡ place_of nominal (address in_day.0 in_hour.0 in_minute.0 in_minute.1) = omega (arith, in_day.2.place, in_hour.2.place, in_minute.2.place) in
-    let is : address in_day.0 in_hour.0 in_minute.0 in_minute.1 ≡ a = sym in_second.1 in
+    let is : address in_day.0 in_hour.0 in_minute.0 in_minute.1 ≡ a = in_second.1 in
     let found : StandsAt nominal t (address in_day.0 in_hour.0 in_minute.0 in_minute.1) = record {
       inside = record { hours = in_day.2.which; minutes = in_hour.2.which; seconds = in_minute.2.which; frames = in_second.0 };
       place = order;

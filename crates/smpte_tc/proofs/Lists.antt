@@ -1,5 +1,5 @@
 -- Places in joined lists.
-use Rattle.std.proofs.Common.{◌≡◌, ℕ, zero, suc, ◌+◌, ◌*◌, ◌/◌, ◌%◌, ◌<◌, Bool, true, Option, Some, None, List, [], ◌∷◌, ◌++◌, length, get_or, slice_get, flat_map, filter, cond, option_map, refl, sym, ap, ◌∙◌, arith, suc-add, zero-add, add-zero, zero-mul, length-append, div-add-mod'}
+use Rattle.std.proofs.Common.{◌≡◌, ℕ, zero, suc, ◌+◌, ◌*◌, ◌/◌, ◌%◌, ◌<◌, Bool, true, false, take, Option, Some, None, List, [], ◌∷◌, ◌++◌, length, get_or, slice_get, flat_map, filter, cond, option_map, refl, sym, ap, ◌∙◌, arith, suc-add, zero-add, add-zero, zero-mul, length-append, div-add-mod'}
 use Rattle.std.proofs.lemmas.Option.{slice_get_within}
 use Rattle.std.proofs.lemmas.Nat.{div_below, mod_below}
 use Rattle.std.specs.List.{range_with_len}
@@ -73,10 +73,52 @@ piece_of f w n t x long e =
     positive n zero h = absurd (omega arith)
     positive n (suc w) h = omega arith
 
--- a test that everything passes keeps the list
-pub filter_of_all : {X : Type 0} (p : X → Bool) (xs : List X) → ((x : X) → p x ≡ true) → filter p xs ≡ xs
-filter_of_all p [] all = refl
-filter_of_all p (x ∷ xs) all = ap (λ b. cond b (x ∷ filter p xs) (filter p xs)) (all x) ∙ ap (λ ys. x ∷ ys) (filter_of_all p xs all)
+-- what passes a test stands, among all that passes it, after as many as pass it before
+pub filter_at : {X : Type 0} (p : X → Bool) (xs : List X) (t : ℕ) (x : X) → slice_get xs t ≡ Some x → p x ≡ true → slice_get (filter p xs) (length (filter p (take t xs))) ≡ Some x
+filter_at p [] t x e passes = cc
+filter_at p (y ∷ xs) zero x e passes =
+    let same : y ≡ x = cc in
+    let here : p y ≡ true = ap p same ∙ passes in
+    ap (λ b. slice_get (cond b (y ∷ filter p xs) (filter p xs)) 0) here ∙ e
+filter_at p (y ∷ xs) (suc t) x e passes = skip (p y) y (filter p xs) (filter p (take t xs)) ∙ filter_at p xs t x e passes
+  where
+    skip : {X : Type 0} (b : Bool) (y : X) (all some : List X) → slice_get (cond b (y ∷ all) all) (length (cond b (y ∷ some) some)) ≡ slice_get all (length some)
+    skip true y all some = refl
+    skip false y all some = refl
+
+-- where an element of a filtered list comes from
+pub record IsKept {X : Type 0} (p : X → Bool) (xs : List X) (k : ℕ) (x : X) (t : ℕ) : Type 0 where
+  pub there : slice_get xs t ≡ Some x
+  pub passes : p x ≡ true
+  pub count : k ≡ length (filter p (take t xs))
+
+kept_step : {X : Type 0} (p : X → Bool) (y : X) (xs : List X) (x : X) → ((k : ℕ) → slice_get (filter p xs) k ≡ Some x → (t : ℕ) × IsKept p xs k x t)
+    → (b : Bool) → p y ≡ b → (k : ℕ) → slice_get (cond b (y ∷ filter p xs) (filter p xs)) k ≡ Some x → (t : ℕ) × IsKept p (y ∷ xs) k x t
+kept_step p y xs x before true e zero h =
+    let same : y ≡ x = cc in
+    (0, record { there = h; passes = sym (ap p same) ∙ e; count = refl })
+kept_step p y xs x before true e (suc k) h =
+    let found = before k h in (
+      suc found.0,
+      record {
+        there = found.1.there;
+        passes = found.1.passes;
+        count = ap (λ n. suc n) found.1.count ∙ ap (λ b. length (cond b (y ∷ filter p (take found.0 xs)) (filter p (take found.0 xs)))) (sym e);
+      },
+    )
+kept_step p y xs x before false e k h =
+    let found = before k h in (
+      suc found.0,
+      record {
+        there = found.1.there;
+        passes = found.1.passes;
+        count = found.1.count ∙ ap (λ b. length (cond b (y ∷ filter p (take found.0 xs)) (filter p (take found.0 xs)))) (sym e);
+      },
+    )
+
+pub filter_from : {X : Type 0} (p : X → Bool) (xs : List X) (k : ℕ) (x : X) → slice_get (filter p xs) k ≡ Some x → (t : ℕ) × IsKept p xs k x t
+filter_from p [] k x e = cc
+filter_from p (y ∷ xs) k x e = kept_step p y xs x (λ k h. filter_from p xs k x h) (p y) refl k e
 
 -- what a map's element is made of
 pub option_from_map : {X Y : Type 0} (f : X → Y) (o : Option X) (y : Y) → option_map f o ≡ Some y → (x : X) × (o ≡ Some x) × (y ≡ f x)

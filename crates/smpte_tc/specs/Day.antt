@@ -2,11 +2,7 @@
 use Rattle.std.specs.Prelude.{◌≡◌, ◌==◌, ℕ, ◌+◌, ◌/◌, ◌%◌, Bool, not, ◌&&◌, nat_lt, List, [], ◌∷◌, map, filter, flat_map, slice_get, Some, if◌then◌else◌}
 use Rattle.std.specs.List.{range_with_len}
 use Rattle.smpte_tc.specs.declared.address.TimeAddress.{TimeAddress}
-
--- how a day is counted: the frame numbers of a second, and how many of them drop-frame leaves out of a minute
-pub record Mode : Type 0 where
-  pub nominal : ℕ
-  pub dropped : ℕ
+use Rattle.smpte_tc.specs.declared.modes.Mode.{Mode}
 
 -- the numbers 0, 1, .. below n, in order
 unfoldable pub below : ℕ → List ℕ
@@ -57,14 +53,22 @@ abbrev pub spelled : ℕ → TimeAddress → List ℕ
 spelled mark a =
     tens a.hours ∷ units a.hours ∷ 58 ∷ tens a.minutes ∷ units a.minutes ∷ 58 ∷ tens a.seconds ∷ units a.seconds ∷ mark ∷ tens a.frames ∷ units a.frames ∷ []
 
--- the mark before the frames: ':', and ';' for drop-frame
+-- the labels of a day in order, with this mark before the frames
+unfoldable pub labels_with : ℕ → Mode → List (List ℕ)
+labels_with mark mode = map (spelled mark) (counted_of mode)
+
+-- the bytes are the label of the frame number n: as many labels of the day come before it
+pub record IsLabelWith (mark : ℕ) (mode : Mode) (n : ℕ) (bytes : List ℕ) : Type 0 where
+  pub stands : slice_get (labels_with mark mode) n ≡ Some bytes
+
+-- the mark before the frames that is written: ':', and ';' for drop-frame
 abbrev pub mark_of : Mode → ℕ
 mark_of mode = if mode.dropped == 0 then 58 else 59
 
--- the labels of a day in order
-unfoldable pub labels_of : Mode → List (List ℕ)
-labels_of mode = map (spelled (mark_of mode)) (counted_of mode)
+-- the bytes are the label of the frame number n, as it is written
+abbrev pub IsLabel : Mode → ℕ → List ℕ → Type 0
+IsLabel mode n bytes = IsLabelWith (mark_of mode) mode n bytes
 
--- the bytes are the label of the frame number n: as many labels of the day come before it
-pub record IsLabel (mode : Mode) (n : ℕ) (bytes : List ℕ) : Type 0 where
-  pub stands : slice_get (labels_of mode) n ≡ Some bytes
+-- the labels of a day in order, as they are written
+abbrev pub labels_of : Mode → List (List ℕ)
+labels_of mode = labels_with (mark_of mode) mode

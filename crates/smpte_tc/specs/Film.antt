@@ -1,6 +1,7 @@
 -- The labels at 24 frames a second, none left out.
 use Rattle.std.specs.Prelude.{◌≡◌, ℕ, ℤ, pos, List}
-use Rattle.smpte_tc.specs.Day.{Mode, IsLabel}
+use Rattle.smpte_tc.specs.declared.modes.Mode.{Mode}
+use Rattle.smpte_tc.specs.Day.{IsLabel}
 
 -- 24 frame numbers a second, all of them counted
 abbrev pub film : Mode

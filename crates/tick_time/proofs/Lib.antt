@@ -1,0 +1,20 @@
+-- Lemmas of exact time.
+pub mod Units
+pub mod Wholes
+pub mod Meetings
+pub mod Pushes
+pub mod Scans
+pub mod Parts
+pub mod Fractions
+pub mod Halves
+pub mod Readings
+pub mod Orders
+pub mod Nears
+pub mod Lowest
+pub mod Spelled
+pub mod Places
+pub mod Written
+pub mod Rereadings
+pub mod Once
+pub mod Again
+pub mod Examples

@@ -1,0 +1,25 @@
+-- Times as whole ticks, of which a second has 705600000000000000.
+use Rattle.std.specs.Prelude.{◌≡◌, ℕ, ◌%◌, ℤ, pos, ◌+ℤ◌, ◌-ℤ◌, ◌≤ℤ◌, ◌<ℤ◌, unsigned_abs}
+
+-- ticks of a million seconds
+abbrev pub most_ticks : ℕ
+most_ticks = 705600000000000000000000
+
+-- from a million seconds before 0 to a million seconds after it
+pub record IsInRange (ticks : ℤ) : Type 0 where
+  pub low : (pos 0 -ℤ pos most_ticks) ≤ℤ ticks
+  pub high : ticks ≤ℤ pos most_ticks
+
+-- the ticks are a whole number of pieces of so many ticks
+abbrev pub IsWhole : ℤ → ℕ → Type 0
+IsWhole ticks piece = unsigned_abs ticks % piece ≡ 0
+
+-- from the start up to, not including, the start plus the length
+pub record Holds (start len ticks : ℤ) : Type 0 where
+  pub from : start ≤ℤ ticks
+  pub to : ticks <ℤ (start +ℤ len)
+
+-- a speed from -1000 to 1000, in millionths
+pub record IsSpeed (speed : ℤ) : Type 0 where
+  pub low : (pos 0 -ℤ pos 1000000000) ≤ℤ speed
+  pub high : speed ≤ℤ pos 1000000000

@@ -1,0 +1,47 @@
+//! Laws of the texts, each on a function that makes the calls it speaks of.
+
+ghost use Rattle.std.specs.Prelude.{◌≡◌, IsOk, IfOk};
+
+use crate::decimals::Decimal;
+use crate::faults::TimeFault;
+use crate::rates::Rate;
+use crate::scalars::Scalar;
+use crate::times::Time;
+
+/// A rate's text, read as a rate: the rate itself.
+pub fn rate_read_again(rate: &Rate) -> Result<Rate, TimeFault>
+    ensures ok { IsOk result }
+    ensures num { IfOk result (λ again. again.num ≡ rate.now.num) }
+    ensures den { IfOk result (λ again. again.den ≡ rate.now.den) }
+{
+    let text = rate.text();
+    match Decimal::read(text.as_str().as_bytes()) {
+        Ok(decimal) => Rate::of(&decimal),
+        Err(fault) => Err(fault),
+    }
+}
+
+/// A time's value, read as a value of its rate: the time itself.
+pub fn time_read_again(time: &Time) -> Result<Time, TimeFault>
+    ensures ok { IsOk result }
+    ensures ticks { IfOk result (λ again. again.ticks ≡ time.now.ticks) }
+    ensures rate { IfOk result (λ again. again.rate ≡ time.now.rate) }
+{
+    let text = time.value_text();
+    match Decimal::read(text.as_str().as_bytes()) {
+        Ok(decimal) => Time::of(&decimal, time.rate),
+        Err(fault) => Err(fault),
+    }
+}
+
+/// A speed's text, read as a speed: the speed itself.
+pub fn speed_read_again(speed: &Scalar) -> Result<Scalar, TimeFault>
+    ensures ok { IsOk result }
+    ensures speed { IfOk result (λ again. again ≡ speed.now) }
+{
+    let text = speed.text();
+    match Decimal::read(text.as_str().as_bytes()) {
+        Ok(decimal) => Scalar::of(&decimal),
+        Err(fault) => Err(fault),
+    }
+}
