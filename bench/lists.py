@@ -16,7 +16,7 @@ import tempfile
 import time
 
 HERE = os.path.dirname(os.path.abspath(__file__))
-PROGRAM = os.path.join(HERE, '..', 'crates', 'otio_main', 'out', 'otio_main')
+PROGRAM = os.environ.get('OTIO') or os.path.join(HERE, '..', 'crates', 'otio_main', 'out', 'otio_main')
 EVENTS = 999
 FRAMES = 24
 

@@ -5,9 +5,10 @@ use Rattle.std.specs.List.{concat}
 use Rattle.dev_io.specs.Known.{KnownFiles, KnownOut}
 use Rattle.dev_io.specs.Calls.{Tells, Adds, AddsPrefix}
 use Rattle.dev_io.specs.Causes.{Rose}
-use Rattle.otio_tools.specs.Words.{IsListToList}
+use Rattle.otio_tools.specs.Words.{Ask}
 use Rattle.otio_tools.specs.Whole.{SameFiles, ReadFails, ReadsToEnd}
-use Rattle.otio_tools.specs.Answer.{Answer, Answers, message_of}
+use Rattle.otio_tools.specs.Answer.{Answer, Answers, read_failed}
+use Rattle.otio_tools.specs.declared.words.Command.{Command}
 use Rattle.otio_tools.specs.declared.Status.{Status}
 use Rattle.otio_tools.specs.declared.Status.TheVariants.{Done, Usage, Refused, Input, Output, Memory}
 
@@ -78,16 +79,17 @@ pub record Stops (words : List (List ℕ)) (held : List ℕ → Option (List ℕ
 
 -- Opening or reading the file that the words name failed, and nothing was sent.
 pub record FailsToRead (words : List (List ℕ)) (before now : ℕ) (old new : KnownFiles) (d : Streams) : Type 0 where
+  pub command : Command
   pub name : List ℕ
-  pub named : IsListToList words name
+  pub asked : Ask words command name
   pub failed : Rose before now
   pub last : ReadFails name old new
   pub output : Sends SendsNothing d
-  pub message : Message (message_of name (codes "read failed")) d
+  pub message : Message (read_failed name) d
 
 -- each file that the words name was read to its end
 abbrev pub ReadsAll : List (List ℕ) → KnownFiles → KnownFiles → Type 0
-ReadsAll words old new = (name : List ℕ) → IsListToList words name → ReadsToEnd name old new
+ReadsAll words old new = (command : Command) (name : List ℕ) → Ask words command name → ReadsToEnd name old new
 
 -- How a run over told files may end. `before` and `now` are the files' counts of faults.
 abbrev pub Ends : List (List ℕ) → ℕ → ℕ → Streams → Status → KnownFiles → KnownFiles → Type 0

@@ -22,6 +22,14 @@ EndsFrom (Some hand) bytes old new = (hand.1 ≡ bytes) × (new ≡ record old {
 abbrev pub TakesAll : List ℕ → KnownFiles → KnownFiles → Type 0
 TakesAll bytes old new = EndsFrom old.hand bytes old new
 
+-- the file in hand was read to its end
+abbrev pub EndsHand : Option (List ℕ × List ℕ) → KnownFiles → Type 0
+EndsHand None new = Unit {0}
+EndsHand (Some hand) new = new.hand ≡ Some (hand.0, [])
+
+abbrev pub ReadsOn : KnownFiles → KnownFiles → Type 0
+ReadsOn old new = EndsHand old.hand new
+
 -- what is left of the file in hand
 abbrev pub IsLeft : (List ℕ → Type 0) → KnownFiles → Type 0
 IsLeft P known = MatchOption known.hand (Unit {0}) (λ hand. P hand.1)

@@ -1,19 +1,20 @@
 // The top call.
 ghost use Rattle.std.specs.Prelude.{◌≡◌, ◌≢◌, ◌↔◌, ℕ, List, map, string_bytes, IfSome};
-ghost use Rattle.dev_io.specs.Calls.{Tells};
-ghost use Rattle.edl_text.specs.Spelling.{spelling};
-ghost use Rattle.edl_text.specs.Cuts.{cut_table};
-ghost use Rattle.otio_tools.specs.Words.{IsListToList};
-ghost use Rattle.otio_tools.specs.Answer.{Answer, Answers, message_of};
-ghost use Rattle.otio_tools.specs.Run.{Completes, Ends, Says, KeepsStill, streams};
-ghost use Rattle.otio_tools.specs.Plan.{Carries, Writes, fault_status, fault_message};
+ghost use Rattle.dev_io.specs.Calls.{Tells, SendsAll};
+ghost use Rattle.dev_io.specs.Causes.{HasCause};
+ghost use Rattle.otio_tools.specs.Words.{Ask, AskNothing};
+ghost use Rattle.otio_tools.specs.Run.{Completes, Ends, Says, KeepsStill, no_memory, streams};
+ghost use Rattle.otio_tools.specs.Plan.{Carries, Writes, text_planned, fault_status, fault_message, json_status, json_message};
 
 use crate::Status;
-use crate::plan::{Fault, plan};
-use crate::say::{say, say_of};
-use crate::words::list_to_list;
-use dev_io::{Files, Out};
-use edl_text::{CutList, write_cuts};
+use crate::fault::Fault;
+use crate::plan::{Planned, plan};
+use crate::say::{say, say_at, say_of};
+use crate::words::{Command, command_of};
+use dev_io::{Files, Out, WriteFault};
+use edl_text::write_cuts;
+use json_layout::write_json;
+use json_text::JsonFault;
 use std::alloc::Global;
 
 const USAGE: &[u8] = b"otio: usage
@@ -28,7 +29,8 @@ const USAGE: &[u8] = b"otio: usage
 
 /// Does what the words behind the program's name ask for, and says how it ended.
 ///
-/// `convert --to edl FILE`, where FILE ends with `.edl`, reads a simple list of cuts and sends its one spelling to `out`.
+/// `convert --to edl FILE`, where FILE ends with `.edl`, reads a simple list of cuts and sends its one spelling to `out`;
+/// `convert --to json FILE`, for any other FILE, reads a JSON text and sends its layout.
 /// Each status but `Done` sends one message to `err`; where `err` fails, a prefix of it was sent, and the status is the same.
 /// Nothing is sent to `out` before the file is judged. Want of memory alone may come at any time.
 pub fn run<F: Files, W: Out, E: Out>(
@@ -47,12 +49,12 @@ pub fn run<F: Files, W: Out, E: Out>(
         (streams W.faults W.known E.faults E.known out.old out.new err.old err.new) result) }
 
     // Over all files: usage exactly for other words; nothing sent but under Done and Output, which has its cause; no refusal behind a failed call.
-    ensures usage { (result ≡ Status.Usage) ↔ ((name : List ℕ) → IsListToList (map (λ w. string_bytes w) words.now.items) name → ⊥) }
+    ensures usage { (result ≡ Status.Usage) ↔ AskNothing (map (λ w. string_bytes w) words.now.items) }
     ensures still { KeepsStill (streams W.faults W.known E.faults E.known out.old out.new err.old err.new) result }
     ensures calm { result ≡ Status.Refused → F.faults files.new ≡ F.faults files.old }
 {
-    match list_to_list(words.as_slice()) {
-        Some(name) => convert_list(alloc, name, files, out, err),
+    match command_of(words.as_slice()) {
+        Some((command, name)) => convert(alloc, command, name, files, out, err),
         None => {
             say(err, &[USAGE]);
             Status::Usage
@@ -60,49 +62,60 @@ pub fn run<F: Files, W: Out, E: Out>(
     }
 }
 
-// `convert --to edl FILE` for the file of that name.
-fn convert_list<F: Files, W: Out, E: Out>(
+// `convert` of the file of that name.
+fn convert<F: Files, W: Out, E: Out>(
     alloc: Global,
+    command: Command,
     name: &str,
     files: &mut F,
     out: &mut W,
     err: &mut E,
 ) -> Status
-    ensures ends { (words : List (List ℕ)) → IsListToList words name.now → Tells (Ends words (F.faults files.old) (F.faults files.new)
+    ensures ends { (words : List (List ℕ)) → Ask words command name.now → Tells (Ends words (F.faults files.old) (F.faults files.new)
         (streams W.faults W.known E.faults E.known out.old out.new err.old err.new) result) (F.known files.old) (F.known files.new) }
     ensures still { KeepsStill (streams W.faults W.known E.faults E.known out.old out.new err.old err.new) result }
-    ensures list { result ≢ Status.Usage }
+    ensures asked { result ≢ Status.Usage }
     ensures calm { result ≡ Status.Refused → F.faults files.new ≡ F.faults files.old }
 {
-    let planned = plan(alloc, name, files);
+    let planned = plan(alloc, command, name, files);
     carry_out(name, planned, out, err)
 }
 
-// Sends the list, or the message of the fault.
+// Sends what is planned, or the message of the fault.
 fn carry_out<W: Out, E: Out>(
     name: &str,
-    planned: Result<CutList, Fault>,
+    planned: Result<Planned, Fault>,
     out: &mut W,
     err: &mut E,
 ) -> Status
     ensures { Carries name.now planned (streams W.faults W.known E.faults E.known out.old out.new err.old err.new) result }
 {
     match planned {
-        Ok(list) => send(&list, out, err),
+        Ok(planned) => send(&planned, out, err),
         Err(fault) => complain(name, fault, err),
     }
 }
 
-// Sends the one spelling of a list.
-fn send<W: Out, E: Out>(list: &CutList, out: &mut W, err: &mut E) -> Status
-    ensures { Writes (spelling (cut_table list.now)) (streams W.faults W.known E.faults E.known out.old out.new err.old err.new) result }
+// Sends what is planned.
+fn send<W: Out, E: Out>(planned: &Planned, out: &mut W, err: &mut E) -> Status
+    ensures { Writes (text_planned planned.now) (streams W.faults W.known E.faults E.known out.old out.new err.old err.new) result }
 {
-    match write_cuts(list, out) {
+    match write_planned(planned, out) {
         Ok(()) => Status::Done,
         Err(_) => {
             say(err, &[b"otio: output failed\n".as_slice()]);
             Status::Output
         }
+    }
+}
+
+fn write_planned<W: Out>(planned: &Planned, out: &mut W) -> Result<(), WriteFault>
+    ensures told { Tells (SendsAll (text_planned planned.now) result) (W.known out.old) (W.known out.new) }
+    ensures cause { HasCause (W.faults out.old) (W.faults out.new) result }
+{
+    match planned {
+        Planned::Cuts(list) => write_cuts(list, out),
+        Planned::Value(value) => write_json(value, out),
     }
 }
 
@@ -113,20 +126,53 @@ fn complain<E: Out>(name: &str, fault: Fault, err: &mut E) -> Status
 {
     match fault {
         Fault::Absent => {
-            say_of(err, name, b"absent");
+            say_of(err, name, b": absent\n");
             Status::Input
         }
         Fault::ReadFailed => {
-            say_of(err, name, b"read failed");
+            say_of(err, name, b": read failed\n");
             Status::Input
         }
         Fault::NotYet => {
-            say_of(err, name, b"L0 NotYet");
+            say_of(err, name, b": L0 NotYet\n");
             Status::Refused
         }
-        Fault::Memory => {
-            say(err, &[b"otio: no memory\n".as_slice()]);
-            Status::Memory
+        Fault::Json(fault) => complain_of_json(name, fault, err),
+        Fault::Memory => complain_of_memory(err),
+    }
+}
+
+// Sends the message of want of memory.
+fn complain_of_memory<E: Out>(err: &mut E) -> Status
+    ensures status { result ≡ Status.Memory }
+    ensures message { Says (E.faults err.old) (E.faults err.new) (E.known err.old) (E.known err.new) no_memory }
+{
+    say(err, &[b"otio: no memory\n".as_slice()]);
+    Status::Memory
+}
+
+// Sends the message of a fault of JSON.
+fn complain_of_json<E: Out>(name: &str, fault: JsonFault, err: &mut E) -> Status
+    ensures status { result ≡ json_status fault }
+    ensures message { Says (E.faults err.old) (E.faults err.new) (E.known err.old) (E.known err.new) (json_message name.now fault) }
+{
+    match fault {
+        JsonFault::Syntax(at) => {
+            say_at(err, name, b": J1 Syntax at ", at);
+            Status::Refused
         }
+        JsonFault::Utf8(at) => {
+            say_at(err, name, b": J2 Utf8 at ", at);
+            Status::Refused
+        }
+        JsonFault::Depth(at) => {
+            say_at(err, name, b": J3 Depth at ", at);
+            Status::Refused
+        }
+        JsonFault::Large => {
+            say_of(err, name, b": J4 Large\n");
+            Status::Refused
+        }
+        JsonFault::Memory => complain_of_memory(err),
     }
 }

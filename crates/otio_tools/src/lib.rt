@@ -5,6 +5,8 @@ ghost use Rattle.std.specs.Prelude.{◌≡◌, ℕ, List, Option};
 ghost use Rattle.otio_tools.specs.Answer.{Answer, Answers};
 
 mod command;
+mod fault;
+mod json;
 mod plan;
 mod say;
 mod whole;

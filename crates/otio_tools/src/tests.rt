@@ -28,7 +28,16 @@ fn some_files(alloc: Global) -> Result<MemFiles, AllocError> {
         b"1 T1 V C 00:00:00:00 00:00:01:00 00:00:00:00 00:00:02:00",
     )?;
     files.put("-b.edl", ONE)?;
-    files.put("a.otio", ONE)?;
+    files.put("list.json", b"[1,2]")?;
+    files.put("twice.json", b"{\"a\":1,\"b\":2,\"a\":3}")?;
+    files.put("half.json", b"[\"\\ud800\"]")?;
+    files.put("comma.json", b"[1,]")?;
+    files.put("nought.json", b"01")?;
+    files.put("early.json", b"\"\\u12")?;
+    files.put("nul", b"nul ")?;
+    files.put("deep.json", &[b'['; 128])?;
+    files.put("utf8.json", b"[\"\xff\"]")?;
+    files.put("-", b"true")?;
     Ok(files)
 }
 
@@ -66,6 +75,72 @@ fn each_answer_has_its_status_its_output_and_its_message(rt: HostRuntime) -> Res
             b"".as_slice(),
             b"otio: unequal.edl: L0 NotYet\n".as_slice(),
         ),
+        (
+            "convert --to json list.json",
+            Status::Done,
+            b"[\n    1,\n    2\n]\n".as_slice(),
+            b"".as_slice(),
+        ),
+        (
+            "convert twice.json --to json",
+            Status::Done,
+            b"{\n    \"a\": 3,\n    \"b\": 2\n}\n".as_slice(),
+            b"".as_slice(),
+        ),
+        (
+            "convert --to json -",
+            Status::Done,
+            b"true\n".as_slice(),
+            b"".as_slice(),
+        ),
+        (
+            "convert --to json half.json",
+            Status::Refused,
+            b"".as_slice(),
+            b"otio: half.json: J1 Syntax at 8\n".as_slice(),
+        ),
+        (
+            "convert --to json comma.json",
+            Status::Refused,
+            b"".as_slice(),
+            b"otio: comma.json: J1 Syntax at 3\n".as_slice(),
+        ),
+        (
+            "convert --to json nought.json",
+            Status::Refused,
+            b"".as_slice(),
+            b"otio: nought.json: J1 Syntax at 1\n".as_slice(),
+        ),
+        (
+            "convert --to json early.json",
+            Status::Refused,
+            b"".as_slice(),
+            b"otio: early.json: J1 Syntax at 5\n".as_slice(),
+        ),
+        (
+            "convert --to json nul",
+            Status::Refused,
+            b"".as_slice(),
+            b"otio: nul: J1 Syntax at 3\n".as_slice(),
+        ),
+        (
+            "convert --to json deep.json",
+            Status::Refused,
+            b"".as_slice(),
+            b"otio: deep.json: J3 Depth at 127\n".as_slice(),
+        ),
+        (
+            "convert --to json utf8.json",
+            Status::Refused,
+            b"".as_slice(),
+            b"otio: utf8.json: J2 Utf8 at 2\n".as_slice(),
+        ),
+        (
+            "convert --to json gone.json",
+            Status::Input,
+            b"".as_slice(),
+            b"otio: gone.json: absent\n".as_slice(),
+        ),
     ] {
         let mut files = some_files(alloc)?;
         let mut out = MemOut::new(alloc, 1000)?;
@@ -95,7 +170,8 @@ fn other_words_are_answered_by_the_usage_text(rt: HostRuntime) -> Result<(), Fai
         "convert a.edl",
         "convert --to edl a.edl a.edl",
         "convert --to edl -b.edl",
-        "convert --to edl a.otio",
+        "convert --to edl list.json",
+        "convert --to json -x",
         "convert --to json a.edl",
         "convert --to --to edl",
         "Convert --to edl a.edl",

@@ -18,12 +18,12 @@ returns-in-None-clause-ends g c =
 pub returns-in-Some-clause-ends : goal.returns-in-Some-clause-ends
 returns-in-Some-clause-ends g c =
     let words = map (λ w. string_bytes w) c.args.words.now.items in
-    c.convert_list.ensures.ends words (rw c.as_slice.ensures.value at c.in-Some.ensures)
+    c.convert.ensures.ends words (rw c.as_slice.ensures.value at c.in-Some.ensures)
 
 pub returns-in-Some-clause-complete : goal.returns-in-Some-clause-complete
 returns-in-Some-clause-complete g c =
     let words = map (λ w. string_bytes w) c.args.words.now.items in
-    completes words _ _ _ _ _ c.convert_list.result (c.convert_list.ensures.ends words (rw c.as_slice.ensures.value at c.in-Some.ensures))
+    completes words _ _ _ _ _ c.convert.result (c.convert.ensures.ends words (rw c.as_slice.ensures.value at c.in-Some.ensures))
 
 pub returns-in-None-clause-complete : goal.returns-in-None-clause-complete
 returns-in-None-clause-complete g c =

@@ -1,5 +1,7 @@
-use Rattle.std.proofs.Common.{refl}
 use Rattle.otio_tools.proofs.plan.judge.Goals as goal
 
-pub returns-in-Err-NotYet-clause-owed : goal.returns-in-Err-NotYet-clause-owed
-returns-in-Err-NotYet-clause-owed c = (c.args.bytes.now, refl, (rw c.in-Err-NotYet.field-0-is at c.in-Err-NotYet.ensures.not_yet) refl)
+pub returns-in-ListToList-clause-owed : goal.returns-in-ListToList-clause-owed
+returns-in-ListToList-clause-owed g c = λ name. rw c.in-ListToList.is (c.judge_list.ensures.owed name)
+
+pub returns-in-ToJson-clause-owed : goal.returns-in-ToJson-clause-owed
+returns-in-ToJson-clause-owed g c = λ name. rw c.in-ToJson.is (c.judge_json.ensures.owed name)

@@ -1,0 +1,20 @@
+-- The spaces before a line.
+use Rattle.std.proofs.Common.{◌≡◌, ◌<◌, ◌+◌, ◌*◌, ℕ, [], ◌∷◌, ◌++◌, take, replicate, ap, ◌∙◌, arith}
+use Rattle.std.proofs.lemmas.List.{take-replicate, replicate-append-replicate}
+use Rattle.json_layout.specs.declared.level.Level.{Inside}
+use Rattle.json_layout.specs.declared.level.Level.TheOpen.{Level-F}
+use Rattle.json_layout.specs.declared.level.Level.TheFolds.{fold-roll-Level}
+use Rattle.json_layout.specs.Levels.{deep, deep_step}
+use Rattle.json_layout.specs.Layout.{indent}
+
+pub deep-Inside : (outer : _) → deep (Inside outer) ≡ deep outer.now + 1
+unfolding Rattle.json_layout.specs.declared.level.Level.TheViews.roll-Level denote.Hole.Carrier.roll
+deep-Inside outer = fold-roll-Level ℕ deep_step (Level-F.Inside outer)
+
+-- the spaces of one level more
+pub indent_more : (n : ℕ) → indent n ++ (32 ∷ 32 ∷ 32 ∷ 32 ∷ []) ≡ indent (n + 1)
+indent_more n = replicate-append-replicate (4 * n) 4 32 ∙ ap (λ k. replicate k 32) (omega arith)
+
+-- the spaces of a few levels, of those of 32
+pub indent_of_many : (n : ℕ) → n < 33 → take (4 * n) (replicate 128 32) ≡ indent n
+indent_of_many n few = take-replicate (4 * n) 128 32 (omega arith)

@@ -1,0 +1,4 @@
+pub mod Escaping
+pub mod Indents
+pub mod Leaving
+pub mod Lines

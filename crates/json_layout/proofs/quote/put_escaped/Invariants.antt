@@ -1,0 +1,13 @@
+use Rattle.std.proofs.Common.{length}
+use Rattle.dev_io.specs.Buffer.{standing}
+use Rattle.json_layout.specs.Strings.{escaped}
+use Rattle.json_layout.proofs.Leaving.{Leaves}
+use Rattle.json_layout.proofs.quote.put_escaped.Given as goal
+
+abbrev pub invariant-runs : goal.invariant-runs
+invariant-runs g l =
+    let stand = standing g.W.Out.known g.W.Out.faults in
+    Leaves (stand l.fn.out l.fn.buffer) (stand l.out l.buffer) (escaped l.bytes) (escaped l.rest)
+
+abbrev pub decreases-runs : goal.decreases-runs
+decreases-runs g l = length l.rest

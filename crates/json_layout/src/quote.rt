@@ -1,0 +1,85 @@
+// JSON strings as they are written.
+ghost use Rattle.std.specs.Prelude.{◌≡◌, ◌<◌, position};
+ghost use Rattle.std.specs.Char.{digit_char};
+ghost use Rattle.dev_io.specs.Buffer.{standing, Puts};
+ghost use Rattle.json_layout.specs.Strings.{code_escape, escape, escaped, quoted, needs_escape};
+
+use dev_io::{Out, OutBuffer};
+
+/// Hands these bytes over as a JSON string (RFC 8259, section 7): between `"`, with `"` and `\` behind a `\`, the
+/// control characters below U+0020 as `\b`, `\f`, `\n`, `\r`, `\t` or `\u00xx`, and every other byte as it stands.
+pub fn put_string<W: Out>(buffer: &mut OutBuffer, out: &mut W, bytes: &[u8])
+    ensures { Puts (standing W.known W.faults out.old buffer.old) (standing W.known W.faults out.new buffer.new) (quoted bytes.now) }
+{
+    buffer.put(out, b"\"");
+    put_escaped(buffer, out, bytes);
+    buffer.put(out, b"\"");
+}
+
+// Hands these bytes over, each as it stands in a JSON string; bytes that need no escape go in one slice.
+fn put_escaped<W: Out>(buffer: &mut OutBuffer, out: &mut W, bytes: &[u8])
+    ensures { Puts (standing W.known W.faults out.old buffer.old) (standing W.known W.faults out.new buffer.new) (escaped bytes.now) }
+{
+    let mut rest = bytes;
+    'runs: while let Some(index) = first_escaped(rest) {
+        buffer.put(out, rest.split_at(index).0);
+        put_escape(buffer, out, rest[index]);
+        rest = rest.split_at(index + 1).1;
+    }
+    buffer.put(out, rest);
+}
+
+// The index of the first byte that needs an escape.
+fn first_escaped(bytes: &[u8]) -> Option<usize>
+    ensures { result ≡ position needs_escape bytes.now }
+{
+    bytes
+        .iter()
+        .position(|byte| *byte < b' ' || *byte == b'"' || *byte == b'\\')
+}
+
+// Hands over what stands for this byte in a JSON string.
+fn put_escape<W: Out>(buffer: &mut OutBuffer, out: &mut W, byte: u8)
+    ensures { Puts (standing W.known W.faults out.old buffer.old) (standing W.known W.faults out.new buffer.new) (escape byte) }
+{
+    match byte {
+        b'"' => buffer.put(out, b"\\\""),
+        b'\\' => buffer.put(out, b"\\\\"),
+        0x08 => buffer.put(out, b"\\b"),
+        0x0c => buffer.put(out, b"\\f"),
+        b'\n' => buffer.put(out, b"\\n"),
+        b'\r' => buffer.put(out, b"\\r"),
+        b'\t' => buffer.put(out, b"\\t"),
+        0x00..=0x1f => put_code(buffer, out, byte),
+        _ => buffer.put(out, &[byte]),
+    }
+}
+
+// Hands over the escape of a byte by its code.
+fn put_code<W: Out>(buffer: &mut OutBuffer, out: &mut W, byte: u8)
+    ensures { Puts (standing W.known W.faults out.old buffer.old) (standing W.known W.faults out.new buffer.new) (code_escape byte) }
+{
+    buffer.put(
+        out,
+        &[
+            b'\\',
+            b'u',
+            b'0',
+            b'0',
+            hex_digit(byte / 16),
+            hex_digit(byte % 16),
+        ],
+    );
+}
+
+// The lower case hexadecimal digit of a number below 16.
+fn hex_digit(number: u8) -> u8
+    requires { number < 16 }
+    ensures { result ≡ digit_char number }
+{
+    if number < 10 {
+        b'0' + number
+    } else {
+        b'a' + (number - 10)
+    }
+}

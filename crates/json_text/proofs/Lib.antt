@@ -1,0 +1,16 @@
+pub mod Basics
+pub mod Utf8Lemmas
+pub mod NumberLemmas
+pub mod Finishes
+pub mod TextSteps
+pub mod Steps
+pub mod Valid
+pub mod Live
+pub mod Outside
+pub mod Utf8Steps
+pub mod Seen
+pub mod Last
+pub mod RunLemmas
+pub mod Named
+pub mod Skims
+pub mod Once

@@ -1,0 +1,33 @@
+-- Bytes that leave the machine where it is.
+use Rattle.std.proofs.Common.{◌≡◌, ℕ, ◌≤◌, List, length, take, Result, Ok, Err, sym, ap, ◌∙◌, IfOk}
+use Rattle.std.specs.Prelude.{reverse}
+use Rattle.json_text.specs.Grammar.{AreBlank}
+use Rattle.json_text.specs.Machine.{state, run, value, next_name}
+use Rattle.json_text.specs.Runs.{Skims}
+use Rattle.json_text.specs.Stands.{state_of, levels_of, hand_of, AddsText}
+use Rattle.json_text.specs.declared.machine.Machine.{Machine}
+use Rattle.json_text.specs.declared.state.Role.{Role}
+use Rattle.json_text.specs.declared.state.Hand.TheVariants.{Value, NextName, Text}
+use Rattle.json_text.specs.declared.state.Part.TheVariants.{Plain}
+use Rattle.json_text.proofs.RunLemmas.{run_plain, run_blank-value, run_blank-name}
+
+text_skims : (old new : Machine) (role : Role) (bytes : List ℕ) (count : ℕ) → old.hand ≡ Text role Plain → AddsText count bytes old new → Skims count (state_of old) bytes (state_of new)
+text_skims old new role bytes count e a = record {
+  within = a.within;
+  ran = ap (λ h. run 127 (state (levels_of old) (hand_of h old.text.items old.root)) (take count bytes)) e ∙ run_plain 127 (levels_of old) role old.text.items (take count bytes) a.plain
+      ∙ sym (λ i. Ok (state (reverse (a.levels i).items) (hand_of ((a.hand ∙ e) i) (a.text i) (a.root i))));
+}
+
+pub text_skimmed : {E : Type 0} (old new : Machine) (role : Role) (bytes : List ℕ) (r : Result ℕ E) → old.hand ≡ Text role Plain → IfOk r (λ count. AddsText count bytes old new) → IfOk r (λ count. Skims count (state_of old) bytes (state_of new))
+text_skimmed old new role bytes (Ok count) e h = text_skims old new role bytes count e h
+text_skimmed old new role bytes (Err k) e h = tt
+
+pub value_skims : (m : Machine) (bytes : List ℕ) (count : ℕ) → m.hand ≡ Value → count ≤ length bytes → AreBlank (take count bytes) → Skims count (state_of m) bytes (state_of m)
+value_skims m bytes count e l h =
+    let f : state_of m ≡ state (levels_of m) value = ap (λ x. state (levels_of m) (hand_of x m.text.items m.root)) e in
+    record { within = l; ran = ap (λ x. run 127 x (take count bytes)) f ∙ run_blank-value 127 (levels_of m) (take count bytes) h ∙ sym (ap (λ x. Ok x) f) }
+
+pub name_skims : (m : Machine) (bytes : List ℕ) (count : ℕ) → m.hand ≡ NextName → count ≤ length bytes → AreBlank (take count bytes) → Skims count (state_of m) bytes (state_of m)
+name_skims m bytes count e l h =
+    let f : state_of m ≡ state (levels_of m) next_name = ap (λ x. state (levels_of m) (hand_of x m.text.items m.root)) e in
+    record { within = l; ran = ap (λ x. run 127 x (take count bytes)) f ∙ run_blank-name 127 (levels_of m) (take count bytes) h ∙ sym (ap (λ x. Ok x) f) }

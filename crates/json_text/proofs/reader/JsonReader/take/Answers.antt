@@ -1,0 +1,55 @@
+use Rattle.std.proofs.Common.{◌≡◌, ◌++◌, ◌-◌, ◌+◌, length-append, arith, subst, sym, Ok}
+use Rattle.json_text.specs.Faults.{Names}
+use Rattle.json_text.specs.Machine.{run}
+use Rattle.json_text.specs.Runs.{StopsAt}
+use Rattle.json_text.specs.Stands.{state_of}
+use Rattle.json_text.proofs.Named.{fault_in, fault_behind, read_all, live_all}
+use Rattle.json_text.proofs.reader.JsonReader.take.Goals as goal
+
+pub returns-in-Ok-Stops-clause-fault : goal.returns-in-Ok-Stops-clause-fault
+returns-in-Ok-Stops-clause-fault c = λ bytes read.
+    let s = state_of c.args.self.now.machine in
+    let few = read.few in
+    let taken = read.taken in
+    let room = 33_554_432 - c.args.self.now.taken in
+    let h = rw c.in-Ok-Stops.field-0-is at c.in-Ok-Stops.ensures in
+    let stops = subst (λ x. StopsAt c.in-Ok-Stops.index c.in-Ok-Stops.stop s x) c.before-within.ensures h in
+    subst (λ f. Names f (bytes ++ c.args.piece.now)) (sym c.fault_of.ensures)
+    (fault_in bytes c.args.piece.now s room c.in-Ok-Stops.index (c.args.self.now.taken + c.in-Ok-Stops.index) c.in-Ok-Stops.stop read.ran stops (omega arith) (omega arith))
+
+pub returns-then-piece-room-clause-fault : goal.returns-then-piece-room-clause-fault
+returns-then-piece-room-clause-fault c = λ bytes read.
+    let s = state_of c.args.self.now.machine in
+    let few = read.few in
+    let taken = read.taken in
+    let room = 33_554_432 - c.args.self.now.taken in
+    let h = rw c.in-Ok-All.field-0-is at c.in-Ok-All.ensures in
+    let ran = subst (λ x. run 127 s x ≡ Ok (state_of c.run.new.self)) c.before-within.ensures h in
+    fault_behind bytes c.args.piece.now s (state_of c.run.new.self) room read.ran ran (omega arith) (omega arith)
+
+pub returns-clause-read : goal.returns-clause-read
+returns-clause-read c = λ bytes read.
+    let s = state_of c.args.self.now.machine in
+    let few = read.few in
+    let taken = read.taken in
+    let room = 33_554_432 - c.args.self.now.taken in
+    let h = rw c.in-Ok-All.field-0-is at c.in-Ok-All.ensures in
+    let ran = subst (λ x. run 127 s x ≡ Ok (state_of c.run.new.self)) c.before-within.ensures h in
+    record {
+      ran = read_all bytes c.args.piece.now s (state_of c.run.new.self) room read.ran ran (omega arith);
+      sound = read.sound;
+      taken = omega (arith, length-append bytes c.args.piece.now);
+      few = omega (arith, length-append bytes c.args.piece.now);
+    }
+
+pub returns-clause-live : goal.returns-clause-live
+returns-clause-live c = λ bytes read.
+    let s = state_of c.args.self.now.machine in
+    let few = read.few in
+    let taken = read.taken in
+    let room = 33_554_432 - c.args.self.now.taken in
+    let h = rw c.in-Ok-All.field-0-is at c.in-Ok-All.ensures in
+    let ran = subst (λ x. run 127 s x ≡ Ok (state_of c.run.new.self)) c.before-within.ensures h in (
+      live_all (bytes ++ c.args.piece.now) (state_of c.run.new.self) (read_all bytes c.args.piece.now s (state_of c.run.new.self) room read.ran ran (omega arith)),
+      omega (arith, length-append bytes c.args.piece.now),
+    )

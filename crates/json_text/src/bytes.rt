@@ -1,0 +1,136 @@
+//! Single bytes of JSON text, and what they stand for.
+
+ghost use Rattle.std.specs.Prelude.{◌≡◌, ◌≤◌, ◌++◌, [], true, false, OnOk, IfOk, MatchOption, length, take, drop};
+ghost use Rattle.std.specs.Char as chars;
+ghost use Rattle.std.specs.Str.{is_utf8};
+ghost use Rattle.json_text.specs.Grammar as grammar;
+ghost use Rattle.json_text.specs.Machine as spec;
+ghost use Rattle.json_text.specs.Runs.{is_plain};
+
+use crate::state::Place;
+use sequences::Text;
+use std::alloc::{AllocError, Global};
+
+/// Whether the byte is white space.
+pub(crate) fn is_blank(byte: u8) -> bool
+    ensures { result ≡ grammar.is_blank byte }
+{
+    byte == b' ' || byte == b'\n' || byte == b'\r' || byte == b'\t'
+}
+
+/// Whether the byte is an ASCII character that stands for itself in a string.
+pub(crate) fn is_plain(byte: u8) -> bool
+    ensures { result ≡ is_plain byte }
+{
+    32 <= byte && byte < 128 && byte != b'"' && byte != b'\\'
+}
+
+/// The first bytes, up to so many.
+pub(crate) fn before(bytes: &[u8], count: usize) -> &[u8]
+    ensures { result.now ≡ take count bytes.now }
+{
+    if count < bytes.len() {
+        &bytes[..count]
+    } else {
+        bytes
+    }
+}
+
+/// The bytes behind so many.
+pub(crate) fn after(bytes: &[u8], count: usize) -> &[u8]
+    requires { count ≤ length bytes.now }
+    ensures { result.now ≡ drop count bytes.now }
+{
+    &bytes[count..]
+}
+
+/// The character that a backslash and this byte stand for.
+pub(crate) fn escaped(byte: u8) -> Option<u8>
+    ensures { result ≡ grammar.escaped byte }
+{
+    match byte {
+        b'"' | b'\\' | b'/' => Some(byte),
+        b'b' => Some(8),
+        b'f' => Some(12),
+        b'n' => Some(10),
+        b'r' => Some(13),
+        b't' => Some(9),
+        _ => None,
+    }
+}
+
+/// The value of a digit or a letter as a digit, from 10 for `a` and `A`; 36 for any other byte.
+pub(crate) fn digit_value(byte: u8) -> u8
+    ensures value { result ≡ chars.digit_value byte }
+    ensures small { result ≤ 36 }
+{
+    match byte {
+        b'0'..=b'9' => byte - b'0',
+        b'A'..=b'Z' => byte - b'A' + 10,
+        b'a'..=b'z' => byte - b'a' + 10,
+        _ => 36,
+    }
+}
+
+/// The ranges of the bytes behind the first byte of a character; none where no character of several bytes begins so.
+pub(crate) fn tails(byte: u8) -> &'static [(u8, u8)]
+    ensures { result.now ≡ spec.tails byte }
+{
+    match byte {
+        0xC2..=0xDF => &[(0x80, 0xBF)],
+        0xE0 => &[(0xA0, 0xBF), (0x80, 0xBF)],
+        0xED => &[(0x80, 0x9F), (0x80, 0xBF)],
+        0xE1..=0xEF => &[(0x80, 0xBF), (0x80, 0xBF)],
+        0xF0 => &[(0x90, 0xBF), (0x80, 0xBF), (0x80, 0xBF)],
+        0xF1..=0xF3 => &[(0x80, 0xBF), (0x80, 0xBF), (0x80, 0xBF)],
+        0xF4 => &[(0x80, 0x8F), (0x80, 0xBF), (0x80, 0xBF)],
+        _ => &[],
+    }
+}
+
+/// The place behind a further byte of a numeral; `None` where the numeral doesn't go on so.
+pub(crate) fn next_place(place: Place, byte: u8) -> Option<Place>
+    ensures { result ≡ spec.next_place place byte }
+{
+    let is_digit = byte.is_ascii_digit();
+    match place {
+        Place::Minus if byte == b'0' => Some(Place::Nought),
+        Place::Minus | Place::Whole if is_digit => Some(Place::Whole),
+        Place::Point | Place::Fraction if is_digit => Some(Place::Fraction),
+        Place::Exponent | Place::Sign | Place::Power if is_digit => Some(Place::Power),
+        Place::Nought | Place::Whole if byte == b'.' => Some(Place::Point),
+        Place::Nought | Place::Whole | Place::Fraction if byte == b'e' || byte == b'E' => Some(
+            Place::Exponent,
+        ),
+        Place::Exponent if byte == b'+' || byte == b'-' => Some(Place::Sign),
+        _ => None,
+    }
+}
+
+/// Whether a numeral may end there.
+pub(crate) fn ends(place: Place) -> bool
+    ensures { result ≡ spec.ends place }
+{
+    match place {
+        Place::Nought | Place::Whole | Place::Fraction | Place::Power => true,
+        Place::Minus | Place::Point | Place::Exponent | Place::Sign => false,
+    }
+}
+
+/// The bytes as a text, where they are UTF-8. An error comes where memory runs out.
+pub(crate) fn text_from(alloc: Global, bytes: &[u8]) -> Result<Option<Text>, AllocError>
+    ensures { IfOk result (λ made. MatchOption made (is_utf8 bytes.now ≡ false) (λ text. (text ≡ bytes.now) × (is_utf8 bytes.now ≡ true))) }
+{
+    match std::str::from_utf8(bytes) {
+        Ok(text) => Ok(Some(Text::of(alloc, text)?)),
+        Err(_) => Ok(None),
+    }
+}
+
+/// Adds the character in UTF-8. An error comes where memory runs out.
+pub(crate) fn push_char(text: &mut Vec<u8>, character: char) -> Result<(), AllocError>
+    ensures { OnOk result (text.new.items ≡ text.old.items ++ chars.encode_utf8 character) }
+{
+    let mut buffer = [0; 4];
+    text.extend_from_slice(character.encode_utf8(&mut buffer).as_bytes())
+}

@@ -1,0 +1,4 @@
+pub mod LatestLemmas
+pub mod MapLemmas
+pub mod PairLemmas
+pub mod TakeLemmas

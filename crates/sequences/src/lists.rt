@@ -1,0 +1,93 @@
+//! A list that contracts see as the list of its members.
+
+ghost use Rattle.std.specs.Prelude.{◌≡◌, ◌<◌, [], ◌∷◌, ◌++◌, length, OnOk, OnErr, Some, slice_get, slice_set};
+ghost use Rattle.std.specs.Borrow.{Lends, sem};
+ghost use Rattle.std.specs.Option.{option_copied};
+ghost use Rattle.sequences.specs.contracts.lists.Sequence.{the_row};
+
+use std::alloc::{AllocError, Global};
+use std::marker::Model;
+
+/// A list of values in order.
+#[derive(Debug, Drop)]
+pub struct Sequence<T> {
+    items: Vec<T>,
+}
+
+impl<T> Model for Sequence<T> {
+    ghost use Rattle.std.specs.Prelude.{List};
+    ghost use Rattle.std.specs.Coded.{coded_list};
+
+    ghost Value = { List T };
+
+    ghost coded = { coded_list T.code };
+
+    ghost view = { λ sequence. sequence.items.items };
+}
+
+impl<T> Sequence<T> {
+    /// The empty list. It takes no memory.
+    pub fn new(alloc: Global) -> Sequence<T>
+        ensures { result ≡ [] }
+    {
+        Sequence {
+            items: Vec::new(alloc),
+        }
+    }
+
+    /// The members of `list`, in the same memory.
+    pub fn of(list: Vec<T>) -> Sequence<T>
+        ensures { result ≡ list.items }
+    {
+        Sequence { items: list }
+    }
+
+    /// The members, in the same memory.
+    pub fn into_vec(self) -> Vec<T>
+        ensures { result.items ≡ self }
+    {
+        let Sequence { items } = self;
+        items
+    }
+
+    /// The members, in order.
+    pub fn as_slice(&self) -> &[T]
+        ensures { result.now ≡ self.now }
+    {
+        self.items.as_slice()
+    }
+
+    /// How many members there are.
+    pub fn len(&self) -> usize
+        ensures { result ≡ length self.now }
+    {
+        self.items.len()
+    }
+
+    /// The member at `index`, counted from 0; `None` exactly where that is past the end.
+    pub fn get(&self, index: usize) -> Option<&T>
+        ensures { option_copied result ≡ slice_get self.now index }
+    {
+        self.items.get(index)
+    }
+
+    /// The member at `index`, to be changed there.
+    pub fn at_mut(&mut self, index: usize) -> &mut T
+        requires { index < length self.old }
+        ensures* writes_back { sem 𝓛 (Lends (the_row T.row) T.row self.entry result (λ w. slice_set self.old index w)) }
+        ensures value { slice_get self.old index ≡ Some result.now }
+    {
+        &mut self.items[index]
+    }
+}
+
+impl<T: Drop> Sequence<T> {
+    /// Adds `item` at the end. An error comes where memory runs out, and the list is then as it was.
+    pub fn push(&mut self, item: T) -> Result<(), AllocError>
+        ensures added { OnOk result (self.new ≡ self.old ++ item ∷ []) }
+        ensures unchanged { OnErr result (self.new ≡ self.old) }
+    {
+        self.items.push(item)?;
+        Ok(())
+    }
+}
