@@ -2,11 +2,15 @@
 """Measures `otio convert --to edl` on a list of 999 events, beside the same on an empty list and beside /bin/true.
 
     bench/lists.py [RUNS]
+    bench/lists.py --large [RUNS]
 
 It prints medians of wall time in milliseconds and their ratios in one run, and, where strace is there, the calls that read
-the list and write the output.
+the list and write the output. With `--large` it measures the greatest legal lists, of 32 MiB, beside `wc -l` and `cat`, with
+peak memory: events in the order of the record, the same shuffled, and one event behind a long comment and behind many
+short ones. A list of so many events is read and judged, and then refused as one that has too many to be written.
 """
 import os
+import random
 import re
 import shutil
 import statistics
@@ -43,7 +47,65 @@ def median(words, folder, runs):
     return statistics.median(times) * 1000
 
 
+def event_lines(count, frames):
+    return [f'1 T V C {label(0)} {label(frames)} {label(frames * i)} {label(frames * (i + 1))}\n' for i in range(count)]
+
+
+def large_lists():
+    limit = 33_554_432
+    width = len(event_lines(1, 3)[0])
+    lines = event_lines(limit // width, 3)
+    yield 'events in order', ''.join(lines)
+    random.Random(7).shuffle(lines)
+    yield 'events shuffled', ''.join(lines)
+    event = event_lines(1, 3)[0]
+    yield 'one long comment', '*' * (limit - len(event) - 1) + '\n' + event
+    short = '* A COMMENT\n'
+    yield 'short comments', short * ((limit - len(event)) // len(short)) + event
+
+
+def timed(words, folder):
+    """Wall time in milliseconds, peak memory in megabytes, status."""
+    begun = time.perf_counter()
+    child = subprocess.Popen(words, cwd=folder, stdout=subprocess.DEVNULL, stderr=subprocess.DEVNULL)
+    _, status, usage = os.wait4(child.pid, 0)
+    child.returncode = os.waitstatus_to_exitcode(status)
+    return (time.perf_counter() - begun) * 1000, usage.ru_maxrss / 1000, child.returncode
+
+
+def write_large(folder):
+    """Writes the lists and prints the name of each, its bytes and its lines."""
+    for number, (name, text) in enumerate(large_lists()):
+        with open(os.path.join(folder, f'{number}.edl'), 'w') as f:
+            f.write(text)
+        print(f'{name}: {len(text) / 1e6:.1f} MB, {text.count(chr(10))} lines')
+
+
+def large(runs):
+    program = os.path.abspath(PROGRAM)
+    with tempfile.TemporaryDirectory() as folder:
+        # A process of its own, since what it holds would count as the peak memory of those that are started here.
+        written = subprocess.run([sys.executable, os.path.abspath(__file__), '--write', folder], stdout=subprocess.PIPE, text=True, check=True)
+        for number, title_line in enumerate(written.stdout.splitlines()):
+            print(title_line)
+            name = f'{number}.edl'
+            for title, words in [('otio', [program, 'convert', '--to', 'edl', name]), ('wc -l', ['wc', '-l', name]), ('cat', ['cat', name])]:
+                rows = [timed(words, folder) for _ in range(runs)]
+                ms = statistics.median(row[0] for row in rows)
+                print(f'  {title:6} {ms:9.1f} ms {max(row[1] for row in rows):8.1f} MB   status {rows[0][2]}')
+
+
 def main():
+    if sys.argv[1:2] == ['--write']:
+        write_large(sys.argv[2])
+    elif '--large' in sys.argv[1:]:
+        rest = [word for word in sys.argv[1:] if word != '--large']
+        large(int(rest[0]) if rest else 3)
+    else:
+        small()
+
+
+def small():
     runs = int(sys.argv[1]) if len(sys.argv) > 1 else 200
     program = os.path.abspath(PROGRAM)
     with tempfile.TemporaryDirectory() as folder:

@@ -1,8 +1,12 @@
-pub mod Event
-pub mod Simple
-pub mod Spelling
-pub mod Cuts
-pub mod Fielded
-pub mod Said
-pub mod Reading
-pub mod Readers
+-- What the lines of a list of events say together.
+pub mod Frames
+pub mod Past
+pub mod Sides
+pub mod Events
+pub mod Lines
+pub mod Late
+pub mod Lists
+pub mod Fresh
+pub mod Stands
+pub mod Reader
+pub mod Ends

@@ -1,174 +1,191 @@
-// The worked lists, and a refusal of each rule.
+//! Lists of a few lines, in pieces of several sizes.
 ghost use Rattle.std.specs.Prelude.{◌<◌};
 
-use crate::{Cut, CutFault, read_cuts, write_cuts};
-use dev_io::{MemOut, WriteFault};
-use smpte_tc::label24;
+use crate::{EdlFault, EdlReader};
+use edl_list::{Channel, Cross, Event, EventList, Reel};
 use std::alloc::Global;
 use std::test::Fail;
+use tick_time::{Decimal, Rate, is_numeral};
 
-const ONE: &[u8; 92] =
-    b"TITLE: ONE\nFCM: NON-DROP FRAME\n\n7 TAPE1 V C 01:00:00:00 01:00:02:00 00:00:10:00 00:00:12:00\n";
+/// The rate of a numeral.
+fn rate_of(numeral: &str) -> Result<Rate, Fail> {
+    if !is_numeral(numeral.as_bytes()) {
+        return Err("a numeral".into());
+    }
+    let decimal = Decimal::read(numeral.as_bytes()).ok().ok_or("a decimal")?;
+    let rate = Rate::of(&decimal).ok().ok_or("a rate")?;
+    Ok(rate)
+}
 
-const ONE_SPELLED: &[u8; 108] =
-    b"TITLE: ONE\nFCM: NON-DROP FRAME\n001  TAPE1    V     C        01:00:00:00 01:00:02:00 00:00:10:00 00:00:12:00\n";
-
-/// Lists that are read, and their spelling.
-const SPELLED: [(&str, &str); 7] = [
-    ("", "FCM: NON-DROP FRAME\n"),
-    ("TITLE: EMPTY", "TITLE: EMPTY\nFCM: NON-DROP FRAME\n"),
-    (
-        "\n\nTITLE:   two  words  \n",
-        "TITLE: two  words\nFCM: NON-DROP FRAME\n",
-    ),
-    ("TITLE:", "FCM: NON-DROP FRAME\n"),
-    (
-        "FCM: NON-DROP FRAME\nFCM: NON-DROP FRAME\nTITLE:x",
-        "TITLE: x\nFCM: NON-DROP FRAME\n",
-    ),
-    (
-        "12  A   V C 00:00:00:00 00:00:00:01   01:00:00:00 01:00:00:01",
-        "FCM: NON-DROP FRAME\n001  A        V     C        00:00:00:00 00:00:00:01 01:00:00:00 01:00:00:01\n",
-    ),
-    (
-        "000 !~345678 V C 23:59:59:22 23:59:59:23 00:00:00:00 00:00:00:01\n9 BL1 V C 00:00:00:00 00:00:01:00 00:00:00:01 00:00:01:01\n",
-        "FCM: NON-DROP FRAME\n001  !~345678 V     C        23:59:59:22 23:59:59:23 00:00:00:00 00:00:00:01\n002  BL1      V     C        00:00:00:00 00:00:01:00 00:00:00:01 00:00:01:01\n",
-    ),
-];
-
-/// Bytes that are no simple list, each for one reason.
-const REFUSED: [&str; 30] = [
-    "1 A V C 00:00:00:00 00:00:00:01 00:00:00:00 00:00:00:02",
-    "1 A V C 00:00:00:00 00:00:00:00 00:00:00:00 00:00:00:00",
-    "1 A V C 00:00:00:01 00:00:00:00 00:00:00:01 00:00:00:00",
-    "1 A V C 00:00:00:00 00:00:00:02 00:00:00:00 00:00:00:02\n2 A V C 00:00:00:00 00:00:00:01 00:00:00:01 00:00:00:02",
-    "1 BL V C 00:00:00:00 00:00:00:01 00:00:00:00 00:00:00:01",
-    "1 123456789 V C 00:00:00:00 00:00:00:01 00:00:00:00 00:00:00:01",
-    "1 A\x7f V C 00:00:00:00 00:00:00:01 00:00:00:00 00:00:00:01",
-    "TITLE: A\nTITLE: A",
-    "TITLE:\nTITLE:",
-    "TITLE: A\tB",
-    "TITLE: \u{e9}",
-    "TITLE: A\r\n",
-    "TITLE",
-    "title: A",
-    " TITLE: A",
-    "FCM: DROP FRAME",
-    "FCM: NON-DROP FRAME ",
-    " ",
-    "1\tA V C 00:00:00:00 00:00:00:01 00:00:00:00 00:00:00:01",
-    "1 A V C 00:00:00:00 00:00:00:01 00:00:00:00 00:00:00:01\r\n",
-    "1 A V C 00:00:00:00 00:00:00:01 00:00:00:00 00:00:00:01 ",
-    " 1 A V C 00:00:00:00 00:00:00:01 00:00:00:00 00:00:00:01",
-    "1000 A V C 00:00:00:00 00:00:00:01 00:00:00:00 00:00:00:01",
-    "a A V C 00:00:00:00 00:00:00:01 00:00:00:00 00:00:00:01",
-    "1 A A C 00:00:00:00 00:00:00:01 00:00:00:00 00:00:00:01",
-    "1 A V D 00:00:00:00 00:00:00:01 00:00:00:00 00:00:00:01",
-    "1 A V C 00:00:00:00 00:00:00:24 00:00:00:00 00:00:01:00",
-    "1 A V C 00:00:00;00 00:00:00:01 00:00:00:00 00:00:00:01",
-    "1 A V C 00:00:00:00 00:00:00:01 00:00:00:00",
-    "1 A V C 00:00:00:00 00:00:00:01 00:00:00:00 00:00:00:01 024",
-];
-
-// The spelling of a list, which is sent in pieces of so many bytes.
-fn spelled(alloc: Global, bytes: &[u8], piece: usize) -> Result<Vec<u8>, Fail>
-    requires { 0 < piece }
+/// The list of a text that comes in pieces of that size.
+fn read(alloc: Global, rate: Rate, text: &str, size: usize) -> Result<EventList, EdlFault>
+    requires { 0 < size }
 {
-    let list = read_cuts(alloc, bytes)?;
-    let mut out = MemOut::new(alloc, 4096)?;
-    out.piece(piece);
-    write_cuts(&list, &mut out)?;
-    Ok(Vec::from_slice(alloc, out.sent())?)
-}
-
-// The event lines of so many cuts of one frame each.
-fn one_frame_cuts(alloc: Global, count: u16) -> Result<Vec<u8>, Fail> {
-    let mut bytes = Vec::new(alloc);
-    for n in 0..count {
-        let frame = i64::from(n);
-        bytes.extend_from_slice(b"1 A V C 00:00:00:00 00:00:00:01 ")?;
-        bytes.extend_from_slice(&label24(frame))?;
-        bytes.push(b' ')?;
-        bytes.extend_from_slice(&label24(frame + 1))?;
-        bytes.push(b'\n')?;
+    let mut reader = EdlReader::new(alloc, rate);
+    for piece in text.as_bytes().chunks(size) {
+        match reader.feed(piece) {
+            Ok(()) => {}
+            Err(fault) => {
+                let again = reader.feed(piece);
+                return Err(again.err().unwrap_or(fault));
+            }
+        }
     }
-    Ok(bytes)
+    reader.finish()
+}
+
+/// The fault of a text, the same in pieces of each size.
+fn fault_of(alloc: Global, rate: Rate, text: &str) -> Option<EdlFault> {
+    let whole = read(alloc, rate, text, 4096).err();
+    for size in [1usize, 2, 7] {
+        if read(alloc, rate, text, size).err() != whole {
+            return Some(EdlFault::Memory);
+        }
+    }
+    whole
+}
+
+/// Whether the event has this line, these frames and this reel.
+fn is_event(event: &Event, line: u32, frames: [i64; 4], reel: &str) -> bool {
+    let named = match &event.to.reel {
+        Reel::Black => reel == "BL",
+        Reel::Named(name) => name.as_str() == reel,
+    };
+    let [src_in, src_out, rec_in, rec_out] = frames;
+    named
+        && event.line == line
+        && event.to.src_in == src_in
+        && event.to.src_out == src_out
+        && event.rec_in == rec_in
+        && event.rec_out == rec_out
 }
 
 #[test]
-fn the_worked_list_has_its_spelling(rt: HostRuntime) -> Result<(), Fail> {
-    let alloc = rt.alloc();
-    for piece in 1..20usize {
-        let one = spelled(alloc, ONE, piece)?;
-        assert_eq!(rt; one.as_slice(), ONE_SPELLED.as_slice());
-        let again = spelled(alloc, &one, piece)?;
-        assert_eq!(rt; again.as_slice(), ONE_SPELLED.as_slice());
+fn one_cut(rt: HostRuntime) -> Result<(), Fail> {
+    let text =
+        "TITLE: ONE\r\nFCM: NON-DROP FRAME\n\n7 TAPE1 V C 01:00:00:00 01:00:02:00 00:00:10:00 00:00:12:00";
+    for size in [1usize, 2, 7, 4096] {
+        let list = read(rt.alloc(), rate_of("24")?, text, size)?;
+        assert_eq!(rt; list.title.as_str(), "ONE");
+        assert!(rt; !list.drop);
+        assert_eq!(rt; list.events.len(), 1);
+        let event = list.events.get(0).ok_or("an event")?;
+        assert!(rt; is_event(event, 4, [86_400, 86_448, 240, 288], "TAPE1"));
+        assert!(rt; event.channel == Channel::V);
     }
     Ok(())
 }
 
 #[test]
-fn each_list_has_one_spelling(rt: HostRuntime) -> Result<(), Fail> {
-    let alloc = rt.alloc();
-    for (bytes, text) in SPELLED.iter() {
-        let found = spelled(alloc, bytes.as_bytes(), 4096)?;
-        assert_eq!(rt; found.as_slice(), text.as_bytes());
+fn no_event(rt: HostRuntime) -> Result<(), Fail> {
+    let list = read(rt.alloc(), rate_of("100")?, "TITLE: EMPTY", 7)?;
+    assert_eq!(rt; list.title.as_str(), "EMPTY");
+    assert_eq!(rt; list.events.len(), 0);
+    Ok(())
+}
+
+#[test]
+fn a_dissolve_of_one_reel(rt: HostRuntime) -> Result<(), Fail> {
+    let text = "1 A1 V C 00:00:01:00 00:00:02:00 00:00:00:00 00:00:01:00
+2 A1 V C 00:00:02:00 00:00:02:00 00:00:01:00 00:00:01:00
+2 A1 V D 012 00:00:05:00 00:00:05:00 00:00:01:00 00:00:02:00
+M2 A1 024.0 00:00:02:00
+M2 A1 000.0 00:00:05:00
+* FROM CLIP NAME: one
+* TO CLIP NAME: two
+";
+    for size in [1usize, 2, 7, 4096] {
+        let list = read(rt.alloc(), rate_of("24")?, text, size)?;
+        assert_eq!(rt; list.events.len(), 2);
+        let first = list.events.get(0).ok_or("an event")?;
+        assert!(rt; is_event(first, 1, [24, 48, 0, 24], "A1"));
+        let second = list.events.get(1).ok_or("an event")?;
+        assert!(rt; is_event(second, 3, [120, 120, 24, 48], "A1"));
+        assert!(rt; second.to.speed == Some(0));
+        match &second.cross {
+            Cross::Dissolve { frames, from } => {
+                assert_eq!(rt; *frames, 12);
+                assert!(rt; from.speed == Some(240));
+                assert!(rt; from.src_in == 48 && from.src_out == 48);
+                let name = from.name.as_ref().ok_or("a name")?;
+                assert_eq!(rt; name.as_str(), "one");
+            }
+            _ => return Err("a dissolve".into()),
+        }
+        let name = second.to.name.as_ref().ok_or("a name")?;
+        assert_eq!(rt; name.as_str(), "two");
     }
     Ok(())
 }
 
 #[test]
-fn cuts_are_frames_of_the_day(rt: HostRuntime) -> Result<(), Fail> {
-    let list = read_cuts(rt.alloc(), ONE)?;
-    assert_eq!(rt; list.title(), b"ONE".as_slice());
-    assert_eq!(rt; list.cuts().len(), 1);
-    let cut: Cut = list.cuts()[0];
-    assert_eq!(rt; cut.reel.as_str(), "TAPE1");
-    assert_eq!(rt; (cut.src_in, cut.src_out), (86_400, 86_448));
-    assert_eq!(rt; (cut.rec_in, cut.rec_out), (240, 288));
+fn three_channels_and_an_earlier_line(rt: HostRuntime) -> Result<(), Fail> {
+    let text = "1 T1 AA/V C 00:00:00:00 00:00:01:00 00:00:01:00 00:00:02:00
+2 T2 A2 C 00:00:00:00 00:00:01:00 00:00:00:00 00:00:01:00";
+    let list = read(rt.alloc(), rate_of("24")?, text, 7)?;
+    assert_eq!(rt; list.events.len(), 4);
+    let first = list.events.get(0).ok_or("an event")?;
+    assert!(rt; is_event(first, 2, [0, 24, 0, 24], "T2"));
+    let last = list.events.get(3).ok_or("an event")?;
+    assert!(rt; is_event(last, 1, [0, 24, 24, 48], "T1"));
+    assert!(rt; last.channel == Channel::A2);
     Ok(())
 }
 
 #[test]
-fn other_bytes_are_refused(rt: HostRuntime) {
-    for bytes in REFUSED.iter() {
-        assert_eq!(rt;
-            read_cuts(rt.alloc(), bytes.as_bytes()).err(),
-            Some(CutFault::NotYet)
-        );
+fn drop_frame(rt: HostRuntime) -> Result<(), Fail> {
+    let text = "FCM: DROP FRAME\n1 T1 V C 00:00:00:00 00:00:00:10 01:00:00:00 01:00:00:10\n";
+    let list = read(rt.alloc(), rate_of("29.97")?, text, 2)?;
+    assert!(rt; list.drop);
+    let event = list.events.get(0).ok_or("an event")?;
+    assert!(rt; is_event(event, 2, [0, 10, 107_892, 107_902], "T1"));
+    assert!(rt; fault_of(rt.alloc(), rate_of("100")?, text) == Some(EdlFault::Timecode(2)));
+    Ok(())
+}
+
+#[test]
+fn faults(rt: HostRuntime) -> Result<(), Fail> {
+    let rate = rate_of("24")?;
+    let table = [
+        (
+            "1 T1 V C 00:00:00:00 00:00:01:00 00:00:00:00 00:00:02:00",
+            EdlFault::Unequal(1),
+        ),
+        (
+            "\n1 T1 V K 00:00:00:00 00:00:01:00 00:00:00:00 00:00:01:00\n+",
+            EdlFault::Key(2),
+        ),
+        ("AUD 3\n+", EdlFault::Split(1)),
+        ("* a note\n+\nAUD", EdlFault::Form(2)),
+        ("* FROM CLIP NAME: x", EdlFault::Form(1)),
+        ("1 T1 V D 010 0 0 0 0", EdlFault::Form(1)),
+        (
+            "1 T1 V C 00:00:00:00 00:00:01:00 00:00:00:00 00:00:01:00\nM2 T2 -10.0 x",
+            EdlFault::Form(2),
+        ),
+        (
+            "1 T1 V C 00:00:00:00 00:00:01:00 00:00:00:00 00:00:01:00\nM2 T1 -10.0 x",
+            EdlFault::Timecode(2),
+        ),
+        (
+            "1 T1 V C 00:00:00:00 00:00:01:00 00:00:00:00 00:00:01:00\nM2 T1 -10.0 00:00:00:00",
+            EdlFault::Reverse(2),
+        ),
+        (
+            "1 T1 V C 00:00:01:00 00:00:00:00 00:00:00:00 00:00:01:00",
+            EdlFault::Order(1),
+        ),
+        (
+            "1 T1 V C 00:00:00:00 00:00:01:00 00:00:00:00 00:00:01:00\n1 T1 V D 024 00:00:00:00 00:00:01:00 00:00:01:01 00:00:02:01",
+            EdlFault::Order(2),
+        ),
+        (
+            "1 T1 V C 00:00:00:00 00:00:01:00 00:00:00:00 00:00:01:00\n2 T1 B C 00:00:00:00 00:00:01:00 00:00:00:23 00:00:01:23",
+            EdlFault::Overlap(2),
+        ),
+    ];
+    for (text, fault) in table {
+        assert!(rt; fault_of(rt.alloc(), rate, text) == Some(fault), "{text}");
     }
-}
-
-#[test]
-fn there_are_at_most_999_events(rt: HostRuntime) -> Result<(), Fail> {
-    let alloc = rt.alloc();
-    let most = one_frame_cuts(alloc, 999)?;
-    let list = read_cuts(alloc, &most)?;
-    assert_eq!(rt; list.cuts().len(), 999);
-    let more = one_frame_cuts(alloc, 1000)?;
-    assert_eq!(rt; read_cuts(alloc, &more).err(), Some(CutFault::NotYet));
-    Ok(())
-}
-
-#[test]
-fn there_are_at_most_33554432_bytes(rt: HostRuntime) -> Result<(), Fail> {
-    let alloc = rt.alloc();
-    let mut bytes = Vec::from_slice(alloc, b"TITLE:")?;
-    bytes.resize(33_554_432, b'T')?;
-    assert_eq!(rt; read_cuts(alloc, &bytes)?.title().len(), 33_554_426);
-    bytes.push(b'T')?;
-    assert_eq!(rt; read_cuts(alloc, &bytes).err(), Some(CutFault::NotYet));
-    Ok(())
-}
-
-#[test]
-fn a_failed_write_leaves_a_prefix(rt: HostRuntime) -> Result<(), Fail> {
-    let alloc = rt.alloc();
-    let list = read_cuts(alloc, ONE)?;
-    let mut out = MemOut::new(alloc, 4096)?;
-    out.piece(16);
-    out.fail_on(3)?;
-    assert_eq!(rt; write_cuts(&list, &mut out), Err(WriteFault::Sink));
-    assert_eq!(rt; out.sent(), &ONE_SPELLED[..32]);
     Ok(())
 }

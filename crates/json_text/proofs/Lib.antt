@@ -14,3 +14,4 @@ pub mod RunLemmas
 pub mod Named
 pub mod Skims
 pub mod Once
+pub mod Ascii

@@ -1,16 +1,20 @@
 -- Steps at one byte list after another.
-use Rattle.std.proofs.Common.{◌≡◌, ℕ, ◌+◌, ◌<◌, ◌≤◌, List, [], ◌∷◌, ◌++◌, take, length, get_or, refl, sym, ap, ◌∙◌, append_assoc, append-nil, arith, subst, Ok, Err, Result}
+use Rattle.std.proofs.Common.{◌≡◌, ℕ, ◌+◌, ◌<◌, ◌≤◌, List, [], ◌∷◌, ◌++◌, take, length, get_or, refl, sym, ap, ◌∙◌, append_assoc, append-nil, arith, subst, Ok, Err, Result, Some}
 use Rattle.std.proofs.lemmas.Bool.Decides.{nat_tests}
 use Rattle.std.proofs.lemmas.List.{take_more, take_all}
 use lib.Seq.{take-add}
 use Rattle.std.specs.Prelude.{◌==◌, nat_lt, true, false, drop}
 use Rattle.json_text.specs.Grammar.{is_blank, AreBlank}
 use Rattle.json_text.specs.Runs.{is_plain, ArePlain}
+use Rattle.json_text.specs.Numeral.{AreDigits}
+use Rattle.std.specs.Char.{is_ascii_digit}
+use Rattle.json_text.specs.declared.state.Place.{Place}
+use Rattle.json_text.specs.declared.state.Place.TheVariants.{Whole, Fraction}
 use Rattle.json_text.specs.declared.state.Role.{Role}
 use Rattle.json_text.specs.declared.state.Level.{Level}
 use Rattle.json_text.proofs.Steps.{begin_blank, at_blank}
 use Rattle.json_text.specs.declared.state.Stop.{Stop}
-use Rattle.json_text.specs.Machine.{State, state, value, next_name, text, plain, name_next, run, run_on, step}
+use Rattle.json_text.specs.Machine.{State, state, value, next_name, number, text, plain, name_next, next_place, number_goes, run, run_on, step}
 
 pub run_on-append : (limit : ℕ) (r : Result State Stop) (xs ys : List ℕ) → run_on limit r (xs ++ ys) ≡ run_on limit (run_on limit r xs) ys
 run_on-append limit (Err stop) xs ys = refl
@@ -64,6 +68,24 @@ run_plain limit levels role t (b ∷ bytes) h =
     ap (λ r. run_on limit r bytes) (plain_step limit levels role t b h.0) ∙ run_plain limit levels role (t ++ (b ∷ [])) bytes h.1
     ∙ ap (λ x. Ok (state levels (text role x plain))) (append_assoc t (b ∷ []) bytes)
 
+-- a numeral goes on with digits from that place, and stays there
+abbrev pub GoesOn : Place → Type 0
+GoesOn place = (b : ℕ) → is_ascii_digit b ≡ true → next_place place b ≡ Some place
+
+pub whole_goes_on : GoesOn Whole
+whole_goes_on b h = rw h refl
+
+pub fraction_goes_on : GoesOn Fraction
+fraction_goes_on b h = rw h refl
+
+-- digits of a numeral
+pub run_digits : (limit : ℕ) (levels : List Level) (place : Place) → GoesOn place → (t bytes : List ℕ) → AreDigits bytes
+    → run limit (state levels (number t place)) bytes ≡ Ok (state levels (number (t ++ bytes) place))
+run_digits limit levels place on t [] h = ap (λ x. Ok (state levels (number x place))) (sym (append-nil t))
+run_digits limit levels place on t (b ∷ bytes) h =
+    ap (λ r. run_on limit (number_goes levels t place b r) bytes) (on b h.0) ∙ run_digits limit levels place on (t ++ (b ∷ [])) bytes h.1
+    ∙ ap (λ x. Ok (state levels (number x place))) (append_assoc t (b ∷ []) bytes)
+
 -- the first bytes that pass a test
 pub more_plain : (bytes : List ℕ) (i : ℕ) → i < length bytes → ArePlain (take i bytes) → is_plain (get_or bytes i 0) ≡ true → ArePlain (take (i + 1) bytes)
 more_plain bytes i h f e = subst ArePlain (sym (take_more bytes i 0 h)) (joined (take i bytes) (get_or bytes i 0) f e)
@@ -76,5 +98,12 @@ pub more_blank : (bytes : List ℕ) (i : ℕ) → i < length bytes → AreBlank 
 more_blank bytes i h f e = subst AreBlank (sym (take_more bytes i 0 h)) (joined (take i bytes) (get_or bytes i 0) f e)
   where
     joined : (xs : List ℕ) (b : ℕ) → AreBlank xs → is_blank b ≡ true → AreBlank (xs ++ (b ∷ []))
+    joined [] b f e = (e, tt)
+    joined (x ∷ xs) b f e = (f.0, joined xs b f.1 e)
+
+pub more_digits : (bytes : List ℕ) (i : ℕ) → i < length bytes → AreDigits (take i bytes) → is_ascii_digit (get_or bytes i 0) ≡ true → AreDigits (take (i + 1) bytes)
+more_digits bytes i h f e = subst AreDigits (sym (take_more bytes i 0 h)) (joined (take i bytes) (get_or bytes i 0) f e)
+  where
+    joined : (xs : List ℕ) (b : ℕ) → AreDigits xs → is_ascii_digit b ≡ true → AreDigits (xs ++ (b ∷ []))
     joined [] b f e = (e, tt)
     joined (x ∷ xs) b f e = (f.0, joined xs b f.1 e)

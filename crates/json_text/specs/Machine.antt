@@ -69,11 +69,15 @@ state levels hand = record { levels = levels; hand = hand }
 abbrev pub start : State
 start = state [] value
 
+-- a value added to a list, or to an object under the name at hand
+abbrev pub added : Level → Json → Level
+added (LevelOfList xs) v = LevelOfList (xs ++ (v ∷ []))
+added (LevelOfMap ps name) v = LevelOfMap (ps ++ ((name, v) ∷ [])) []
+
 -- the state behind a value
 abbrev pub placed : List Level → Json → State
 placed [] v = state [] (done v)
-placed (LevelOfList xs ∷ ls) v = state (LevelOfList (xs ++ (v ∷ [])) ∷ ls) behind
-placed (LevelOfMap ps name ∷ ls) v = state (LevelOfMap (ps ++ ((name, v) ∷ [])) [] ∷ ls) behind
+placed (l ∷ ls) v = state (added l v ∷ ls) behind
 
 -- the ranges of the bytes behind the first byte of a character; none where no character of several bytes begins so
 abbrev pub tails : ℕ → List (ℕ × ℕ)
@@ -136,6 +140,16 @@ behind_in (LevelOfMap ps name ∷ ls) b = if b == 44 then Ok (state (LevelOfMap 
     else if b == 125 then Ok (placed ls (JsonOfMap (merged ps)))
     else if is_blank b then Ok (state (LevelOfMap ps name ∷ ls) behind)
     else Err Syntax
+
+-- the value of a list or an object that ends
+abbrev pub whole : Level → Json
+whole (LevelOfList xs) = JsonOfList xs
+whole (LevelOfMap ps name) = JsonOfMap (merged ps)
+
+-- the innermost list or object ends
+abbrev pub closed : List Level → Result State Stop
+closed [] = Err Syntax
+closed (l ∷ ls) = Ok (placed ls (whole l))
 
 -- behind the whole value
 abbrev pub at_end : List Level → Json → ℕ → Result State Stop
@@ -221,6 +235,12 @@ number_goes levels t place b None = number_ends levels t place b
 -- a byte in or behind a numeral
 abbrev pub in_number : List Level → List ℕ → Place → ℕ → Result State Stop
 in_number levels t place b = number_goes levels t place b (next_place place b)
+
+-- the innermost object has a name at hand
+abbrev pub named : List Level → List ℕ → Result State Stop
+named [] t = Err Syntax
+named (LevelOfList xs ∷ ls) t = Err Syntax
+named (LevelOfMap ps name ∷ ls) t = Ok (state (LevelOfMap ps t ∷ ls) colon)
 
 -- a string ends
 abbrev pub text_ends : List Level → Role → List ℕ → Result State Stop

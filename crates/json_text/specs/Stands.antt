@@ -1,5 +1,5 @@
 -- The state of the machine that a reader's fields stand for.
-use Rattle.std.specs.Prelude.{◌≡◌, ℕ, ◌≤◌, List, ◌++◌, length, take, true, false, reverse, Result, Ok, Err}
+use Rattle.std.specs.Prelude.{◌≡◌, ℕ, ◌≤◌, List, [], ◌∷◌, ◌++◌, length, take, true, false, reverse, Option, Some, None, Result, Ok, Err}
 use Rattle.json_value.specs.declared.Json.{Json}
 use Rattle.json_value.specs.declared.Json.TheVariants.{Null as JsonNull, Bool as JsonOfBool}
 use Rattle.json_text.specs.declared.machine.Machine.{Machine}
@@ -14,7 +14,6 @@ use Rattle.json_text.specs.declared.state.Taken.{Taken}
 use Rattle.json_text.specs.declared.state.Taken.TheVariants.{Goes, Stops}
 use Rattle.json_text.specs.declared.state.Stop.{Stop}
 use Rattle.json_text.specs.Machine as spec
-use Rattle.json_text.specs.Runs.{ArePlain}
 
 -- the value that a word stands for
 abbrev pub value_of : Word → Json
@@ -45,9 +44,14 @@ hand_of (HandOfWord word left) text root = spec.word (value_of word) left.now
 hand_of (Number place) text root = spec.number text place
 hand_of (Text role part) text root = spec.text role text (part_of part)
 
+-- the innermost open list or object, if there is one, before those around it
+abbrev pub open_in : Option Level → List Level → List Level
+open_in None outer = []
+open_in (Some inner) outer = inner ∷ outer
+
 -- the open lists and objects, innermost first
 abbrev pub levels_of : Machine → List Level
-levels_of m = reverse m.levels.items
+levels_of m = open_in m.inner (reverse m.outer.items)
 
 -- the whole state
 abbrev pub state_of : Machine → spec.State
@@ -58,11 +62,11 @@ abbrev pub IsTaken : Taken → Result spec.State Stop → spec.State → Type 0
 IsTaken Goes step new = step ≡ Ok new
 IsTaken (Stops stop) step new = step ≡ Err stop
 
--- The text at hand has so many bytes more, which stand for themselves, and all else is as it was.
+-- The text at hand has so many bytes more, and all else is as it was.
 pub record AddsText (count : ℕ) (bytes : List ℕ) (old new : Machine) : Type 0 where
   pub within : count ≤ length bytes
-  pub plain : ArePlain (take count bytes)
   pub text : new.text.items ≡ old.text.items ++ take count bytes
   pub hand : new.hand ≡ old.hand
-  pub levels : new.levels ≡ old.levels
+  pub inner : new.inner ≡ old.inner
+  pub outer : new.outer ≡ old.outer
   pub root : new.root ≡ old.root

@@ -1,8 +1,8 @@
 //! Single bytes of JSON text, and what they stand for.
 
-ghost use Rattle.std.specs.Prelude.{◌≡◌, ◌≤◌, ◌++◌, [], true, false, OnOk, IfOk, MatchOption, length, take, drop};
+ghost use Rattle.std.specs.Prelude.{◌≡◌, ◌≤◌, ◌++◌, [], true, false, OnOk, IfOk, MatchOption, IsTrue, length, take, drop};
 ghost use Rattle.std.specs.Char as chars;
-ghost use Rattle.std.specs.Str.{is_utf8};
+ghost use Rattle.std.specs.Str.{is_utf8, IsAscii};
 ghost use Rattle.json_text.specs.Grammar as grammar;
 ghost use Rattle.json_text.specs.Machine as spec;
 ghost use Rattle.json_text.specs.Runs.{is_plain};
@@ -117,10 +117,33 @@ pub(crate) fn ends(place: Place) -> bool
     }
 }
 
+/// Whether the bytes are ASCII characters, by the largest of them.
+fn is_ascii(bytes: &[u8]) -> bool
+    ensures { IsTrue result → IsAscii bytes.now }
+{
+    let mut largest = 0;
+    for byte in bytes {
+        largest = larger(largest, *byte);
+    }
+    largest < 128
+}
+
+/// The larger of two bytes.
+fn larger(one: u8, other: u8) -> u8
+    ensures one { one ≤ result }
+    ensures other { other ≤ result }
+{
+    if one < other { other } else { one }
+}
+
 /// The bytes as a text, where they are UTF-8. An error comes where memory runs out.
 pub(crate) fn text_from(alloc: Global, bytes: &[u8]) -> Result<Option<Text>, AllocError>
     ensures { IfOk result (λ made. MatchOption made (is_utf8 bytes.now ≡ false) (λ text. (text ≡ bytes.now) × (is_utf8 bytes.now ≡ true))) }
 {
+    if is_ascii(bytes) {
+        let text = unsafe { std::str::from_utf8_unchecked(bytes) };
+        return Ok(Some(Text::of(alloc, text)?));
+    }
     match std::str::from_utf8(bytes) {
         Ok(text) => Ok(Some(Text::of(alloc, text)?)),
         Err(_) => Ok(None),

@@ -1,14 +1,14 @@
 //! The steps of the machine that reads JSON text, but for those inside a string.
 
-ghost use Rattle.std.specs.Prelude.{◌≡◌, ◌++◌, ◌∷◌, [], List, ℕ, IfOk, OnOk, Some, None};
+ghost use Rattle.std.specs.Prelude.{◌≡◌, ◌++◌, ◌∷◌, [], List, ℕ, IfOk, OnOk, Some, None, length};
 ghost use Rattle.json_text.specs.Machine as spec;
-ghost use Rattle.sequences.specs.Pairs.{merged};
 
 use crate::bytes::{ends, is_blank, next_place, text_from};
 use crate::state::{Hand, Level, Part, Place, Role, Stop, Taken, Word};
 use json_value::{Json, JsonList, Members};
 use sequences::{Sequence, Text};
 use std::alloc::{AllocError, Global};
+use std::mem;
 
 /// How many lists and objects may stand in one another.
 pub(crate) const LEVELS: usize = 127;
@@ -17,7 +17,14 @@ pub(crate) const LEVELS: usize = 127;
 #[derive(Drop)]
 pub(crate) struct Machine {
     pub(crate) alloc: Global,
-    pub(crate) levels: Vec<Level>,
+    /// The innermost open list or object.
+    pub(crate) inner: Option<Level>,
+    /// Those around it, outermost first.
+    pub(crate) outer: Vec<Level>,
+    /// Empty lists, whose memory serves the next list.
+    pub(crate) lists: Vec<JsonList>,
+    /// Empty lists of pairs, whose memory serves the next object.
+    pub(crate) maps: Vec<Sequence<(Text, Json)>>,
     pub(crate) hand: Hand,
     pub(crate) text: Vec<u8>,
     pub(crate) root: Json,
@@ -32,7 +39,10 @@ impl Machine {
     {
         Machine {
             alloc,
-            levels: Vec::new(alloc),
+            inner: None,
+            outer: Vec::new(alloc),
+            lists: Vec::new(alloc),
+            maps: Vec::new(alloc),
             hand: Hand::Value,
             text: Vec::new(alloc),
             root: Json::Null,
@@ -61,43 +71,57 @@ impl Machine {
     pub(crate) fn place(&mut self, value: Json) -> Result<(), AllocError>
         ensures { OnOk result (state_of self.new ≡ spec.placed (levels_of self.old) value) }
     {
-        let Some(level) = self.levels.pop() else {
-            self.root = value;
-            self.hand = Hand::Done;
-            return Ok(());
-        };
-        match level {
-            Level::List(mut items) => {
-                items.push(value)?;
-                self.levels.push(Level::List(items))?;
+        let none = no_name(self.alloc);
+        match &mut self.inner {
+            None => {
+                self.root = value;
+                self.hand = Hand::Done;
+                return Ok(());
             }
-            Level::Map(mut pairs, name) => {
-                pairs.push((name, value))?;
-                let none = no_name(self.alloc);
-                self.levels.push(Level::Map(pairs, none))?;
-            }
+            Some(level) => add(level, value, none)?,
         }
         self.hand = Hand::Behind;
         Ok(())
-    }
-
-    /// Puts a list or an object back that goes on.
-    fn keep(&mut self, level: Level, hand: Hand) -> Result<Taken, AllocError>
-        ensures { IfOk result (λ taken. IsTaken taken (Ok (spec.state (level ∷ levels_of self.old) (hand_of hand self.old.text.items self.old.root))) (state_of self.new)) }
-    {
-        self.levels.push(level)?;
-        self.hand = hand;
-        Ok(Taken::Goes)
     }
 
     /// Opens a list or an object.
     fn open(&mut self, level: Level, hand: Hand) -> Result<Taken, AllocError>
         ensures { IfOk result (λ taken. IsTaken taken (spec.opened 127 (levels_of self.old) level (hand_of hand self.old.text.items self.old.root)) (state_of self.new)) }
     {
-        if self.levels.len() >= LEVELS {
+        if self.depth() >= LEVELS {
             return Ok(Taken::Stops(Stop::Depth));
         }
-        self.keep(level, hand)
+        match self.inner.replace(level) {
+            Some(around) => self.outer.push(around)?,
+            None => self.outer.clear(),
+        }
+        Ok(self.goes(hand))
+    }
+
+    /// Opens a list.
+    fn open_list(&mut self) -> Result<Taken, AllocError>
+        ensures { IfOk result (λ taken. IsTaken taken (spec.opened 127 (levels_of self.old) (Level.List []) spec.first_item) (state_of self.new)) }
+    {
+        let items = empty(self.alloc, self.lists.pop());
+        self.open(Level::List(items), Hand::FirstItem)
+    }
+
+    /// Opens an object.
+    fn open_map(&mut self) -> Result<Taken, AllocError>
+        ensures { IfOk result (λ taken. IsTaken taken (spec.opened 127 (levels_of self.old) (Level.Map [] []) spec.first_name) (state_of self.new)) }
+    {
+        let pairs = empty(self.alloc, self.maps.pop());
+        self.open(Level::Map(pairs, no_name(self.alloc)), Hand::FirstName)
+    }
+
+    /// How many lists and objects are open.
+    fn depth(&self) -> usize
+        ensures { result ≡ length (levels_of self.now) }
+    {
+        match self.inner {
+            Some(_) => self.outer.len() + 1,
+            None => 0,
+        }
     }
 
     /// Takes the start of a value; at white space the hand becomes `stay`.
@@ -106,11 +130,8 @@ impl Machine {
     {
         match byte {
             b'"' => Ok(self.begin_text(Role::Content)),
-            b'[' => self.open(Level::List(Sequence::new(self.alloc)), Hand::FirstItem),
-            b'{' => self.open(
-                Level::Map(Sequence::new(self.alloc), no_name(self.alloc)),
-                Hand::FirstName,
-            ),
+            b'[' => self.open_list(),
+            b'{' => self.open_map(),
             b'n' => Ok(self.goes(Hand::Word(Word::Null, b"ull"))),
             b't' => Ok(self.goes(Hand::Word(Word::True, b"rue"))),
             b'f' => Ok(self.goes(Hand::Word(Word::False, b"alse"))),
@@ -161,55 +182,61 @@ impl Machine {
     fn first_item(&mut self, byte: u8) -> Result<Taken, AllocError>
         ensures { IfOk result (λ taken. IsTaken taken (spec.item_first 127 (levels_of self.old) byte) (state_of self.new)) }
     {
-        let Some(level) = self.levels.pop() else {
-            return Ok(Taken::Stops(Stop::Syntax));
-        };
-        match level {
-            Level::Map(_, _) => Ok(Taken::Stops(Stop::Syntax)),
-            Level::List(items) => {
-                if byte == b']' {
-                    self.close_list(items)
-                } else {
-                    self.levels.push(Level::List(items))?;
-                    self.begin(Hand::FirstItem, byte)
-                }
-            }
+        match self.inner {
+            Some(Level::List(_)) => {}
+            _ => return Ok(Taken::Stops(Stop::Syntax)),
+        }
+        if byte == b']' {
+            self.close()
+        } else {
+            self.begin(Hand::FirstItem, byte)
         }
     }
 
-    /// Ends a list.
-    fn close_list(&mut self, items: JsonList) -> Result<Taken, AllocError>
-        ensures { IfOk result (λ taken. IsTaken taken (Ok (spec.placed (levels_of self.old) (Json.List items))) (state_of self.new)) }
+    /// Ends the innermost list or object.
+    fn close(&mut self) -> Result<Taken, AllocError>
+        ensures { IfOk result (λ taken. IsTaken taken (spec.closed (levels_of self.old)) (state_of self.new)) }
     {
-        self.place(Json::List(items))?;
+        let Some(level) = self.inner.take() else {
+            return Ok(Taken::Stops(Stop::Syntax));
+        };
+        self.inner = self.outer.pop();
+        let value = self.whole(level)?;
+        self.place(value)?;
         Ok(Taken::Goes)
     }
 
-    /// Ends an object.
-    fn close_map(&mut self, pairs: Sequence<(Text, Json)>) -> Result<Taken, AllocError>
-        ensures { IfOk result (λ taken. IsTaken taken (Ok (spec.placed (levels_of self.old) (Json.Map (merged pairs)))) (state_of self.new)) }
+    /// The value of a list or an object that ends. Its memory serves again where the value takes memory of its own.
+    fn whole(&mut self, level: Level) -> Result<Json, AllocError>
+        ensures value { IfOk result (λ value. value ≡ spec.whole level) }
+        ensures levels { levels_of self.new ≡ levels_of self.old }
     {
-        self.place(Json::Map(Members::of_pairs(self.alloc, pairs.into_vec())?))?;
-        Ok(Taken::Goes)
+        match level {
+            Level::List(mut items) => {
+                let list = items.take_fitted(self.alloc)?;
+                self.lists.push(items)?;
+                Ok(Json::List(Sequence::of(list)))
+            }
+            Level::Map(mut pairs, _name) => {
+                let list = pairs.take_fitted(self.alloc)?;
+                self.maps.push(pairs)?;
+                Ok(Json::Map(Members::of_pairs(self.alloc, list)?))
+            }
+        }
     }
 
     /// Takes the byte behind the brace of an object.
     fn first_name(&mut self, byte: u8) -> Result<Taken, AllocError>
         ensures { IfOk result (λ taken. IsTaken taken (spec.name_first (levels_of self.old) byte) (state_of self.new)) }
     {
-        let Some(level) = self.levels.pop() else {
-            return Ok(Taken::Stops(Stop::Syntax));
-        };
-        match level {
-            Level::List(_) => Ok(Taken::Stops(Stop::Syntax)),
-            Level::Map(pairs, name) => {
-                if byte == b'}' {
-                    self.close_map(pairs)
-                } else {
-                    self.levels.push(Level::Map(pairs, name))?;
-                    Ok(self.name(Hand::FirstName, byte))
-                }
-            }
+        match self.inner {
+            Some(Level::Map(_, _)) => {}
+            _ => return Ok(Taken::Stops(Stop::Syntax)),
+        }
+        if byte == b'}' {
+            self.close()
+        } else {
+            Ok(self.name(Hand::FirstName, byte))
         }
     }
 
@@ -246,47 +273,17 @@ impl Machine {
     fn behind(&mut self, byte: u8) -> Result<Taken, AllocError>
         ensures { IfOk result (λ taken. IsTaken taken (spec.behind_in (levels_of self.old) byte) (state_of self.new)) }
     {
-        let Some(level) = self.levels.pop() else {
-            return Ok(Taken::Stops(Stop::Syntax));
+        let (next, end) = match self.inner {
+            None => return Ok(Taken::Stops(Stop::Syntax)),
+            Some(Level::List(_)) => (Hand::Value, b']'),
+            Some(Level::Map(_, _)) => (Hand::NextName, b'}'),
         };
-        match level {
-            Level::List(items) => self.behind_item(items, byte),
-            Level::Map(pairs, name) => self.behind_pair(pairs, name, byte),
-        }
-    }
-
-    /// Takes the byte behind a value of a list.
-    fn behind_item(&mut self, items: JsonList, byte: u8) -> Result<Taken, AllocError>
-        ensures { IfOk result (λ taken. IsTaken taken (spec.behind_in (Level.List items ∷ levels_of self.old) byte) (state_of self.new)) }
-    {
         if byte == b',' {
-            self.keep(Level::List(items), Hand::Value)
-        } else if byte == b']' {
-            self.close_list(items)
-        } else if is_blank(byte) {
-            self.keep(Level::List(items), Hand::Behind)
+            Ok(self.goes(next))
+        } else if byte == end {
+            self.close()
         } else {
-            Ok(Taken::Stops(Stop::Syntax))
-        }
-    }
-
-    /// Takes the byte behind a value of an object.
-    fn behind_pair(
-        &mut self,
-        pairs: Sequence<(Text, Json)>,
-        name: Text,
-        byte: u8,
-    ) -> Result<Taken, AllocError>
-        ensures { IfOk result (λ taken. IsTaken taken (spec.behind_in (Level.Map pairs name ∷ levels_of self.old) byte) (state_of self.new)) }
-    {
-        if byte == b',' {
-            self.keep(Level::Map(pairs, name), Hand::NextName)
-        } else if byte == b'}' {
-            self.close_map(pairs)
-        } else if is_blank(byte) {
-            self.keep(Level::Map(pairs, name), Hand::Behind)
-        } else {
-            Ok(Taken::Stops(Stop::Syntax))
+            Ok(self.skip(Hand::Behind, byte))
         }
     }
 
@@ -294,10 +291,9 @@ impl Machine {
     fn done(&mut self, byte: u8) -> Taken
         ensures { IsTaken result (spec.at_end (levels_of self.old) self.old.root byte) (state_of self.new) }
     {
-        if self.levels.is_empty() {
-            self.skip(Hand::Done, byte)
-        } else {
-            Taken::Stops(Stop::Syntax)
+        match self.inner {
+            None => self.skip(Hand::Done, byte),
+            Some(_) => Taken::Stops(Stop::Syntax),
         }
     }
 
@@ -355,6 +351,27 @@ impl Machine {
             Hand::Done => Ok(self.done(byte)),
             _ => Ok(Taken::Stops(Stop::Syntax)),
         }
+    }
+}
+
+/// Adds a value to a list, or to an object under the name at hand, which `none` replaces.
+fn add(level: &mut Level, value: Json, none: Text) -> Result<(), AllocError>
+    requires { none ≡ [] }
+    ensures { OnOk result (level.new ≡ spec.added level.old value) }
+{
+    match level {
+        Level::List(items) => items.push(value),
+        Level::Map(pairs, name) => pairs.push((mem::replace(name, none), value)),
+    }
+}
+
+/// An empty list, in memory that served before if there is some.
+fn empty<T: Drop>(alloc: Global, spare: Option<Sequence<T>>) -> Sequence<T>
+    ensures { result ≡ [] }
+{
+    match spare {
+        Some(list) => list.emptied(),
+        None => Sequence::new(alloc),
     }
 }
 

@@ -4,12 +4,13 @@ ghost use Rattle.std.specs.Prelude.{◌≡◌, ◌≤◌, IfOk, MatchOption, len
 ghost use Rattle.json_text.specs.Stands.{state_of};
 ghost use Rattle.json_text.specs.Machine as spec;
 ghost use Rattle.json_text.specs.Grammar.{AreBlank};
+ghost use Rattle.json_text.specs.Numeral.{AreDigits};
 ghost use Rattle.json_text.specs.Runs.{IsRan, Skims, ArePlain};
 ghost use Rattle.json_text.specs.Stands.{AddsText};
 
 use crate::bytes::{after, before, ends, is_blank, is_plain};
 use crate::machine::Machine;
-use crate::state::{Hand, Part, Ran, Taken};
+use crate::state::{Hand, Part, Place, Ran, Taken};
 use json_value::Json;
 use sequences::Text;
 use std::alloc::AllocError;
@@ -31,7 +32,7 @@ impl Machine {
         Ok(Ran::All)
     }
 
-    /// Takes the bytes that leave the machine where it is, as those of a string and white space, and says how many they are.
+    /// Takes the bytes that leave the machine where it is, as those of a string, digits and white space, and says how many they are.
     fn skim(&mut self, bytes: &[u8]) -> Result<usize, AllocError>
         ensures { IfOk result (λ count. Skims count (state_of self.old) bytes.now (state_of self.new)) }
     {
@@ -42,15 +43,31 @@ impl Machine {
             },
             Hand::Value => Ok(blank_count(bytes)),
             Hand::NextName => Ok(blank_count(bytes)),
+            Hand::Number(place) => match place {
+                Place::Whole => self.skim_digits(bytes),
+                Place::Fraction => self.skim_digits(bytes),
+                _ => Ok(0),
+            },
             _ => Ok(0),
         }
     }
 
     /// Takes characters of a string that stand for themselves.
     fn skim_text(&mut self, bytes: &[u8]) -> Result<usize, AllocError>
-        ensures { IfOk result (λ count. AddsText count bytes.now self.old self.new) }
+        ensures added { IfOk result (λ count. AddsText count bytes.now self.old self.new) }
+        ensures plain { IfOk result (λ count. ArePlain (take count bytes.now)) }
     {
         let count = plain_count(bytes);
+        self.text.extend_from_slice(before(bytes, count))?;
+        Ok(count)
+    }
+
+    /// Takes digits of a numeral.
+    fn skim_digits(&mut self, bytes: &[u8]) -> Result<usize, AllocError>
+        ensures added { IfOk result (λ count. AddsText count bytes.now self.old self.new) }
+        ensures digits { IfOk result (λ count. AreDigits (take count bytes.now)) }
+    {
+        let count = digit_count(bytes);
         self.text.extend_from_slice(before(bytes, count))?;
         Ok(count)
     }
@@ -61,12 +78,15 @@ impl Machine {
     {
         let Machine {
             alloc: _,
-            levels,
+            inner,
+            outer: _,
+            lists: _,
+            maps: _,
             hand,
             text,
             root,
         } = self;
-        if !levels.is_empty() {
+        if inner.is_some() {
             return None;
         }
         match hand {
@@ -84,6 +104,19 @@ fn plain_count(bytes: &[u8]) -> usize
 {
     for (index, byte) in bytes.iter().enumerate() {
         if !is_plain(*byte) {
+            return index;
+        }
+    }
+    bytes.len()
+}
+
+/// How many of the first bytes are digits.
+fn digit_count(bytes: &[u8]) -> usize
+    ensures within { result ≤ length bytes.now }
+    ensures digits { AreDigits (take result bytes.now) }
+{
+    for (index, byte) in bytes.iter().enumerate() {
+        if !byte.is_ascii_digit() {
             return index;
         }
     }

@@ -9,6 +9,7 @@ use crate::bytes::{digit_value, escaped, push_char, tails, text_from};
 use crate::machine::Machine;
 use crate::state::{Digits, Hand, Level, Part, Role, Stop, Taken};
 use json_value::Json;
+use sequences::Text;
 use std::alloc::AllocError;
 
 impl Machine {
@@ -117,19 +118,25 @@ impl Machine {
     fn end_name(&mut self) -> Result<Taken, AllocError>
         ensures { IfOk result (λ taken. IsTaken taken (spec.text_ends (levels_of self.old) Role.Name self.old.text.items) (state_of self.new)) }
     {
-        let Some(level) = self.levels.pop() else {
-            return Ok(Taken::Stops(Stop::Syntax));
-        };
-        match level {
-            Level::List(_) => Ok(Taken::Stops(Stop::Syntax)),
-            Level::Map(pairs, _) => {
-                let Some(name) = text_from(self.alloc, self.text.as_slice())? else {
-                    return Ok(Taken::Stops(Stop::Utf8));
-                };
-                self.levels.push(Level::Map(pairs, name))?;
-                Ok(self.goes(Hand::Colon))
-            }
+        match self.inner {
+            Some(Level::Map(_, _)) => {}
+            _ => return Ok(Taken::Stops(Stop::Syntax)),
         }
+        match text_from(self.alloc, self.text.as_slice())? {
+            Some(name) => Ok(self.names(name)),
+            None => Ok(Taken::Stops(Stop::Utf8)),
+        }
+    }
+
+    /// Puts a name at hand in the innermost object.
+    fn names(&mut self, text: Text) -> Taken
+        ensures { IsTaken result (spec.named (levels_of self.old) text) (state_of self.new) }
+    {
+        match &mut self.inner {
+            Some(Level::Map(_, name)) => put_text(name, text),
+            _ => return Taken::Stops(Stop::Syntax),
+        }
+        self.goes(Hand::Colon)
     }
 
     /// Takes the byte that an escape wants.
@@ -229,6 +236,13 @@ impl Machine {
             Digits::Three(a, b, c) => self.paired(role, joined(high, of_digits16(a, b, c, byte))),
         }
     }
+}
+
+/// Puts a text in the place of another.
+fn put_text(place: &mut Text, text: Text)
+    ensures { place.new ≡ text }
+{
+    *place = text;
 }
 
 /// Why an escape doesn't take the byte.

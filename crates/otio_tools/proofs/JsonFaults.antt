@@ -10,10 +10,10 @@ use Rattle.dev_io.specs.Known.{KnownFiles}
 use Rattle.dev_io.specs.Calls.{Tells}
 use Rattle.json_value.specs.declared.Json.{Json}
 use Rattle.otio_tools.specs.Whole.{Takes, TakesFrom, TakesAll, EndsFrom, IsLeft}
-use Rattle.otio_tools.specs.Plan.{Plans, ReadsAs}
+use Rattle.otio_tools.specs.Plan.{Plans, ReadsAs, IsJsonFaultRead}
 use Rattle.otio_tools.specs.declared.fault.Fault.{Fault}
 use Rattle.otio_tools.specs.declared.fault.Fault.TheVariants as faults
-use Rattle.otio_tools.specs.declared.words.Command.TheVariants.{ToJson}
+use Rattle.command_words.specs.declared.requests.Command.TheVariants.{ToJson}
 
 dead_more : (n : ℕ) (front rest : List ℕ) → IsDeadAt n front → IsDeadAt n (front ++ rest)
 dead_more n front rest d =
@@ -81,15 +81,21 @@ value_left bytes None new result e h = tt
 value_left bytes (Some old) None result e h = absurd e
 value_left bytes (Some old) (Some new) result e h = left_value old.hand bytes old new result e h
 
+plans_json : (name left : List ℕ) (fault : JsonFault) → IsJsonFaultRead left fault → Plans ToJson name (Some left) (Err (OfJson fault))
+plans_json name left (Syntax n) h = inr (Syntax n, h, refl)
+plans_json name left (Utf8 n) h = inr (Utf8 n, h, refl)
+plans_json name left (Depth n) h = inr (Depth n, h, refl)
+plans_json name left Large h = inr (Large, h, refl)
+plans_json name left Memory h = tt
+
 plans_fault : (name left : List ℕ) (fault : Fault) → ReadsAs left (Err fault) → Plans ToJson name (Some left) (Err fault)
 plans_fault name left faults.Absent h = absurd h
 plans_fault name left faults.ReadFailed h = tt
-plans_fault name left faults.NotYet h = absurd h
-plans_fault name left (faults.Json (Syntax n)) h = inr (Syntax n, h, refl)
-plans_fault name left (faults.Json (Utf8 n)) h = inr (Utf8 n, h, refl)
-plans_fault name left (faults.Json (Depth n)) h = inr (Depth n, h, refl)
-plans_fault name left (faults.Json Large) h = inr (Large, h, refl)
-plans_fault name left (faults.Json Memory) h = tt
+plans_fault name left (faults.List fault) h = absurd h
+plans_fault name left faults.NoTimecode h = absurd h
+plans_fault name left faults.Events h = absurd h
+plans_fault name left (faults.Day line) h = absurd h
+plans_fault name left (faults.Json fault) h = plans_json name left fault h
 plans_fault name left faults.Memory h = tt
 
 fault_at : (name : List ℕ) (hand : Option (List ℕ × List ℕ)) (fault : Fault) → MatchOption hand (Unit {0}) (λ (h : List ℕ × List ℕ). ReadsAs h.1 (Err fault))

@@ -1,5 +1,5 @@
 -- The answer to words and files: a status, an output and a message.
-use Rattle.std.specs.Prelude.{◌≡◌, ◌≤◌, ◌⊎◌, ℕ, List, [], ◌∷◌, ◌++◌, Some, None, codes, decimal, length}
+use Rattle.std.specs.Prelude.{◌≡◌, ◌≤◌, ◌<◌, ◌⊎◌, ◌||◌, Bool, IsSome, ℕ, List, [], ◌∷◌, ◌++◌, Some, None, codes, decimal, length}
 use Rattle.std.specs.declared.option.Option.{Option}
 use Rattle.std.specs.List.{concat}
 use Rattle.json_value.specs.declared.Json.{Json}
@@ -8,11 +8,17 @@ use Rattle.json_text.specs.Faults.{IsFault}
 use Rattle.json_text.specs.declared.faults.JsonFault.{JsonFault}
 use Rattle.json_text.specs.declared.faults.JsonFault.TheVariants.{Syntax, Utf8, Depth, Large, Memory as JsonMemory}
 use Rattle.json_layout.specs.Layout.{layout}
-use Rattle.edl_text.specs.Simple.{CutTable, IsSimpleList}
-use Rattle.edl_text.specs.Spelling.{spelling}
-use Rattle.otio_tools.specs.Words.{Ask, AskNothing}
-use Rattle.otio_tools.specs.declared.words.Command.{Command}
-use Rattle.otio_tools.specs.declared.words.Command.TheVariants.{ListToList, ToJson}
+use Rattle.tick_time.specs.declared.rates.Rate.{Rate}
+use Rattle.smpte_tc.specs.Modes.{mode_of}
+use Rattle.edl_list.specs.declared.list.EventList.{EventList}
+use Rattle.edl_text.specs.Lists.{IsList, IsFault as IsListFault}
+use Rattle.edl_text.specs.declared.faults.EdlFault.{EdlFault}
+use Rattle.edl_text.specs.declared.faults.EdlFault.TheVariants as list_faults
+use Rattle.edl_layout.specs.Labelled.{IsFirstPast}
+use Rattle.edl_layout.specs.Spelling.{spelling}
+use Rattle.command_words.specs.Asked.{Ask, AskNothing}
+use Rattle.command_words.specs.declared.requests.Command.{Command}
+use Rattle.command_words.specs.declared.requests.Command.TheVariants.{ListToList, ToJson}
 use Rattle.otio_tools.specs.declared.Status.{Status}
 use Rattle.otio_tools.specs.declared.Status.TheVariants.{Done, Refused, Usage, Input}
 
@@ -52,11 +58,49 @@ usage_text = concat (
 abbrev pub usage : Answer
 usage = record { status = Usage; output = []; message = usage_text }
 
--- The answer to a list that is written as a list: its one spelling where it is a simple list.
-abbrev pub AnswersList : List ℕ → List ℕ → Answer → Type 0
-AnswersList name bytes answer =
-    ((list : CutTable) × IsSimpleList bytes list × (answer ≡ done (spelling list)))
-    ⊎ (((list : CutTable) → IsSimpleList bytes list → ⊥) × (answer ≡ refused name (codes ": L0 NotYet\n" ∷ [])))
+-- how the fault of a list is told
+abbrev pub list_why : EdlFault → List (List ℕ)
+list_why (list_faults.Form n) = codes ": L1 Form at " ∷ decimal n ∷ codes "\n" ∷ []
+list_why (list_faults.Timecode n) = codes ": L2 Timecode at " ∷ decimal n ∷ codes "\n" ∷ []
+list_why (list_faults.Order n) = codes ": L3 Order at " ∷ decimal n ∷ codes "\n" ∷ []
+list_why (list_faults.Unequal n) = codes ": L4 Unequal at " ∷ decimal n ∷ codes "\n" ∷ []
+list_why (list_faults.Key n) = codes ": L5 Key at " ∷ decimal n ∷ codes "\n" ∷ []
+list_why (list_faults.Split n) = codes ": L6 Split at " ∷ decimal n ∷ codes "\n" ∷ []
+list_why (list_faults.Overlap n) = codes ": L7 Overlap at " ∷ decimal n ∷ codes "\n" ∷ []
+list_why (list_faults.Reverse n) = codes ": L8 Reverse at " ∷ decimal n ∷ codes "\n" ∷ []
+list_why list_faults.Large = codes ": L9 Large\n" ∷ []
+list_why list_faults.Memory = []
+
+-- the rate has no timecode in that mode
+abbrev pub no_timecode_why : List (List ℕ)
+no_timecode_why = codes ": N15 NoTimecode at .\n" ∷ []
+
+-- a list that is written has more than 999 events
+abbrev pub events_why : List (List ℕ)
+events_why = codes ": N13 Events at .\n" ∷ []
+
+-- an event of that line has a label past the day
+abbrev pub day_why : ℕ → List (List ℕ)
+day_why line = codes ": L10 Day at " ∷ decimal line ∷ codes "\n" ∷ []
+
+-- The rate of the list has timecode in that mode, and the list has at most 999 events.
+pub record CanBeWritten (list : EventList) (drop : Bool) : Type 0 where
+  pub timecode : IsSome (mode_of list.rate drop)
+  pub few : length list.events ≤ 999
+
+-- The answer to a list of events that is written as a list, with drop-frame timecode or without: the first refusal that holds, else its spelling.
+pub data AnswersEvents (name : List ℕ) (list : EventList) (drop : Bool) (answer : Answer) : Type 0 where
+  NoTimecode : mode_of list.rate drop ≡ None → answer ≡ refused name no_timecode_why → AnswersEvents name list drop answer
+  TooMany : IsSome (mode_of list.rate drop) → 999 < length list.events → answer ≡ refused name events_why → AnswersEvents name list drop answer
+  PastDay : CanBeWritten list drop → (line : ℕ) → IsFirstPast list.rate drop list.events (Some line) → answer ≡ refused name (day_why line) → AnswersEvents name list drop answer
+  Spelled : CanBeWritten list drop → IsFirstPast list.rate drop list.events None → answer ≡ done (spelling list drop) → AnswersEvents name list drop answer
+
+-- The answer to a list that is written as a list, at a rate: with drop-frame timecode where that is asked for or is in force at its first event line. Bytes that
+-- are no list are refused with their first fault.
+abbrev pub AnswersList : Rate → Bool → List ℕ → List ℕ → Answer → Type 0
+AnswersList rate drop name bytes answer =
+    ((list : EventList) × IsList rate bytes list × AnswersEvents name list (drop || list.drop) answer)
+    ⊎ ((fault : EdlFault) × IsListFault rate bytes fault × (answer ≡ refused name (list_why fault)))
 
 -- the bytes of a file are a text of this value
 pub record IsJson (bytes : List ℕ) (value : Json) : Type 0 where
@@ -80,7 +124,7 @@ AnswersJson name bytes answer =
 -- the answer to a command on a file, by what the file holds
 abbrev pub AnswersFile : Command → List ℕ → Option (List ℕ) → Answer → Type 0
 AnswersFile command name None answer = answer ≡ absent name
-AnswersFile ListToList name (Some bytes) answer = AnswersList name bytes answer
+AnswersFile (ListToList rate drop) name (Some bytes) answer = AnswersList rate drop name bytes answer
 AnswersFile ToJson name (Some bytes) answer = AnswersJson name bytes answer
 
 -- The answer to the words, where each name holds these bytes: that of the command that they ask for, and usage for all other words.

@@ -1,6 +1,6 @@
 pub mod Status
-pub mod Words
 pub mod Answer
 pub mod Whole
 pub mod Run
+pub mod Told
 pub mod Plan

@@ -5,10 +5,10 @@ use Rattle.std.specs.List.{concat}
 use Rattle.dev_io.specs.Known.{KnownFiles, KnownOut}
 use Rattle.dev_io.specs.Calls.{Tells, Adds, AddsPrefix}
 use Rattle.dev_io.specs.Causes.{Rose}
-use Rattle.otio_tools.specs.Words.{Ask}
+use Rattle.command_words.specs.Asked.{Ask}
+use Rattle.command_words.specs.declared.requests.Command.{Command}
 use Rattle.otio_tools.specs.Whole.{SameFiles, ReadFails, ReadsToEnd}
 use Rattle.otio_tools.specs.Answer.{Answer, Answers, read_failed}
-use Rattle.otio_tools.specs.declared.words.Command.{Command}
 use Rattle.otio_tools.specs.declared.Status.{Status}
 use Rattle.otio_tools.specs.declared.Status.TheVariants.{Done, Usage, Refused, Input, Output, Memory}
 

@@ -1,10 +1,7 @@
 -- Reading a file to its end.
-use Rattle.std.specs.Prelude.{◌≡◌, ℕ, List, [], ◌++◌, Some, None, Result, Ok, Err, MatchOption}
+use Rattle.std.specs.Prelude.{◌≡◌, ℕ, List, [], ◌++◌, Some, None, MatchOption}
 use Rattle.std.specs.declared.option.Option.{Option}
 use Rattle.dev_io.specs.Known.{KnownFiles, LastFailure, NoFailure, OpenHeld, OpenMissing, ReadOf}
-use Rattle.dev_io.specs.Causes.{Rose}
-use Rattle.otio_tools.specs.declared.whole.ReadError.{ReadError}
-use Rattle.otio_tools.specs.declared.whole.ReadError.TheVariants.{Failed, Large, Memory}
 
 -- these bytes were taken from the front of the file in hand
 abbrev pub TakesFrom : Option (List ℕ × List ℕ) → List ℕ → KnownFiles → KnownFiles → Type 0
@@ -36,13 +33,6 @@ IsLeft P known = MatchOption known.hand (Unit {0}) (λ hand. P hand.1)
 
 abbrev pub SameFiles : KnownFiles → KnownFiles → Type 0
 SameFiles old new = new.held ≡ old.held
-
--- the count rose where reading failed, and stands otherwise
-abbrev pub Raises : {T : Type 0} → Result T ReadError → ℕ → ℕ → Type 0
-Raises (Ok v) before now = now ≡ before
-Raises (Err Failed) before now = Rose before now
-Raises (Err Large) before now = now ≡ before
-Raises (Err Memory) before now = now ≡ before
 
 -- the failed call was a read of the file in hand, with some of its bytes left
 abbrev pub FailsIn : Option (List ℕ × List ℕ) → LastFailure → Type 0

@@ -1,18 +1,21 @@
 // The top call.
-ghost use Rattle.std.specs.Prelude.{◌≡◌, ◌≢◌, ◌↔◌, ℕ, List, map, string_bytes, IfSome};
+ghost use Rattle.std.specs.Prelude.{◌≡◌, ◌≢◌, ◌↔◌, ℕ, [], ◌∷◌, List, codes, decimal, map, string_bytes, IfOk, IfSome};
+ghost use Rattle.otio_tools.specs.Answer.{message_of};
 ghost use Rattle.dev_io.specs.Calls.{Tells, SendsAll};
 ghost use Rattle.dev_io.specs.Causes.{HasCause};
-ghost use Rattle.otio_tools.specs.Words.{Ask, AskNothing};
-ghost use Rattle.otio_tools.specs.Run.{Completes, Ends, Says, KeepsStill, no_memory, streams};
-ghost use Rattle.otio_tools.specs.Plan.{Carries, Writes, text_planned, fault_status, fault_message, json_status, json_message};
+ghost use Rattle.command_words.specs.Asked.{Ask, AskNothing};
+ghost use Rattle.otio_tools.specs.Run.{Completes, Ends, Says, KeepsStill, no_memory, output_failed, streams};
+ghost use Rattle.otio_tools.specs.Plan.{Carries, Fits, Writes, text_planned};
+ghost use Rattle.otio_tools.specs.Told.{told, list_told, json_told, status_told, message_told};
 
 use crate::Status;
 use crate::fault::Fault;
 use crate::plan::{Planned, plan};
 use crate::say::{say, say_at, say_of};
-use crate::words::{Command, command_of};
+use command_words::{Request, request_of};
 use dev_io::{Files, Out, WriteFault};
-use edl_text::write_cuts;
+use edl_layout::write_list;
+use edl_text::EdlFault;
 use json_layout::write_json;
 use json_text::JsonFault;
 use std::alloc::Global;
@@ -29,8 +32,9 @@ const USAGE: &[u8] = b"otio: usage
 
 /// Does what the words behind the program's name ask for, and says how it ended.
 ///
-/// `convert --to edl FILE`, where FILE ends with `.edl`, reads a simple list of cuts and sends its one spelling to `out`;
-/// `convert --to json FILE`, for any other FILE, reads a JSON text and sends its layout.
+/// `convert --to edl FILE`, where FILE ends with `.edl`, reads a CMX 3600 list, at 24 frames a second or at the rate that `--rate` gives, and sends
+/// its one spelling to `out`, with drop-frame timecode where `--drop` stands or the list has it; `convert --to json FILE`, for any other
+/// FILE, reads a JSON text and sends its layout.
 /// Each status but `Done` sends one message to `err`; where `err` fails, a prefix of it was sent, and the status is the same.
 /// Nothing is sent to `out` before the file is judged. Want of memory alone may come at any time.
 pub fn run<F: Files, W: Out, E: Out>(
@@ -53,8 +57,8 @@ pub fn run<F: Files, W: Out, E: Out>(
     ensures still { KeepsStill (streams W.faults W.known E.faults E.known out.old out.new err.old err.new) result }
     ensures calm { result ≡ Status.Refused → F.faults files.new ≡ F.faults files.old }
 {
-    match command_of(words.as_slice()) {
-        Some((command, name)) => convert(alloc, command, name, files, out, err),
+    match request_of(words.as_slice()) {
+        Some(request) => convert(alloc, request, files, out, err),
         None => {
             say(err, &[USAGE]);
             Status::Usage
@@ -65,20 +69,19 @@ pub fn run<F: Files, W: Out, E: Out>(
 // `convert` of the file of that name.
 fn convert<F: Files, W: Out, E: Out>(
     alloc: Global,
-    command: Command,
-    name: &str,
+    request: Request<'_>,
     files: &mut F,
     out: &mut W,
     err: &mut E,
 ) -> Status
-    ensures ends { (words : List (List ℕ)) → Ask words command name.now → Tells (Ends words (F.faults files.old) (F.faults files.new)
+    ensures ends { (words : List (List ℕ)) → Ask words request.entry.command request.entry.name.now → Tells (Ends words (F.faults files.old) (F.faults files.new)
         (streams W.faults W.known E.faults E.known out.old out.new err.old err.new) result) (F.known files.old) (F.known files.new) }
     ensures still { KeepsStill (streams W.faults W.known E.faults E.known out.old out.new err.old err.new) result }
     ensures asked { result ≢ Status.Usage }
     ensures calm { result ≡ Status.Refused → F.faults files.new ≡ F.faults files.old }
 {
-    let planned = plan(alloc, command, name, files);
-    carry_out(name, planned, out, err)
+    let planned = plan(alloc, request.command, request.name, files);
+    carry_out(request.name, planned, out, err)
 }
 
 // Sends what is planned, or the message of the fault.
@@ -88,6 +91,7 @@ fn carry_out<W: Out, E: Out>(
     out: &mut W,
     err: &mut E,
 ) -> Status
+    requires { IfOk planned (λ all. Fits all) }
     ensures { Carries name.now planned (streams W.faults W.known E.faults E.known out.old out.new err.old err.new) result }
 {
     match planned {
@@ -98,31 +102,40 @@ fn carry_out<W: Out, E: Out>(
 
 // Sends what is planned.
 fn send<W: Out, E: Out>(planned: &Planned, out: &mut W, err: &mut E) -> Status
+    requires { Fits planned.now }
     ensures { Writes (text_planned planned.now) (streams W.faults W.known E.faults E.known out.old out.new err.old err.new) result }
 {
     match write_planned(planned, out) {
         Ok(()) => Status::Done,
         Err(_) => {
-            say(err, &[b"otio: output failed\n".as_slice()]);
+            complain_of_output(err);
             Status::Output
         }
     }
 }
 
+// Sends the message of a failed output.
+fn complain_of_output<E: Out>(err: &mut E)
+    ensures { Says (E.faults err.old) (E.faults err.new) (E.known err.old) (E.known err.new) output_failed }
+{
+    say(err, &[b"otio: output failed\n".as_slice()]);
+}
+
 fn write_planned<W: Out>(planned: &Planned, out: &mut W) -> Result<(), WriteFault>
+    requires { Fits planned.now }
     ensures told { Tells (SendsAll (text_planned planned.now) result) (W.known out.old) (W.known out.new) }
     ensures cause { HasCause (W.faults out.old) (W.faults out.new) result }
 {
     match planned {
-        Planned::Cuts(list) => write_cuts(list, out),
+        Planned::Events(list, drop) => write_list(list, *drop, out),
         Planned::Value(value) => write_json(value, out),
     }
 }
 
 // Sends the message of a fault.
 fn complain<E: Out>(name: &str, fault: Fault, err: &mut E) -> Status
-    ensures status { result ≡ fault_status fault }
-    ensures message { Says (E.faults err.old) (E.faults err.new) (E.known err.old) (E.known err.new) (fault_message name.now fault) }
+    ensures status { result ≡ status_told (told fault) }
+    ensures message { Says (E.faults err.old) (E.faults err.new) (E.known err.old) (E.known err.new) (message_told name.now (told fault)) }
 {
     match fault {
         Fault::Absent => {
@@ -133,10 +146,16 @@ fn complain<E: Out>(name: &str, fault: Fault, err: &mut E) -> Status
             say_of(err, name, b": read failed\n");
             Status::Input
         }
-        Fault::NotYet => {
-            say_of(err, name, b": L0 NotYet\n");
+        Fault::List(fault) => complain_of_list(name, fault, err),
+        Fault::NoTimecode => {
+            say_of(err, name, b": N15 NoTimecode at .\n");
             Status::Refused
         }
+        Fault::Events => {
+            say_of(err, name, b": N13 Events at .\n");
+            Status::Refused
+        }
+        Fault::Day(line) => refuse_at(name, b": L10 Day at ", line, err),
         Fault::Json(fault) => complain_of_json(name, fault, err),
         Fault::Memory => complain_of_memory(err),
     }
@@ -153,8 +172,8 @@ fn complain_of_memory<E: Out>(err: &mut E) -> Status
 
 // Sends the message of a fault of JSON.
 fn complain_of_json<E: Out>(name: &str, fault: JsonFault, err: &mut E) -> Status
-    ensures status { result ≡ json_status fault }
-    ensures message { Says (E.faults err.old) (E.faults err.new) (E.known err.old) (E.known err.new) (json_message name.now fault) }
+    ensures status { result ≡ status_told (json_told fault) }
+    ensures message { Says (E.faults err.old) (E.faults err.new) (E.known err.old) (E.known err.new) (message_told name.now (json_told fault)) }
 {
     match fault {
         JsonFault::Syntax(at) => {
@@ -174,5 +193,36 @@ fn complain_of_json<E: Out>(name: &str, fault: JsonFault, err: &mut E) -> Status
             Status::Refused
         }
         JsonFault::Memory => complain_of_memory(err),
+    }
+}
+
+// Sends the message of a refusal at a line.
+fn refuse_at<E: Out>(name: &str, why: &[u8], line: u32, err: &mut E) -> Status
+    ensures status { result ≡ Status.Refused }
+    ensures message { Says (E.faults err.old) (E.faults err.new) (E.known err.old) (E.known err.new) (message_of name.now (why.now ∷ decimal line ∷ codes "\n" ∷ [])) }
+{
+    say_at(err, name, why, u64::from(line));
+    Status::Refused
+}
+
+// Sends the message of a fault of a list.
+fn complain_of_list<E: Out>(name: &str, fault: EdlFault, err: &mut E) -> Status
+    ensures status { result ≡ status_told (list_told fault) }
+    ensures message { Says (E.faults err.old) (E.faults err.new) (E.known err.old) (E.known err.new) (message_told name.now (list_told fault)) }
+{
+    match fault {
+        EdlFault::Form(line) => refuse_at(name, b": L1 Form at ", line, err),
+        EdlFault::Timecode(line) => refuse_at(name, b": L2 Timecode at ", line, err),
+        EdlFault::Order(line) => refuse_at(name, b": L3 Order at ", line, err),
+        EdlFault::Unequal(line) => refuse_at(name, b": L4 Unequal at ", line, err),
+        EdlFault::Key(line) => refuse_at(name, b": L5 Key at ", line, err),
+        EdlFault::Split(line) => refuse_at(name, b": L6 Split at ", line, err),
+        EdlFault::Overlap(line) => refuse_at(name, b": L7 Overlap at ", line, err),
+        EdlFault::Reverse(line) => refuse_at(name, b": L8 Reverse at ", line, err),
+        EdlFault::Large => {
+            say_of(err, name, b": L9 Large\n");
+            Status::Refused
+        }
+        EdlFault::Memory => complain_of_memory(err),
     }
 }

@@ -1,4 +1,5 @@
 // Why there is nothing to send.
+use edl_text::EdlFault;
 use json_text::JsonFault;
 
 /// Why there is nothing to send.
@@ -8,8 +9,14 @@ pub enum Fault {
     Absent,
     /// Opening or reading the file failed.
     ReadFailed,
-    /// The file is no simple list.
-    NotYet,
+    /// The file is no list.
+    List(EdlFault),
+    /// The rate of the list has no timecode, or none with drop-frame where that is written.
+    NoTimecode,
+    /// The list has more events than a list that is written may have.
+    Events,
+    /// The event of that line has a label past the day.
+    Day(u32),
     /// The file is no JSON text.
     Json(JsonFault),
     /// No memory was left.

@@ -7,10 +7,9 @@ ghost use Rattle.otio_tools.specs.Answer.{Answer, Answers};
 mod command;
 mod fault;
 mod json;
+mod list;
 mod plan;
 mod say;
-mod whole;
-mod words;
 
 pub use command::run;
 

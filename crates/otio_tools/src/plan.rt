@@ -1,23 +1,25 @@
 // What is to be sent for a file.
-ghost use Rattle.std.specs.Prelude.{◌≡◌, List, ℕ, IfSome, IsErrOf, OnOk};
+ghost use Rattle.std.specs.Prelude.{◌≡◌, List, ℕ, IfSome, IfOk, IsErrOf, OnOk};
 ghost use Rattle.dev_io.specs.Calls.{Tells};
 ghost use Rattle.otio_tools.specs.Whole.{IsLeft, SameFiles, Fails, ReadFails, ReadsOn, ReadsToEnd};
-ghost use Rattle.otio_tools.specs.Plan.{Plans, Raised};
+ghost use Rattle.otio_tools.specs.Plan.{Plans, Fits, Raised};
+ghost use Rattle.command_words.specs.declared.requests.Command.TheVariants.{ListToList as ListToListAt};
 
 use crate::fault::Fault;
 use crate::json::read_json;
-use crate::whole::{ReadError, read_whole};
-use crate::words::Command;
+use crate::list::{list_to_write, read_list};
+use command_words::Command;
 use dev_io::{Files, Opened};
-use edl_text::{CutFault, CutList, read_cuts};
+use edl_list::EventList;
 use json_value::Json;
 use std::alloc::Global;
+use tick_time::Rate;
 
 /// What is to be sent.
 #[derive(Drop)]
 pub enum Planned {
-    /// A list, in its one spelling.
-    Cuts(CutList),
+    /// A list, in its one spelling, with drop-frame timecode or without.
+    Events(EventList, bool),
     /// A value, in its layout.
     Value(Json),
 }
@@ -30,6 +32,7 @@ pub fn plan<F: Files>(
     files: &mut F,
 ) -> Result<Planned, Fault>
     ensures owed { IfSome (F.known files.old) (λ known. Plans command name.now (known.held name.now) result) }
+    ensures fits { IfOk result (λ planned. Fits planned) }
     ensures same { Tells SameFiles (F.known files.old) (F.known files.new) }
     ensures end { OnOk result (Tells (ReadsToEnd name.now) (F.known files.old) (F.known files.new)) }
     ensures last { IsErrOf result Fault.ReadFailed → Tells (ReadFails name.now) (F.known files.old) (F.known files.new) }
@@ -45,49 +48,42 @@ pub fn plan<F: Files>(
 // What the command is to send for the file in hand.
 fn judge<F: Files>(alloc: Global, command: Command, files: &mut F) -> Result<Planned, Fault>
     ensures owed { (name : List ℕ) → IfSome (F.known files.old) (IsLeft (λ left. Plans command name (Some left) result)) }
+    ensures fits { IfOk result (λ planned. Fits planned) }
     ensures end { OnOk result (Tells ReadsOn (F.known files.old) (F.known files.new)) }
     ensures same { Tells SameFiles (F.known files.old) (F.known files.new) }
     ensures failed { IsErrOf result Fault.ReadFailed → Tells Fails (F.known files.old) (F.known files.new) }
     ensures cause { Raised result (F.faults files.old) (F.faults files.new) }
 {
     match command {
-        Command::ListToList => judge_list(alloc, files),
+        Command::ListToList { rate, drop } => judge_list(alloc, rate, drop, files),
         Command::ToJson => judge_json(alloc, files),
     }
 }
 
-// The list in the file in hand.
-fn judge_list<F: Files>(alloc: Global, files: &mut F) -> Result<Planned, Fault>
-    ensures owed { (name : List ℕ) → IfSome (F.known files.old) (IsLeft (λ left. Plans Command.ListToList name (Some left) result)) }
+// The list in the file in hand, read at a rate, and written with drop-frame timecode where that is asked for.
+fn judge_list<F: Files>(
+    alloc: Global,
+    rate: Rate,
+    drop: bool,
+    files: &mut F,
+) -> Result<Planned, Fault>
+    ensures owed { (name : List ℕ) → IfSome (F.known files.old) (IsLeft (λ left. Plans (ListToListAt rate drop) name (Some left) result)) }
+    ensures fits { IfOk result (λ planned. Fits planned) }
     ensures end { OnOk result (Tells ReadsOn (F.known files.old) (F.known files.new)) }
     ensures same { Tells SameFiles (F.known files.old) (F.known files.new) }
     ensures failed { IsErrOf result Fault.ReadFailed → Tells Fails (F.known files.old) (F.known files.new) }
     ensures cause { Raised result (F.faults files.old) (F.faults files.new) }
 {
-    match read_whole(alloc, files) {
-        Ok(bytes) => list_in(alloc, &bytes),
-        Err(ReadError::Failed) => Err(Fault::ReadFailed),
-        Err(ReadError::Large) => Err(Fault::NotYet),
-        Err(ReadError::Memory) => Err(Fault::Memory),
-    }
-}
-
-// The list that the bytes are.
-fn list_in(alloc: Global, bytes: &[u8]) -> Result<Planned, Fault>
-    ensures owed { (name : List ℕ) → Plans Command.ListToList name (Some bytes.now) result }
-    ensures failed { IsErrOf result Fault.ReadFailed → ⊥ }
-    ensures calm { (n : ℕ) → Raised result n n }
-{
-    match read_cuts(alloc, bytes) {
-        Ok(list) => Ok(Planned::Cuts(list)),
-        Err(CutFault::NotYet) => Err(Fault::NotYet),
-        Err(CutFault::Memory) => Err(Fault::Memory),
+    match read_list(alloc, rate, files) {
+        Ok(list) => list_to_write(list, drop),
+        Err(fault) => Err(fault),
     }
 }
 
 // The value in the file in hand.
 fn judge_json<F: Files>(alloc: Global, files: &mut F) -> Result<Planned, Fault>
     ensures owed { (name : List ℕ) → IfSome (F.known files.old) (IsLeft (λ left. Plans Command.ToJson name (Some left) result)) }
+    ensures fits { IfOk result (λ planned. Fits planned) }
     ensures end { OnOk result (Tells ReadsOn (F.known files.old) (F.known files.new)) }
     ensures same { Tells SameFiles (F.known files.old) (F.known files.new) }
     ensures failed { IsErrOf result Fault.ReadFailed → Tells Fails (F.known files.old) (F.known files.new) }

@@ -9,6 +9,19 @@ const ONE: &[u8] =
 const ONE_SPELLED: &[u8] =
     b"TITLE: ONE\nFCM: NON-DROP FRAME\n001  TAPE1    V     C        01:00:00:00 01:00:02:00 00:00:10:00 00:00:12:00\n";
 
+const DROP: &[u8] = b"FCM: DROP FRAME\n1 T1 V C 00:00:00:00 00:00:00:10 01:00:00:00 01:00:00:10\n";
+
+const PLAIN: &[u8] = b"1 T1 V C 00:00:00:00 00:00:00:10 01:00:00:00 01:00:00:10\n";
+
+const DROP_SPELLED: &[u8] =
+    b"FCM: DROP FRAME\n001  T1       V     C        00:00:00;00 00:00:00;10 01:00:00;00 01:00:00;10\n";
+
+const SOUND_SPELLED: &[u8] = b"FCM: NON-DROP FRAME
+001  T1       V     C        00:00:00:00 00:00:01:00 00:00:00:00 00:00:01:00
+002  T1       A     C        00:00:00:00 00:00:01:00 00:00:00:00 00:00:01:00
+003  T1       A2    C        00:00:00:00 00:00:01:00 00:00:00:00 00:00:01:00
+";
+
 const USAGE_LINES: usize = 8;
 
 fn words_of(alloc: Global, line: &str) -> Result<Vec<String>, AllocError> {
@@ -28,6 +41,18 @@ fn some_files(alloc: Global) -> Result<MemFiles, AllocError> {
         b"1 T1 V C 00:00:00:00 00:00:01:00 00:00:00:00 00:00:02:00",
     )?;
     files.put("-b.edl", ONE)?;
+    files.put("drop.edl", DROP)?;
+    files.put("plain.edl", PLAIN)?;
+    files.put("title.edl", b"TITLE: E")?;
+    files.put(
+        "sound.edl",
+        b"1 T1 AA/V C 00:00:00:00 00:00:01:00 00:00:00:00 00:00:01:00",
+    )?;
+    files.put(
+        "day.edl",
+        b"1 T1 V C 00:00:00:00 00:00:00:01 23:59:59:28 23:59:59:29",
+    )?;
+    files.put("form.edl", b"* first\n1 T1 V C 00:00:00:00\n")?;
     files.put("list.json", b"[1,2]")?;
     files.put("twice.json", b"{\"a\":1,\"b\":2,\"a\":3}")?;
     files.put("half.json", b"[\"\\ud800\"]")?;
@@ -73,7 +98,55 @@ fn each_answer_has_its_status_its_output_and_its_message(rt: HostRuntime) -> Res
             "convert --to edl unequal.edl",
             Status::Refused,
             b"".as_slice(),
-            b"otio: unequal.edl: L0 NotYet\n".as_slice(),
+            b"otio: unequal.edl: L4 Unequal at 1\n".as_slice(),
+        ),
+        (
+            "convert --rate 29.97 --to edl drop.edl",
+            Status::Done,
+            DROP_SPELLED,
+            b"".as_slice(),
+        ),
+        (
+            "convert --rate 29.97 --drop --to edl drop.edl",
+            Status::Done,
+            DROP_SPELLED,
+            b"".as_slice(),
+        ),
+        (
+            "convert --rate 100 --to edl drop.edl",
+            Status::Refused,
+            b"".as_slice(),
+            b"otio: drop.edl: L2 Timecode at 2\n".as_slice(),
+        ),
+        (
+            "convert --rate 100 --to edl title.edl",
+            Status::Refused,
+            b"".as_slice(),
+            b"otio: title.edl: N15 NoTimecode at .\n".as_slice(),
+        ),
+        (
+            "convert --drop --to edl plain.edl",
+            Status::Refused,
+            b"".as_slice(),
+            b"otio: plain.edl: N15 NoTimecode at .\n".as_slice(),
+        ),
+        (
+            "convert --to edl sound.edl",
+            Status::Done,
+            SOUND_SPELLED,
+            b"".as_slice(),
+        ),
+        (
+            "convert --rate 29.97 --drop --to edl day.edl",
+            Status::Refused,
+            b"".as_slice(),
+            b"otio: day.edl: L10 Day at 1\n".as_slice(),
+        ),
+        (
+            "convert --to edl form.edl",
+            Status::Refused,
+            b"".as_slice(),
+            b"otio: form.edl: L1 Form at 2\n".as_slice(),
         ),
         (
             "convert --to json list.json",
@@ -173,6 +246,9 @@ fn other_words_are_answered_by_the_usage_text(rt: HostRuntime) -> Result<(), Fai
         "convert --to edl list.json",
         "convert --to json -x",
         "convert --to json a.edl",
+        "convert --to edl --rate 29.5 a.edl",
+        "convert --to edl --drop --drop a.edl",
+        "convert --to edl -o b.edl a.edl",
         "convert --to --to edl",
         "Convert --to edl a.edl",
     ] {

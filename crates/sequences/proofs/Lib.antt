@@ -1,4 +1,5 @@
 pub mod LatestLemmas
 pub mod MapLemmas
 pub mod PairLemmas
+pub mod ShortLemmas
 pub mod TakeLemmas

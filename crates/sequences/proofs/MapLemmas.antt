@@ -1,5 +1,5 @@
 -- A map that has the places of names, where a name is looked up or added.
-use Rattle.std.proofs.Common.{◌≡◌, ℕ, ◌+◌, ◌<◌, cond, List, [], ◌∷◌, ◌++◌, length, length-append, refl, ap, sym, ◌∙◌, Option, Some, None, nat_lt, arith}
+use Rattle.std.proofs.Common.{◌≡◌, ℕ, ◌+◌, ◌<◌, cond, Bool, true, false, subst, List, [], ◌∷◌, ◌++◌, length, length-append, refl, ap, sym, ◌∙◌, Option, Some, None, nat_lt, arith}
 use Rattle.std.proofs.lemmas.Slice.Eq.{bytes_eq-Decides}
 use Rattle.std.proofs.lemmas.Bool.Decides.{nat_tests}
 use Rattle.std.specs.BTreeMap.{BTreeMap, get_by, btree_map_len}
@@ -7,6 +7,7 @@ use Rattle.std.specs.Cmp.Lexicographic.{slice_cmp}
 use Rattle.std.specs.Map.{update}
 use Rattle.std.specs.Ordering.{nat_cmp}
 use Rattle.std.specs.Str.{bytes_eq}
+use Rattle.std.specs.Bool.{Decides}
 use Rattle.sequences.specs.Known.{Knows, found}
 use Rattle.sequences.specs.Places.{place_of, add_name}
 use Rattle.sequences.proofs.PairLemmas.{place_of-le, add_name-known, add_name-new, bytes_eq-sym}
@@ -53,6 +54,37 @@ Knows-added old new n i ns size e long gets h =
       record {
         place = λ q. let a = found-added q n ns past in let b = h.place q in let g = gets q in let k = h.count in cc;
         count = omega (arith, ap length (add_name-new n ns past), length-append ns (n ∷ []), h.count, long);
+      },
+    )
+
+-- what stands where one value and then another were put
+chosen : (t : Bool) (i k : ℕ) (old mid new : Option ℕ) → (t ≡ true → old ≡ Some i) → mid ≡ cond t (Some k) old → new ≡ cond t (Some i) mid → new ≡ old
+chosen true i k old mid new e first second = second ∙ sym (e refl)
+chosen false i k old mid new e first second = second ∙ first
+
+same_name : (n q : List ℕ) → bytes_eq n q ≡ true → n ≡ q
+same_name n q h = (bytes_eq-Decides n q).0 h
+
+-- what stands at a name right after it was inserted
+pub just_put : (old mid : BTreeMap (Bor (List ℕ)) ℕ) (n : List ℕ) (k : ℕ)
+    → ((q : List ℕ) → get_by (λ k. slice_cmp nat_cmp q k.now) mid ≡ update bytes_eq (λ ds. get_by (λ k. slice_cmp nat_cmp ds k.now) old) n (Some k) q)
+    → get_by (λ k. slice_cmp nat_cmp n k.now) mid ≡ Some k
+just_put old mid n k first = first n ∙ ap (λ t. cond t (Some k) (get_by (λ k. slice_cmp nat_cmp n k.now) old)) ((bytes_eq-Decides n n).1 refl)
+
+-- a name that the map has, once another place and then its own were inserted
+pub Knows-again : (old mid new : BTreeMap (Bor (List ℕ)) ℕ) (n : List ℕ) (i k : ℕ) (ns : List (List ℕ)) → get_by (λ k. slice_cmp nat_cmp n k.now) old ≡ Some i
+    → btree_map_len new ≡ btree_map_len old
+    → ((q : List ℕ) → get_by (λ k. slice_cmp nat_cmp q k.now) mid ≡ update bytes_eq (λ ds. get_by (λ k. slice_cmp nat_cmp ds k.now) old) n (Some k) q)
+    → ((q : List ℕ) → get_by (λ k. slice_cmp nat_cmp q k.now) new ≡ update bytes_eq (λ ds. get_by (λ k. slice_cmp nat_cmp ds k.now) mid) n (Some i) q)
+    → Knows old ns
+    → (i ≡ place_of n ns) × Knows new (add_name n ns)
+Knows-again old mid new n i k ns e long first second h =
+    let there = Knows-found old n i ns e h in (
+      there.0,
+      record {
+        place = λ q. chosen (bytes_eq n q) i k (get_by (λ k. slice_cmp nat_cmp q k.now) old) (get_by (λ k. slice_cmp nat_cmp q k.now) mid) (get_by (λ k. slice_cmp nat_cmp q k.now) new)
+            (λ t. subst (λ x. get_by (λ k. slice_cmp nat_cmp x k.now) old ≡ Some i) (same_name n q t) e) (first q) (second q) ∙ there.1.place q;
+        count = long ∙ there.1.count;
       },
     )
 

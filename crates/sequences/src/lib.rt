@@ -8,6 +8,7 @@
 mod lists;
 mod members;
 mod merging;
+mod short;
 mod texts;
 
 pub use lists::Sequence;

@@ -1,12 +1,16 @@
 //! A list that contracts see as the list of its members.
 
-ghost use Rattle.std.specs.Prelude.{◌≡◌, ◌<◌, [], ◌∷◌, ◌++◌, length, OnOk, OnErr, Some, slice_get, slice_set};
+ghost use Rattle.std.specs.Prelude.{◌≡◌, ◌<◌, [], ◌∷◌, ◌++◌, length, IfOk, OnOk, OnErr, Some, slice_get, slice_set};
 ghost use Rattle.std.specs.Borrow.{Lends, sem};
 ghost use Rattle.std.specs.Option.{option_copied};
 ghost use Rattle.sequences.specs.contracts.lists.Sequence.{the_row};
 
 use std::alloc::{AllocError, Global};
 use std::marker::Model;
+use std::mem;
+
+/// As many members at most are moved into memory that fits them.
+const FEW: usize = 64;
 
 /// A list of values in order.
 #[derive(Debug, Drop)]
@@ -89,5 +93,28 @@ impl<T: Drop> Sequence<T> {
     {
         self.items.push(item)?;
         Ok(())
+    }
+
+    /// The same list without its members.
+    pub fn emptied(self) -> Sequence<T>
+        ensures { result ≡ [] }
+    {
+        let Sequence { mut items } = self;
+        items.clear();
+        Sequence { items }
+    }
+
+    /// Takes the members out. Few come in memory that just fits them, and the list keeps its own for others; many come in the
+    /// list's own memory. An error comes where memory runs out.
+    pub fn take_fitted(&mut self, alloc: Global) -> Result<Vec<T>, AllocError>
+        ensures taken { IfOk result (λ taken. taken.items ≡ self.old) }
+        ensures empty { OnOk result (self.new ≡ []) }
+    {
+        if self.items.len() > FEW {
+            return Ok(mem::replace(&mut self.items, Vec::new(alloc)));
+        }
+        let mut taken = Vec::with_capacity(alloc, self.items.len())?;
+        taken.append(&mut self.items)?;
+        Ok(taken)
     }
 }

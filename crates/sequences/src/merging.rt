@@ -72,12 +72,14 @@ fn place_in<'a>(known: &mut BTreeMap<&'a str, usize>, name: &'a str) -> Result<u
     ensures { IfOk result (λ place. (names : List (List ℕ)) → Knows known.old names
         → (place ≡ at.place_of name.now names) × Knows known.new (at.add_name name.now names)) }
 {
-    if let Some(place) = known.get(name).copied() {
-        return Ok(place);
-    }
     let place = known.len();
-    known.insert(name, place)?;
-    Ok(place)
+    match known.insert(name, place)? {
+        None => Ok(place),
+        Some(first) => {
+            known.insert(name, first)?;
+            Ok(first)
+        }
+    }
 }
 
 /// Puts a value at a name whose place is known: in the place of the value that is there, and else at the end.

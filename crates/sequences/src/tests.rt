@@ -33,6 +33,11 @@ fn sequence_keeps_members(rt: HostRuntime) -> Result<(), Fail> {
     assert_eq!(rt; sequence.as_slice(), &[7, 80, 9][..]);
     assert_eq!(rt; sequence.into_vec().as_slice(), &[7, 80, 9][..]);
     assert_eq!(rt; Sequence::<u32>::new(rt.alloc()).len(), 0);
+    let mut few = Sequence::of(vec![in rt.alloc(); 1u32, 2]?);
+    assert_eq!(rt; few.take_fitted(rt.alloc())?.as_slice(), &[1, 2][..]);
+    assert_eq!(rt; few.len(), 0);
+    few.push(3)?;
+    assert_eq!(rt; few.emptied().len(), 0);
     Ok(())
 }
 
@@ -40,7 +45,13 @@ fn sequence_keeps_members(rt: HostRuntime) -> Result<(), Fail> {
 fn text_keeps_characters(rt: HostRuntime) -> Result<(), Fail> {
     let text = Text::of(rt.alloc(), "Zürich ✂")?;
     assert_eq!(rt; text.as_str(), "Zürich ✂");
-    let again = Text::from_string(text.into_string());
+    let long = Text::of(rt.alloc(), "Überblendung am Kai")?;
+    assert_eq!(rt; long.as_str(), "Überblendung am Kai");
+    assert_eq!(rt;
+        long.into_string(rt.alloc())?.as_str(),
+        "Überblendung am Kai"
+    );
+    let again = Text::from_string(text.into_string(rt.alloc())?);
     assert_eq!(rt; again.as_str(), "Zürich ✂");
     Ok(())
 }

@@ -1,17 +1,14 @@
 -- Frame numbers and labels.
-use Rattle.std.proofs.Common.{◌≡◌, ℕ, zero, suc, ◌/◌, ◌%◌, ◌<◌, ◌≤◌, Bool, true, false, not, ◌&&◌, ◌==◌, nat_lt, List, [], ◌∷◌, length, slice_get, Some, option_map, All, refl, sym, ap, ◌∙◌, arith, subst}
-use Rattle.std.proofs.lemmas.Option.{slice_get-map, slice_get_within}
+use Rattle.std.proofs.Common.{◌≡◌, ℕ, zero, suc, ◌<◌, ◌≤◌, Bool, true, false, ◌==◌, List, [], ◌∷◌, length, slice_get, Some, option_map, All, if◌then◌else◌, refl, sym, ap, ◌∙◌, arith, subst}
+use Rattle.std.proofs.lemmas.Option.{slice_get-map}
 use Rattle.std.proofs.lemmas.List.Elements.{All-from_recursion}
-use Rattle.std.proofs.lemmas.Bool.Decides.{nat_tests}
 use Rattle.smpte_tc.specs.declared.address.TimeAddress.{TimeAddress}
 use Rattle.smpte_tc.specs.declared.modes.Mode.{Mode}
-use Rattle.smpte_tc.specs.Day.{address, is_counted, counted_of, labels_with, spelled, tens, units, mark_of, IsLabel, IsLabelWith}
+use Rattle.smpte_tc.specs.Day.{address, counted_of, labels_with, spelled, tens, units, mark_of, IsLabel, IsLabelWith}
 use Rattle.smpte_tc.specs.Modes.{IsMode}
-use Rattle.smpte_tc.specs.Film.{film, IsLabel24}
-use Rattle.smpte_tc.specs.Spelling.{IsInDay}
+use Rattle.smpte_tc.specs.Laws.{IsPlain}
 use Rattle.smpte_tc.proofs.Lists.{option_from_map}
-use Rattle.smpte_tc.proofs.Counting.{place_of}
-use Rattle.smpte_tc.proofs.Dropping.{IsCountedAt, counted_at, counted_from, day_count}
+use Rattle.smpte_tc.proofs.Dropping.{counted_from}
 
 -- a label, with the time address that it spells
 pub record Spells (mark : ℕ) (mode : Mode) (n : ℕ) (bytes : List ℕ) (a : TimeAddress) : Type 0 where
@@ -68,90 +65,46 @@ number_is_one mark other mode m n bytes some fewer p q =
     let same : one.0 ≡ two.0 = same_address one.0 two.0 mark other (sym one.1.text ∙ two.1.text) in
     one_number mode m n two.0 some fewer (one.1.there ∙ ap Some same) two.1.there
 
--- at 24 frames a second
+-- a digit, ':' or ';'
 
-pub film_counts : (a : TimeAddress) → is_counted film a ≡ true
-film_counts a = unless (a.seconds == 0) (nat_lt a.frames 0) (not (a.minutes % 10 == 0)) (none_below a.frames)
-  where
-    none_below : (n : ℕ) → nat_lt n 0 ≡ false
-    none_below n = grind (arith, nat_tests)
+tens_plain : (n : ℕ) → n < 100 → IsPlain (tens n)
+tens_plain n h = (omega arith, omega arith)
 
-    unless : (p q r : Bool) → q ≡ false → not ((p && q) && r) ≡ true
-    unless true true r e = cc
-    unless true false r e = refl
-    unless false q r e = refl
+units_plain : (n : ℕ) → IsPlain (units n)
+units_plain n = (omega arith, omega arith)
 
--- an address of the day stands at its number
-pub film_at : (n : ℕ) (a : TimeAddress) → IsInDay 24 a → n ≡ place_of 24 a → slice_get (counted_of film) n ≡ Some a
-film_at n a inside place = counted_at film n a (omega arith) (omega arith) (record { inside = inside; counted = film_counts a; place = omega (arith, place) })
-
-pub film_from : (n : ℕ) (a : TimeAddress) → slice_get (counted_of film) n ≡ Some a → IsCountedAt film n a
-film_from n a there = counted_from film n a (omega arith) (omega arith) there
-
-tens_is : (n : ℕ) → n < 100 → (48 ≤ tens n) × (tens n ≤ 58)
-tens_is n h = (omega arith, omega arith)
-
-units_is : (n : ℕ) → (48 ≤ units n) × (units n ≤ 58)
-units_is n = (omega arith, omega arith)
-
-spelled_bytes : (a : TimeAddress) → IsInDay 24 a → All (λ b. (48 ≤ b) × (b ≤ 58)) (spelled 58 a)
-spelled_bytes a inside =
-    let P : ℕ → Type 0 = λ b. (48 ≤ b) × (b ≤ 58) in
-    let colon : P 58 = (omega arith, omega arith) in
-    All-from_recursion P (spelled 58 a) (
-      tens_is a.hours (omega (arith, inside.hours)),
+spelled_plain : (mark : ℕ) (a : TimeAddress) → IsPlain mark → a.hours < 100 → a.minutes < 100 → a.seconds < 100 → a.frames < 100 → All IsPlain (spelled mark a)
+spelled_plain mark a marked h m s f =
+    let colon : IsPlain 58 = (omega arith, omega arith) in
+    All-from_recursion IsPlain (spelled mark a) (
+      tens_plain a.hours h,
       (
-        units_is a.hours,
+        units_plain a.hours,
         (
           colon,
           (
-            tens_is a.minutes (omega (arith, inside.minutes)),
-            (
-              units_is a.minutes,
-              (
-                colon,
-                (tens_is a.seconds (omega (arith, inside.seconds)), (units_is a.seconds, (colon, (tens_is a.frames (omega (arith, inside.frames)), (units_is a.frames, tt))))),
-              ),
-            ),
+            tens_plain a.minutes m,
+            (units_plain a.minutes, (colon, (tens_plain a.seconds s, (units_plain a.seconds, (marked, (tens_plain a.frames f, (units_plain a.frames, tt))))))),
           ),
         ),
       ),
     )
 
--- each label has one frame number
-pub number_unique : (m n : ℕ) (bytes : List ℕ) → IsLabel24 m bytes → IsLabel24 n bytes → m ≡ n
-number_unique m n bytes p q = number_is_one 58 58 film m n bytes (omega arith) (omega arith) p q
-
--- each frame number has one label
-pub label_unique : (n : ℕ) (a b : List ℕ) → IsLabel24 n a → IsLabel24 n b → a ≡ b
-label_unique n a b p q =
-    let same : Some a ≡ Some b = sym p.stands ∙ q.stands in
-    cc
-
--- a frame number lies below the count of the day
-pub number_below : (n : ℕ) (bytes : List ℕ) → IsLabel24 n bytes → n < 2073600
-number_below n bytes label =
-    let found = counted_by_label 58 film n bytes label in
-    let short : n < length (counted_of film) = slice_get_within (counted_of film) n found.0 found.1.there in
-    omega (arith, short, day_count film (omega arith) (omega arith))
-
--- each number below the count of the day has a label
-pub label_there : (n : ℕ) → n < 2073600 → (bytes : List ℕ) × IsLabel24 n bytes
-label_there n h =
-    let a = address (n / 86400) (n / 1440 % 60) (n / 24 % 60) (n % 24) in
-    let inside : IsInDay 24 a = record { hours = omega arith; minutes = omega arith; seconds = omega arith; frames = omega arith } in
-    (spelled 58 a, label_of_counted 58 film n (spelled 58 a) a (record { there = film_at n a inside (omega arith); text = refl }))
-
 -- a label has eleven bytes
-pub label_eleven : (n : ℕ) (bytes : List ℕ) → IsLabel24 n bytes → length bytes ≡ 11
-label_eleven n bytes label = ap length (counted_by_label 58 film n bytes label).1.text
+pub label_eleven : (mark : ℕ) (mode : Mode) (n : ℕ) (bytes : List ℕ) → IsLabelWith mark mode n bytes → length bytes ≡ 11
+label_eleven mark mode n bytes label = ap length (counted_by_label mark mode n bytes label).1.text
 
--- each byte of a label is a digit or ':'
-pub label_bytes : (n : ℕ) (bytes : List ℕ) → IsLabel24 n bytes → All (λ b. (48 ≤ b) × (b ≤ 58)) bytes
-label_bytes n bytes label =
-    let found = counted_by_label 58 film n bytes label in
-    let all : All (λ b. (48 ≤ b) × (b ≤ 58)) (spelled 58 found.0) = spelled_bytes found.0 (film_from n found.0 found.1.there).inside in
-    subst (All (λ b. (48 ≤ b) × (b ≤ 58))) (sym found.1.text) all
+-- each byte of a label is a digit, ':' or ';', where its mark is
+pub label_plain : (mark : ℕ) (mode : Mode) (n : ℕ) (bytes : List ℕ) → IsMode mode → IsPlain mark → IsLabelWith mark mode n bytes → All IsPlain bytes
+label_plain mark mode n bytes fair marked label =
+    let found = counted_by_label mark mode n bytes label in
+    let inside = (counted_from mode n found.0 fair.some fair.fewer found.1.there).inside in
+    let all : All IsPlain (spelled mark found.0) = spelled_plain mark found.0 marked (omega (arith, inside.hours)) (omega (arith, inside.minutes)) (omega (arith, inside.seconds)) (omega (arith, inside.frames, fair.small)) in
+    subst (All IsPlain) (sym found.1.text) all
+
+mark_plain : (none : Bool) → IsPlain (if none then 58 else 59)
+mark_plain true = (omega arith, omega arith)
+mark_plain false = (omega arith, omega arith)
 
 -- the laws of every mode
 
@@ -172,3 +125,9 @@ labels_unique m fair n a b p q =
 
 pub numbers_unique : (m : Mode) → IsMode m → (k n : ℕ) (bytes : List ℕ) → IsLabel m k bytes → IsLabel m n bytes → k ≡ n
 numbers_unique m fair k n bytes p q = number_is_one (mark_of m) (mark_of m) m k n bytes fair.some fair.fewer p q
+
+pub bytes_eleven : (m : Mode) → IsMode m → (n : ℕ) (bytes : List ℕ) → IsLabel m n bytes → length bytes ≡ 11
+bytes_eleven m fair n bytes label = label_eleven (mark_of m) m n bytes label
+
+pub bytes_plain : (m : Mode) → IsMode m → (n : ℕ) (bytes : List ℕ) → IsLabel m n bytes → All IsPlain bytes
+bytes_plain m fair n bytes label = label_plain (mark_of m) m n bytes fair (mark_plain (m.dropped == 0)) label

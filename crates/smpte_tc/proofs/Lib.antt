@@ -4,5 +4,7 @@ pub mod Dropping
 pub mod Labels
 pub mod Spellings
 pub mod Minutes
+pub mod Once
 pub mod Rounds
+pub mod Written
 pub mod Coprime

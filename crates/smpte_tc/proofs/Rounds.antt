@@ -1,21 +1,20 @@
 -- Reading what was written, and writing what was read.
-use Rattle.std.proofs.Common.{◌≡◌, ◌==◌, ℕ, ℤ, pos, ◌≤◌, ◌<◌, ◌≤ℤ◌, Bool, true, false, cond, Option, Some, None, Result, Ok, Err, MatchResult, List, length, slice_get, slice_index, slice_set, nat_le, unsigned_abs, if◌then◌else◌, true≢false, not, inl, inr, refl, sym, ap, subst, ◌∙◌, arith}
+use Rattle.std.proofs.Common.{◌≡◌, ◌==◌, ℕ, ℤ, pos, ◌≤◌, ◌<◌, ◌≤ℤ◌, Bool, true, false, cond, Option, Some, None, Result, Ok, Err, List, length, slice_get, slice_set, nat_le, unsigned_abs, if◌then◌else◌, refl, sym, ap, subst, ◌∙◌, arith}
 use Rattle.std.proofs.lemmas.Int.{ints}
 use Rattle.std.proofs.lemmas.Option.{slice_get_within}
 use Rattle.std.proofs.lemmas.Bool.Decides.{nat_tests}
 use Rattle.tick_time.specs.declared.rates.Rate.{Rate}
 use Rattle.tick_time.specs.Rates.{nominal, relative_count}
-use Rattle.smpte_tc.specs.declared.address.TimeAddress.{TimeAddress}
 use Rattle.smpte_tc.specs.declared.modes.Mode.{Mode}
 use Rattle.smpte_tc.specs.declared.faults.TcFault.{TcFault}
 use Rattle.smpte_tc.specs.declared.faults.TcFault.TheVariants.{Form, Field, Dropped, Day, NoTimecode}
-use Rattle.smpte_tc.specs.Day.{counted_of, is_left_out, spelled, mark_of}
+use Rattle.smpte_tc.specs.Day.{counted_of, spelled, mark_of}
 use Rattle.smpte_tc.specs.Modes.{mode, mode_of, plain_mode, IsMode}
-use Rattle.smpte_tc.specs.Spelling.{IsInDay}
-use Rattle.smpte_tc.specs.Answers.{ninth, IsMark, Says, means_drop, Reads, ReadsAt, Writes, WritesAt, ReadsWritten, WritesRead}
+use Rattle.smpte_tc.specs.Answers.{ninth, means_drop, ReadsAt, WritesAt, ReadsWritten, WritesRead}
 use Rattle.smpte_tc.proofs.Lists.{option_from_map}
-use Rattle.smpte_tc.proofs.Dropping.{counted_from, day_count}
-use Rattle.smpte_tc.proofs.Labels.{counted_by_label, same_address, number_is_one, one_address}
+use Rattle.smpte_tc.proofs.Dropping.{day_count}
+use Rattle.smpte_tc.proofs.Labels.{counted_by_label, one_address}
+use Rattle.smpte_tc.proofs.Once.{label_ninth, written_reads, one_reading}
 
 -- a count from 1 to 60
 record IsCount (n : ℤ) : Type 0 where
@@ -54,9 +53,9 @@ count_within num den n positive h =
     h
 
 -- a mode with its mark
-record IsMarked (byte : ℕ) (m : Mode) : Type 0 where
-  fair : IsMode m
-  mark : mark_of m ≡ byte
+pub record IsMarked (byte : ℕ) (m : Mode) : Type 0 where
+  pub fair : IsMode m
+  pub mark : mark_of m ≡ byte
 
 drop_is : (p q r : Bool) (m : Mode) → cond p (cond q (Some (mode 30 2)) (cond r (Some (mode 60 4)) None)) None ≡ Some m → IsMarked 59 m
 drop_is true true r m h = let same : mode 30 2 ≡ m = cc in subst (IsMarked 59) same (record { fair = record { some = omega arith; small = omega arith; fewer = omega arith }; mark = refl })
@@ -70,70 +69,31 @@ plain_is num den m positive h =
     let count = count_within num den found.0 positive found.1 in
     subst (IsMarked 58) (sym found.2) (record { fair = record { some = count.some; small = count.small; fewer = omega arith }; mark = refl })
 
-abbrev written_mark : Bool → ℕ
+abbrev pub written_mark : Bool → ℕ
 written_mark drop = if drop then 59 else 58
 
-mode_is : (rate : Rate) (drop : Bool) (m : Mode) → mode_of rate drop ≡ Some m → IsMarked (written_mark drop) m
+pub mode_is : (rate : Rate) (drop : Bool) (m : Mode) → mode_of rate drop ≡ Some m → IsMarked (written_mark drop) m
 mode_is rate true m h = drop_is (unsigned_abs rate.den == 1001) (unsigned_abs rate.num == 30000) (unsigned_abs rate.num == 60000) m h
 mode_is rate false m h = plain_is rate.num rate.den m (omega (arith, ints, rate.positive, rate.at_least_one)) h
 
 -- the mark that is written means what was asked for
-means_same : (drop : Bool) (bytes : List ℕ) → ninth bytes ≡ written_mark drop → means_drop bytes drop ≡ drop
+pub means_same : (drop : Bool) (bytes : List ℕ) → ninth bytes ≡ written_mark drop → means_drop bytes drop ≡ drop
 means_same true bytes e = refl
 means_same false bytes e = ap (λ b. b == 59) e
-
-is_mark : (drop : Bool) (byte : ℕ) → byte ≡ written_mark drop → IsMark byte
-is_mark true byte e = inr e
-is_mark false byte e = inl e
-
-same_said : (bytes : List ℕ) (mark : ℕ) (a b : TimeAddress) → bytes ≡ spelled mark a → Says bytes b → b ≡ a
-same_said bytes mark a b text says = same_address b a (ninth bytes) mark (sym says.spelling.text ∙ text)
-
-read_mode : (m : Mode) (n : ℤ) (bytes : List ℕ) (drop : Bool) → IsMarked (written_mark drop) m → Writes m n (Ok bytes) → (r : Result ℤ TcFault) → Reads m bytes r
-    → MatchResult r (λ k. k ≡ n) (λ fault. ⊥)
-read_mode m n bytes drop fair wrote (Ok k) reads =
-    let same : reads.0 ≡ wrote.0 = number_is_one (ninth bytes) (mark_of m) m reads.0 wrote.0 bytes fair.fair.some fair.fair.fewer reads.3 wrote.2 in
-    reads.1 ∙ ap pos same ∙ sym wrote.1
-read_mode m n bytes drop fair wrote (Err Form) reads =
-    let found = counted_by_label (mark_of m) m wrote.0 bytes wrote.2 in
-    let at = counted_from m wrote.0 found.0 fair.fair.some fair.fair.fewer found.1.there in
-    let nine : ninth bytes ≡ mark_of m = ap (λ b. slice_index b 8) found.1.text in
-    reads found.0 (record {
-      mark = is_mark drop (ninth bytes) (nine ∙ fair.mark);
-      spelling = record {
-        text = found.1.text ∙ ap (λ k. spelled k found.0) (sym nine);
-        hours = omega (arith, at.inside.hours);
-        minutes = omega (arith, at.inside.minutes);
-        seconds = omega (arith, at.inside.seconds);
-        frames = omega (arith, at.inside.frames, fair.fair.small);
-      };
-    })
-read_mode m n bytes drop fair wrote (Err Field) reads =
-    let found = counted_by_label (mark_of m) m wrote.0 bytes wrote.2 in
-    let at = counted_from m wrote.0 found.0 fair.fair.some fair.fair.fewer found.1.there in
-    let same : reads.0 ≡ found.0 = same_said bytes (mark_of m) found.0 reads.0 found.1.text reads.1 in
-    reads.2 (subst (IsInDay m.nominal) (sym same) at.inside)
-read_mode m n bytes drop fair wrote (Err Dropped) reads =
-    let found = counted_by_label (mark_of m) m wrote.0 bytes wrote.2 in
-    let at = counted_from m wrote.0 found.0 fair.fair.some fair.fair.fewer found.1.there in
-    let same : reads.0 ≡ found.0 = same_said bytes (mark_of m) found.0 reads.0 found.1.text reads.1 in
-    let gone : is_left_out m found.0 ≡ true = sym (ap (is_left_out m) same) ∙ reads.3 in
-    true≢false (sym at.counted ∙ ap (λ b. not b) gone)
-read_mode m n bytes drop fair wrote (Err Day) reads = reads
-read_mode m n bytes drop fair wrote (Err NoTimecode) reads = reads
 
 -- by the mode of the rate
 read_by : (o : Option Mode) (n : ℤ) (bytes : List ℕ) (drop : Bool) → ((m : Mode) → o ≡ Some m → IsMarked (written_mark drop) m) → WritesAt o n (Ok bytes) → (r : Result ℤ TcFault) → ReadsAt o bytes r
     → ReadsWritten o n r
-read_by None n bytes drop fair wrote r reads = cc
-read_by (Some m) n bytes drop fair wrote (Ok k) reads = (read_mode m n bytes drop (fair m refl) wrote (Ok k) reads, (bytes, wrote))
-read_by (Some m) n bytes drop fair wrote (Err fault) reads = absurd (read_mode m n bytes drop (fair m refl) wrote (Err fault) reads)
+read_by o n bytes drop fair wrote r reads =
+    let same = one_reading o bytes (Ok n) r (λ m e. (fair m e).fair) (written_reads o n bytes wrote) reads in
+    subst (ReadsWritten o n) same (refl, (bytes, wrote))
+
+pub ninth_by : (o : Option Mode) (n : ℤ) (bytes : List ℕ) (drop : Bool) → ((m : Mode) → o ≡ Some m → IsMarked (written_mark drop) m) → WritesAt o n (Ok bytes) → ninth bytes ≡ written_mark drop
+ninth_by None n bytes drop fair wrote = cc
+ninth_by (Some m) n bytes drop fair wrote = label_ninth (mark_of m) m wrote.0 bytes wrote.2 ∙ (fair m refl).mark
 
 meant_by : (o : Option Mode) (n : ℤ) (bytes : List ℕ) (drop : Bool) → ((m : Mode) → o ≡ Some m → IsMarked (written_mark drop) m) → WritesAt o n (Ok bytes) → means_drop bytes drop ≡ drop
-meant_by None n bytes drop fair wrote = cc
-meant_by (Some m) n bytes drop fair wrote =
-    let found = counted_by_label (mark_of m) m wrote.0 bytes wrote.2 in
-    means_same drop bytes (ap (λ b. slice_index b 8) found.1.text ∙ (fair m refl).mark)
+meant_by o n bytes drop fair wrote = means_same drop bytes (ninth_by o n bytes drop fair wrote)
 
 -- what is read from the label of a number is that number
 pub read_back : (rate : Rate) (drop : Bool) (n : ℤ) (bytes : List ℕ) (r : Result ℤ TcFault) → WritesAt (mode_of rate drop) n (Ok bytes) → ReadsAt (mode_of rate (means_drop bytes drop)) bytes r

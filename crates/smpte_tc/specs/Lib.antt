@@ -1,5 +1,4 @@
 pub mod Day
-pub mod Film
 pub mod Spelling
 pub mod Laws
 pub mod Modes

@@ -4,7 +4,6 @@
 mod address;
 mod counts;
 mod faults;
-mod film;
 mod laws;
 mod modes;
 #[cfg(test)]
@@ -12,9 +11,8 @@ mod tests;
 mod timecode;
 
 pub use faults::TcFault;
-pub use film::{label24, read24};
 pub use laws::{
-    bytes_of_labels24, counts_of_days, labels_of_numbers, labels_of_numbers24, numbers_of_labels,
-    numbers_of_labels24, read_written, read_written24, write_read, write_read24,
+    bytes_of_labels, counts_of_days, labels_of_numbers, labels_read_again, numbers_of_labels,
+    one_answer, read_written, write_read,
 };
 pub use timecode::{label, read};

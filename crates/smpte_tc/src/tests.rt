@@ -2,7 +2,7 @@
 ghost use Rattle.std.specs.Prelude.{◌≡◌, ◌<◌, ◌≤◌, ◌*◌, ◌%◌, ◌≤ℤ◌, pos, unsigned_abs, IsTrue};
 ghost use Rattle.tick_time.specs.Rates.{is_rate, per_millionth};
 
-use crate::{TcFault, label, label24, read, read24};
+use crate::{TcFault, label, read};
 use std::process::Abort;
 use tick_time::Rate;
 
@@ -19,47 +19,54 @@ const KNOWN: [(&[u8; 11], i64); 8] = [
 ];
 
 /// Bytes that are no label of a day at 24 frames a second.
-const NONE: [&str; 15] = [
-    "",
-    "24:00:00:00",
-    "00:60:00:00",
-    "00:00:60:00",
-    "00:00:00:24",
-    "99:99:99:99",
-    "00:00:00;00",
-    "00;00:00:00",
-    "00:00.00:00",
-    "00:00:00:0",
-    "00:00:00:000",
-    "0a:00:00:00",
-    "00:00:00:0:",
-    "00:00:00: 0",
-    "-1:00:00:00",
+const NONE: [(&str, TcFault); 15] = [
+    ("", TcFault::Form),
+    ("24:00:00:00", TcFault::Field),
+    ("00:60:00:00", TcFault::Field),
+    ("00:00:60:00", TcFault::Field),
+    ("00:00:00:24", TcFault::Field),
+    ("99:99:99:99", TcFault::Field),
+    ("00:00:00;00", TcFault::NoTimecode),
+    ("00;00:00:00", TcFault::Form),
+    ("00:00.00:00", TcFault::Form),
+    ("00:00:00:0", TcFault::Form),
+    ("00:00:00:000", TcFault::Form),
+    ("0a:00:00:00", TcFault::Form),
+    ("00:00:00:0:", TcFault::Form),
+    ("00:00:00: 0", TcFault::Form),
+    ("-1:00:00:00", TcFault::Form),
 ];
 
 #[test]
+#[tactic(auto, unfolding(tick_time::specs::Rates::is_rate))]
 fn known_labels(rt: HostRuntime) {
+    let film = whole_rate(24);
     for (text, number) in KNOWN.iter() {
-        assert_eq!(rt; read24(text.as_slice()), Some(*number));
-        assert!(rt; 0 <= *number && *number < 2_073_600);
-        assert_eq!(rt; label24(*number).as_slice(), text.as_slice());
+        assert_eq!(rt; read(text.as_slice(), film, false), Ok(*number));
+        assert_eq!(rt; label(*number, film, false), Ok(**text));
     }
 }
 
 #[test]
+#[tactic(auto, unfolding(tick_time::specs::Rates::is_rate))]
 fn no_labels(rt: HostRuntime) {
-    for text in NONE.iter() {
-        assert_eq!(rt; read24(text.as_bytes()), None);
+    let film = whole_rate(24);
+    for (text, fault) in NONE.iter() {
+        assert_eq!(rt; read(text.as_bytes(), film, false), Err(*fault));
     }
 }
 
 /// Each second of a day, at a frame that moves on with it.
 #[test]
+#[tactic(auto, unfolding(tick_time::specs::Rates::is_rate))]
 fn each_second_of_a_day(rt: HostRuntime) {
+    let film = whole_rate(24);
     for second in 0..86_400u32 {
         let number = i64::from(second * 24 + second % 24);
-        let label = label24(number);
-        assert_eq!(rt; read24(label.as_slice()), Some(number));
+        match label(number, film, false) {
+            Ok(text) => assert_eq!(rt; read(text.as_slice(), film, false), Ok(number)),
+            Err(_) => assert!(rt; false, "no label"),
+        }
     }
 }
 

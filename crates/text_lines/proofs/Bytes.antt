@@ -1,10 +1,10 @@
--- What the bytes of the lines of a text and of the fields of a line are.
-use Rattle.std.proofs.Common.{◌≡◌, ◌==◌, ℕ, Bool, List, [], ◌∷◌, true, false, All, refl}
+-- What the bytes of the fields of a line are.
+use Rattle.std.proofs.Common.{◌≡◌, ℕ, Bool, List, [], ◌∷◌, true, false, All, refl}
 use Rattle.std.specs.List.{slice_split, onto_first, AllByRecursion}
 use Rattle.std.proofs.lemmas.List.Elements.{All-nil, All-cons, All-head, All-tail, All-filter, All-from_recursion, filter_passes}
 use Rattle.std.proofs.lemmas.List.Splits.{slice_split-cons_yes, slice_split-cons_no}
-use Rattle.text_lines.specs.First.{HasNone}
-use Rattle.text_lines.specs.Lines.{lines_of, fields_of, is_field}
+use Rattle.text_lines.specs.First.{HasNoBlank, is_blank}
+use Rattle.text_lines.specs.Lines.{fields_of, is_field}
 
 -- each part has only such bytes
 abbrev EachPart : (ℕ → Type 0) → List (List ℕ) → Type 0
@@ -30,25 +30,17 @@ within : (P : ℕ → Type 0) (p : ℕ → Bool) (bytes : List ℕ) → All P by
 within P p [] h = (All-nil P, tt)
 within P p (b ∷ bs) h = within_by P p b bs (p b) refl (All-head P b bs h) (within P p bs (All-tail P b bs h))
 
--- no line of a text has a line feed
-pub lines_without_feed : (bytes : List ℕ) → All (λ line. HasNone 10 line) (lines_of bytes)
-lines_without_feed bytes = All-from_recursion (λ line. HasNone 10 line) (lines_of bytes) (without (λ b. b == 10) bytes)
-
--- what holds of each byte of a text holds of each byte of each line
-pub all_lines : (P : ℕ → Type 0) (bytes : List ℕ) → All P bytes → All (λ line. All P line) (lines_of bytes)
-all_lines P bytes h = All-from_recursion (λ line. All P line) (lines_of bytes) (within P (λ b. b == 10) bytes h)
-
--- no field of a line has a space
-pub fields_without_space : (line : List ℕ) → All (λ field. HasNone 32 field) (fields_of line)
+-- no field of a line has a space or a tab
+pub fields_without_blank : (line : List ℕ) → All (λ field. HasNoBlank field) (fields_of line)
 unfolding fields_of
-fields_without_space line = All-filter is_field (λ field. HasNone 32 field) (slice_split (λ b. b == 32) line) (All-from_recursion (λ field. HasNone 32 field) _ (without (λ b. b == 32) line))
+fields_without_blank line = All-filter is_field (λ field. HasNoBlank field) (slice_split is_blank line) (All-from_recursion (λ field. HasNoBlank field) _ (without is_blank line))
 
 -- what holds of each byte of a line holds of each byte of each field
 pub all_fields : (P : ℕ → Type 0) (line : List ℕ) → All P line → All (λ field. All P field) (fields_of line)
 unfolding fields_of
-all_fields P line h = All-filter is_field (λ field. All P field) (slice_split (λ b. b == 32) line) (All-from_recursion (λ field. All P field) _ (within P (λ b. b == 32) line h))
+all_fields P line h = All-filter is_field (λ field. All P field) (slice_split is_blank line) (All-from_recursion (λ field. All P field) _ (within P is_blank line h))
 
 -- no field of a line is empty
 pub fields_not_empty : (line : List ℕ) → All (λ field. is_field field ≡ true) (fields_of line)
 unfolding fields_of
-fields_not_empty line = filter_passes is_field (slice_split (λ b. b == 32) line)
+fields_not_empty line = filter_passes is_field (slice_split is_blank line)

@@ -1,53 +1,53 @@
--- The text without the spaces at its ends.
-use Rattle.std.proofs.Common.{◌≡◌, ◌+◌, ◌-◌, ◌<◌, ◌≤◌, ◌==◌, ℕ, Bool, List, [], ◌∷◌, ◌++◌, true, false, All, reverse, take, drop, length, get_or, refl, sym, ap, subst, ◌∙◌, length-append, arith}
+-- The text without the blanks at its ends.
+use Rattle.std.proofs.Common.{◌≡◌, ◌+◌, ◌-◌, ◌<◌, ◌≤◌, ℕ, Bool, List, [], ◌∷◌, ◌++◌, true, false, All, reverse, take, drop, length, get_or, refl, sym, ap, subst, ◌∙◌, length-append, arith}
 use Rattle.std.proofs.lemmas.Grind.{common_steps}
 use Rattle.std.proofs.Math.Seq.{drop-append_seam, take-append_seam}
 use Rattle.std.proofs.lemmas.List.{reverse-append, reverse-reverse, take_more}
-use Rattle.std.proofs.lemmas.List.Elements.{All-same, All-take, All-drop}
-use Rattle.text_lines.specs.First.{begins_with_space}
+use Rattle.std.proofs.lemmas.List.Elements.{All-same, All-take, All-drop, All-head, All-tail, All-nil, All-cons}
+use Rattle.text_lines.specs.First.{is_blank, AreBlanks, begins_with_blank}
 use Rattle.text_lines.specs.Lines.{trimmed_front, trimmed, IsTight}
 
--- a space at the front is left out
-pub front_skips : (text : List ℕ) → begins_with_space text ≡ true → trimmed_front (drop 1 text) ≡ trimmed_front text
+-- a blank at the front is left out
+pub front_skips : (text : List ℕ) → begins_with_blank text ≡ true → trimmed_front (drop 1 text) ≡ trimmed_front text
 unfolding trimmed_front
 front_skips [] h = cc
 front_skips (b ∷ bs) h = rw h refl
 
--- a text that begins with no space is left as it is
-pub front_stays : (text : List ℕ) → begins_with_space text ≡ false → trimmed_front text ≡ text
+-- a text that begins with no blank is left as it is
+pub front_stays : (text : List ℕ) → begins_with_blank text ≡ false → trimmed_front text ≡ text
 unfolding trimmed_front
 front_stays [] h = refl
 front_stays (b ∷ bs) h = rw h refl
 
-front_tight_by : (b : ℕ) (bs : List ℕ) (t : Bool) → (b == 32) ≡ t → begins_with_space (trimmed_front bs) ≡ false → begins_with_space (trimmed_front (b ∷ bs)) ≡ false
+front_tight_by : (b : ℕ) (bs : List ℕ) (t : Bool) → is_blank b ≡ t → begins_with_blank (trimmed_front bs) ≡ false → begins_with_blank (trimmed_front (b ∷ bs)) ≡ false
 unfolding trimmed_front
 front_tight_by b bs true e h = rw e h
 front_tight_by b bs false e h = rw e e
 
--- no space stands at the front of what is left
-pub front_tight : (text : List ℕ) → begins_with_space (trimmed_front text) ≡ false
+-- no blank stands at the front of what is left
+pub front_tight : (text : List ℕ) → begins_with_blank (trimmed_front text) ≡ false
 unfolding trimmed_front
 front_tight [] = refl
-front_tight (b ∷ bs) = front_tight_by b bs (b == 32) refl (front_tight bs)
+front_tight (b ∷ bs) = front_tight_by b bs (is_blank b) refl (front_tight bs)
 
 -- what is left out of a text at its front
 abbrev FrontLeft : List ℕ → Type 0
 FrontLeft text = (front : List ℕ) × (text ≡ front ++ trimmed_front text)
 
-front_left_by : (b : ℕ) (bs : List ℕ) (t : Bool) → (b == 32) ≡ t → FrontLeft bs → FrontLeft (b ∷ bs)
+front_left_by : (b : ℕ) (bs : List ℕ) (t : Bool) → is_blank b ≡ t → FrontLeft bs → FrontLeft (b ∷ bs)
 front_left_by b bs true e h = (b ∷ h.0, ap (λ l. b ∷ l) h.1 ∙ ap (λ l. b ∷ (h.0 ++ l)) (front_skips (b ∷ bs) e))
 front_left_by b bs false e h = ([], sym (front_stays (b ∷ bs) e))
 
 front_left : (text : List ℕ) → FrontLeft text
 unfolding trimmed_front
 front_left [] = ([], refl)
-front_left (b ∷ bs) = front_left_by b bs (b == 32) refl (front_left bs)
+front_left (b ∷ bs) = front_left_by b bs (is_blank b) refl (front_left bs)
 
-begins_before : (xs ys : List ℕ) → begins_with_space (xs ++ ys) ≡ false → begins_with_space xs ≡ false
+begins_before : (xs ys : List ℕ) → begins_with_blank (xs ++ ys) ≡ false → begins_with_blank xs ≡ false
 begins_before [] ys h = refl
 begins_before (x ∷ xs) ys h = h
 
--- the text without the spaces at its back
+-- the text without the blanks at its back
 abbrev trimmed_back : List ℕ → List ℕ
 trimmed_back text = reverse (trimmed_front (reverse text))
 
@@ -56,31 +56,31 @@ back_left text =
     let h = front_left (reverse text) in
     (reverse h.0, sym (reverse-reverse text) ∙ ap reverse h.1 ∙ reverse-append h.0 (trimmed_front (reverse text)))
 
--- a text that begins with no space still begins with none once its back is trimmed
-back_keeps_front : (text : List ℕ) → begins_with_space text ≡ false → begins_with_space (trimmed_back text) ≡ false
+-- a text that begins with no blank still begins with none once its back is trimmed
+back_keeps_front : (text : List ℕ) → begins_with_blank text ≡ false → begins_with_blank (trimmed_back text) ≡ false
 back_keeps_front text h =
     let b = back_left text in
-    begins_before (trimmed_back text) b.0 (subst (λ l. begins_with_space l ≡ false) b.1 h)
+    begins_before (trimmed_back text) b.0 (subst (λ l. begins_with_blank l ≡ false) b.1 h)
 
--- no space stands at the front of a trimmed text
-pub trimmed_begins : (text : List ℕ) → begins_with_space (trimmed text) ≡ false
+-- no blank stands at the front of a trimmed text
+pub trimmed_begins : (text : List ℕ) → begins_with_blank (trimmed text) ≡ false
 trimmed_begins text = back_keeps_front (trimmed_front text) (front_tight text)
 
--- no space stands at the back of a trimmed text
-pub trimmed_ends : (text : List ℕ) → begins_with_space (reverse (trimmed text)) ≡ false
+-- no blank stands at the back of a trimmed text
+pub trimmed_ends : (text : List ℕ) → begins_with_blank (reverse (trimmed text)) ≡ false
 trimmed_ends text = rw (reverse-reverse (trimmed_front (reverse (trimmed_front text)))) (front_tight (reverse (trimmed_front text)))
 
--- a text with no space at either end is left as it is
-pub tight_where : (text : List ℕ) → begins_with_space text ≡ false → begins_with_space (reverse text) ≡ false → trimmed text ≡ text
+-- a text with no blank at either end is left as it is
+pub tight_where : (text : List ℕ) → begins_with_blank text ≡ false → begins_with_blank (reverse text) ≡ false → trimmed text ≡ text
 tight_where text front back = rw (front_stays text front) (rw (front_stays (reverse text) back) (reverse-reverse text))
 
--- a tight text begins with no space
-pub tight_front : (text : List ℕ) → trimmed text ≡ text → begins_with_space text ≡ false
-tight_front text h = subst (λ l. begins_with_space l ≡ false) h (trimmed_begins text)
+-- a tight text begins with no blank
+pub tight_front : (text : List ℕ) → trimmed text ≡ text → begins_with_blank text ≡ false
+tight_front text h = subst (λ l. begins_with_blank l ≡ false) h (trimmed_begins text)
 
--- a tight text ends with no space
-pub tight_back : (text : List ℕ) → trimmed text ≡ text → begins_with_space (reverse text) ≡ false
-tight_back text h = subst (λ l. begins_with_space (reverse l) ≡ false) h (trimmed_ends text)
+-- a tight text ends with no blank
+pub tight_back : (text : List ℕ) → trimmed text ≡ text → begins_with_blank (reverse text) ≡ false
+tight_back text h = subst (λ l. begins_with_blank (reverse l) ≡ false) h (trimmed_ends text)
 
 -- a trimmed text is tight
 pub trimmed_tight : (text : List ℕ) → IsTight (trimmed text)
@@ -120,21 +120,45 @@ last_first : (text : List ℕ) → 0 < length text → reverse text ≡ get_or t
 last_first text h = ap reverse (last_apart text h) ∙ reverse-append (take (length text - 1) text) (get_or text (length text - 1) 0 ∷ [])
 
 -- the last byte of a text is the first of it reversed
-pub last_byte : (text : List ℕ) → 0 < length text → begins_with_space (reverse text) ≡ (get_or text (length text - 1) 0 == 32)
-last_byte text h = ap begins_with_space (last_first text h)
+pub last_byte : (text : List ℕ) → 0 < length text → begins_with_blank (reverse text) ≡ is_blank (get_or text (length text - 1) 0)
+last_byte text h = ap begins_with_blank (last_first text h)
 
 -- an empty text has no last byte
-pub last_none : (text : List ℕ) → length text ≡ 0 → begins_with_space (reverse text) ≡ false
+pub last_none : (text : List ℕ) → length text ≡ 0 → begins_with_blank (reverse text) ≡ false
 last_none [] h = refl
 last_none (b ∷ bs) h = absurd (omega (arith, h))
 
--- a space at the back is left out
-pub back_skips : (text : List ℕ) → begins_with_space (reverse text) ≡ true → trimmed_front (reverse (take (length text - 1) text)) ≡ trimmed_front (reverse text)
+-- a blank at the back is left out
+pub back_skips : (text : List ℕ) → begins_with_blank (reverse text) ≡ true → trimmed_front (reverse (take (length text - 1) text)) ≡ trimmed_front (reverse text)
 back_skips [] h = cc
 back_skips (b ∷ bs) h =
     let some : 0 < length (b ∷ bs) = omega arith in
     sym (ap (λ l. trimmed_front (drop 1 l)) (last_first (b ∷ bs) some)) ∙ front_skips (reverse (b ∷ bs)) h
 
--- a text that ends with no space is left as it is
-pub back_stays : (text : List ℕ) → begins_with_space (reverse text) ≡ false → reverse (trimmed_front (reverse text)) ≡ text
+-- a text that ends with no blank is left as it is
+pub back_stays : (text : List ℕ) → begins_with_blank (reverse text) ≡ false → reverse (trimmed_front (reverse text)) ≡ text
 back_stays text h = rw (front_stays (reverse text) h) (reverse-reverse text)
+
+-- blanks in front of a text that begins with none are left out
+pub front_blanks : (blanks text : List ℕ) → AreBlanks blanks → begins_with_blank text ≡ false → trimmed_front (blanks ++ text) ≡ text
+front_blanks [] text are h = front_stays text h
+front_blanks (b ∷ bs) text are h = sym (front_skips (b ∷ (bs ++ text)) (All-head (λ x. is_blank x ≡ true) b bs are)) ∙ front_blanks bs text (All-tail (λ x. is_blank x ≡ true) b bs are) h
+
+-- what is left out of a text at its front: blanks
+pub record FrontBlanks (text : List ℕ) : Type 0 where
+  pub blanks : List ℕ
+  pub are : AreBlanks blanks
+  pub is : text ≡ blanks ++ trimmed_front text
+
+front_split_by : (b : ℕ) (bs : List ℕ) (t : Bool) → is_blank b ≡ t → FrontBlanks bs → FrontBlanks (b ∷ bs)
+front_split_by b bs true e h = record {
+  blanks = b ∷ h.blanks;
+  are = All-cons (λ x. is_blank x ≡ true) b h.blanks e h.are;
+  is = ap (λ l. b ∷ l) h.is ∙ ap (λ l. b ∷ (h.blanks ++ l)) (front_skips (b ∷ bs) e);
+}
+front_split_by b bs false e h = record { blanks = []; are = All-nil (λ x. is_blank x ≡ true); is = sym (front_stays (b ∷ bs) e) }
+
+-- a text is blanks and the text without them
+pub front_split : (text : List ℕ) → FrontBlanks text
+front_split [] = record { blanks = []; are = All-nil (λ x. is_blank x ≡ true); is = sym (front_stays [] refl) }
+front_split (b ∷ bs) = front_split_by b bs (is_blank b) refl (front_split bs)

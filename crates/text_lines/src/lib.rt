@@ -1,7 +1,8 @@
 //! The lines of a text, the fields of a line, and tests on short texts.
 //!
-//! A line feed, the byte 10, parts two lines, and one or more spaces, the byte 32, part two fields of a line. No function
-//! copies a byte or asks for memory: each gives parts of the slice that it is passed.
+//! A line ends with a line feed, the byte 10, or with a carriage return, the byte 13, and a line feed. One or more blanks,
+//! the space 32 or the tab 9, part two fields of a line. No function copies a byte or asks for memory: each gives parts of
+//! the slice that it is passed.
 #![tactic(auto)]
 
 mod field;
@@ -13,7 +14,7 @@ mod text;
 mod trim;
 
 pub use field::split_field;
-pub use line::split_line;
-pub use part::{after, before, first_byte};
+pub use line::{split_line, strip_return};
+pub use part::{after, before, first_blank, first_byte, is_blank};
 pub use text::{is_text, strip_back, strip_front};
-pub use trim::{is_tight, trim_spaces};
+pub use trim::{trim_blanks, trim_front};

@@ -1,6 +1,6 @@
 // The parts of a slice of bytes before and behind an index, and the index of a byte.
 ghost use Rattle.std.specs.Prelude.{◌≡◌, ◌==◌, ◌≤◌, take, drop, position, length, MatchOption};
-ghost use Rattle.text_lines.specs.First.{HasNone, IsFirst};
+ghost use Rattle.text_lines.specs.First.{HasNone, IsFirst, HasNoBlank, IsFirstBlank, is_blank as blank};
 
 /// The bytes before an index.
 #[inline]
@@ -27,6 +27,31 @@ pub fn first_byte(bytes: &[u8], byte: u8) -> Option<usize>
     ensures { MatchOption result (HasNone byte bytes.now) (IsFirst byte bytes.now) }
 {
     position_of(bytes, byte)
+}
+
+/// The index of the first space or tab; none where no byte is one.
+#[inline]
+#[tactic(auto, using(crate::proofs::Places::first_blank_is))]
+pub fn first_blank(bytes: &[u8]) -> Option<usize>
+    ensures { MatchOption result (HasNoBlank bytes.now) (IsFirstBlank bytes.now) }
+{
+    blank_position(bytes)
+}
+
+/// Whether the byte is a space or a tab.
+#[inline]
+#[tactic(auto, using(crate::proofs::Places::blank_is))]
+pub fn is_blank(byte: u8) -> bool
+    ensures { result ≡ blank byte }
+{
+    byte == b' ' || byte == b'\t'
+}
+
+#[inline]
+fn blank_position(bytes: &[u8]) -> Option<usize>
+    ensures { result ≡ position blank bytes.now }
+{
+    bytes.iter().position(|b| is_blank(*b))
 }
 
 #[inline]

@@ -1,7 +1,7 @@
 // Tables of short texts.
 use crate::{
-    after, before, first_byte, is_text, is_tight, split_field, split_line, strip_back, strip_front,
-    trim_spaces,
+    after, before, first_blank, first_byte, is_blank, is_text, split_field, split_line, strip_back,
+    strip_front, strip_return, trim_blanks, trim_front,
 };
 
 fn is_same(found: Option<&[u8]>, wanted: Option<&str>) -> bool {
@@ -73,6 +73,15 @@ fn strips_a_back(rt: HostRuntime) {
 }
 
 #[test]
+fn finds_the_first_blank(rt: HostRuntime) {
+    assert!(rt; first_blank(b"001 AX") == Some(3));
+    assert!(rt; first_blank(b"\tAX C") == Some(0));
+    assert!(rt; first_blank(b"AX\r").is_none());
+    assert!(rt; is_blank(b' ') && is_blank(b'\t'));
+    assert!(rt; !is_blank(b'\r') && !is_blank(b'\n') && !is_blank(b'a'));
+}
+
+#[test]
 fn splits_lines(rt: HostRuntime) {
     let table = [
         ("", "", None),
@@ -80,7 +89,11 @@ fn splits_lines(rt: HostRuntime) {
         ("one\n", "one", Some("")),
         ("\n", "", Some("")),
         ("\n\ntwo", "", Some("\ntwo")),
-        ("one\r\ntwo\nthree", "one\r", Some("two\nthree")),
+        ("one\r\ntwo\nthree", "one", Some("two\nthree")),
+        ("\r\n", "", Some("")),
+        ("one\r\r\n", "one\r", Some("")),
+        ("one\rtwo\n", "one\rtwo", Some("")),
+        ("one\r", "one\r", None),
     ];
     for (text, line, rest) in table {
         let split = split_line(text.as_bytes());
@@ -90,13 +103,23 @@ fn splits_lines(rt: HostRuntime) {
 }
 
 #[test]
+fn strips_a_return(rt: HostRuntime) {
+    assert!(rt; strip_return(b"one\r") == b"one".as_slice());
+    assert!(rt; strip_return(b"one\r\r") == b"one\r".as_slice());
+    assert!(rt; strip_return(b"\rone") == b"\rone".as_slice());
+    assert!(rt; strip_return(b"").is_empty());
+}
+
+#[test]
 fn splits_fields(rt: HostRuntime) {
     let table = [
         ("001 AX  V", "001", Some("AX  V")),
         ("   AX  V", "AX", Some(" V")),
         ("V", "V", Some("")),
         ("  V  ", "V", Some(" ")),
-        ("a\tb c", "a\tb", Some("c")),
+        ("a\tb c", "a", Some("b c")),
+        (" \t a \tb", "a", Some("\tb")),
+        ("a\r b", "a\r", Some("b")),
     ];
     for (line, field, rest) in table {
         let split = split_field(line.as_bytes());
@@ -104,24 +127,24 @@ fn splits_fields(rt: HostRuntime) {
         assert!(rt; is_same(split.map(|split| split.1), rest), "{line}");
     }
     assert!(rt; split_field(b"").is_none());
-    assert!(rt; split_field(b"   ").is_none());
+    assert!(rt; split_field(b" \t ").is_none());
 }
 
 #[test]
-fn trims_spaces(rt: HostRuntime) {
+fn trims_blanks(rt: HostRuntime) {
     let table = [
-        ("", ""),
-        ("   ", ""),
-        ("a", "a"),
-        ("  a  b ", "a  b"),
-        (" a", "a"),
-        ("a ", "a"),
-        ("\ta ", "\ta"),
+        ("", "", ""),
+        (" \t ", "", ""),
+        ("a", "a", "a"),
+        ("  a \t b ", "a \t b ", "a \t b"),
+        ("\ta\t", "a\t", "a"),
+        ("a \r", "a \r", "a \r"),
     ];
-    for (text, trimmed) in table {
-        let found = trim_spaces(text.as_bytes());
-        assert!(rt; found == trimmed.as_bytes(), "{text}");
-        assert!(rt; is_tight(found), "{text}");
-        assert!(rt; is_tight(text.as_bytes()) == (text == trimmed), "{text}");
+    for (text, front, trimmed) in table {
+        assert!(rt; trim_front(text.as_bytes()) == front.as_bytes(), "{text}");
+        assert!(rt;
+            trim_blanks(text.as_bytes()) == trimmed.as_bytes(),
+            "{text}"
+        );
     }
 }

@@ -5,6 +5,7 @@ pub mod Meetings
 pub mod Pushes
 pub mod Scans
 pub mod Parts
+pub mod Joins
 pub mod Fractions
 pub mod Halves
 pub mod Readings

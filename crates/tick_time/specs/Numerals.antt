@@ -44,6 +44,27 @@ pub data IsExp (mark : List ℕ) (down : Bool) (power : List ℕ) : Type 0 where
   raised : (letter : ℕ) → (letter ≡ 101) ⊎ (letter ≡ 69) → mark ≡ letter ∷ 43 ∷ [] → down ≡ false → AreDigits power → IsExp mark down power
   lowered : (letter : ℕ) → (letter ≡ 101) ⊎ (letter ≡ 69) → mark ≡ letter ∷ 45 ∷ [] → down ≡ true → AreDigits power → IsExp mark down power
 
+-- digits, perhaps behind `+` or `-`
+pub data IsSigned (text : List ℕ) : Type 0 where
+  bare : AreDigits text → IsSigned text
+  behind : (sign : ℕ) (digits : List ℕ) → (sign ≡ 43) ⊎ (sign ≡ 45) → text ≡ sign ∷ digits → AreDigits digits → IsSigned text
+
+-- an exponent, or nothing
+pub record IsExponent (text : List ℕ) : Type 0 where
+  pub mark : List ℕ
+  pub down : Bool
+  pub power : List ℕ
+  pub spelled : text ≡ mark ++ power
+  pub exp : IsExp mark down power
+
+-- what may follow int: frac, then exp
+pub record IsTail (text : List ℕ) : Type 0 where
+  pub digits : List ℕ
+  pub rest : List ℕ
+  pub spelled : text ≡ frac digits ++ rest
+  pub decimals : AllDigits 10 digits
+  pub exponent : IsExponent rest
+
 -- the text is that of a number of these parts
 pub record Spells (text : List ℕ) (number : Numeral) : Type 0 where
   pub spelled : text ≡ minus number.neg ++ (number.whole ++ (frac number.decimals ++ (number.mark ++ number.power)))

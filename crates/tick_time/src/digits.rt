@@ -8,7 +8,9 @@ ghost use Rattle.tick_time.specs.Numerals.{StopsDigits};
 
 /// The digits at a text's front, and what follows them.
 pub(crate) fn split_digits(text: &[u8]) -> (&[u8], &[u8])
-    ensures { (digits rest : List ℕ) → text.now ≡ digits ++ rest → AllDigits 10 digits → StopsDigits rest →
+    ensures joined { text.now ≡ result.0.now ++ result.1.now }
+    ensures digits { AllDigits 10 result.0.now }
+    ensures parts { (digits rest : List ℕ) → text.now ≡ digits ++ rest → AllDigits 10 digits → StopsDigits rest →
         (result.0.now ≡ digits) × (result.1.now ≡ rest) }
 {
     text.split_at(count_digits(text))

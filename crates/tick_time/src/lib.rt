@@ -4,6 +4,7 @@
 mod decimals;
 mod digits;
 mod faults;
+mod forms;
 pub mod laws;
 mod numerals;
 mod rates;
@@ -17,6 +18,7 @@ mod times;
 
 pub use decimals::Decimal;
 pub use faults::TimeFault;
+pub use forms::is_numeral;
 pub use rates::Rate;
 pub use scalars::Scalar;
 pub use spans::Span;

@@ -37,9 +37,10 @@ pub(crate) fn split_numeral(text: &[u8]) -> Parts<'_>
     }
 }
 
-// Whether a minus stands first, and what follows it.
-fn split_minus(text: &[u8]) -> (bool, &[u8])
-    ensures { (neg : Bool) (rest : List ℕ) → text.now ≡ minus neg ++ rest → slice_index rest 0 ≢ 45 →
+/// Whether a minus stands first, and what follows it.
+pub(crate) fn split_minus(text: &[u8]) -> (bool, &[u8])
+    ensures joined { text.now ≡ minus result.0 ++ result.1.now }
+    ensures parts { (neg : Bool) (rest : List ℕ) → text.now ≡ minus neg ++ rest → slice_index rest 0 ≢ 45 →
         (result.0 ≡ neg) × (result.1.now ≡ rest) }
 {
     match text {

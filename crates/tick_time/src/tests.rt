@@ -3,7 +3,7 @@
 ghost use Rattle.tick_time.specs.Numerals.{IsNumeral};
 
 use crate::laws::{rate_read_again, speed_read_again, time_read_again};
-use crate::{Decimal, Rate, Scalar, Span, Time, TimeFault};
+use crate::{Decimal, Rate, Scalar, Span, Time, TimeFault, is_numeral};
 use std::cmp::Ordering;
 use std::process::Abort;
 use std::rt::HostRuntime;
@@ -86,6 +86,36 @@ fn numerals(rt: HostRuntime) {
     assert_eq!(rt; parts(b"10.010"), Ok((false, 1001, -2)));
     assert_eq!(rt; parts(b"1e999"), Ok((false, 1, 999)));
     assert_eq!(rt; parts(b"1e-999"), Ok((false, 1, -999)));
+}
+
+#[test]
+fn forms_of_numerals(rt: HostRuntime) {
+    for (text, is) in [
+        ("0", true),
+        ("-0", true),
+        ("24", true),
+        ("24.0", true),
+        ("1e+5", true),
+        ("1E-007", true),
+        ("-10.010e99", true),
+        ("", false),
+        ("-", false),
+        ("--1", false),
+        ("+1", false),
+        ("01", false),
+        ("-00", false),
+        ("1.", false),
+        (".5", false),
+        ("1.e5", false),
+        ("1e", false),
+        ("1e+", false),
+        ("1e+-5", false),
+        ("1e5.0", false),
+        ("1 ", false),
+        ("0x1", false),
+    ] {
+        assert_eq!(rt; is_numeral(text.as_bytes()), is);
+    }
 }
 
 #[test]

@@ -2,8 +2,8 @@ use Rattle.std.proofs.Common.{◌≡◌, length}
 use Rattle.text_lines.specs.Lines.{trimmed_front}
 use Rattle.text_lines.proofs.trim.trim_front.Given as goal
 
-abbrev pub invariant-spaces : goal.invariant-spaces
-invariant-spaces l = trimmed_front l.rest ≡ trimmed_front l.text
+abbrev pub invariant-blanks : goal.invariant-blanks
+invariant-blanks l = trimmed_front l.rest ≡ trimmed_front l.text
 
-abbrev pub decreases-spaces : goal.decreases-spaces
-decreases-spaces l = length l.rest
+abbrev pub decreases-blanks : goal.decreases-blanks
+decreases-blanks l = length l.rest

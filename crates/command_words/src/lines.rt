@@ -1,0 +1,100 @@
+// What the parts of a command line give together.
+ghost use Rattle.std.specs.Prelude.{◌≡◌, ℕ, List, Some, None, map, string_bytes, MatchOption};
+ghost use Rattle.command_words.specs.Parts.{Part, AreParts, spell, Valued as ValuedPart};
+ghost use Rattle.command_words.specs.Gathered.{Given, add, add_all, given_by, nothing_given};
+ghost use Rattle.command_words.specs.Found.{part_found};
+
+use crate::names::Choice;
+use crate::parts::{Found, first_part, first_word};
+
+/// The values of the options, whether the flag is there, and the file.
+#[derive(Clone, Copy)]
+pub struct Line<'a> {
+    pub from: Option<&'a str>,
+    pub to: Option<&'a str>,
+    pub rate: Option<&'a str>,
+    pub target: Option<&'a str>,
+    pub drop: bool,
+    pub file: Option<&'a str>,
+}
+
+/// A line that gives nothing.
+pub fn empty_line<'a>() -> Line<'a>
+    ensures { given_by result ≡ nothing_given }
+{
+    Line {
+        from: None,
+        to: None,
+        rate: None,
+        target: None,
+        drop: false,
+        file: None,
+    }
+}
+
+/// The line with one more part; none where that was given before.
+pub fn with_part<'a>(line: Line<'a>, found: Found<'a>) -> Option<Line<'a>>
+    ensures { MatchOption result
+        (add (given_by line.entry) (part_found found.entry) ≡ None)
+        (λ more. add (given_by line.entry) (part_found found.entry) ≡ Some (given_by more)) }
+{
+    match found {
+        Found::Valued(choice, _, value) => with_value(line, choice, value),
+        Found::Drop(_) => {
+            if line.drop {
+                None
+            } else {
+                Some(Line { drop: true, ..line })
+            }
+        }
+        Found::File(name) => match line.file {
+            Some(_) => None,
+            None => Some(Line {
+                file: Some(name),
+                ..line
+            }),
+        },
+    }
+}
+
+fn with_value<'a>(line: Line<'a>, choice: Choice, value: &'a str) -> Option<Line<'a>>
+    ensures { (name : List ℕ) → MatchOption result
+        (add (given_by line.entry) (ValuedPart choice name value.now) ≡ None)
+        (λ more. add (given_by line.entry) (ValuedPart choice name value.now) ≡ Some (given_by more)) }
+{
+    let value = Some(value);
+    match choice {
+        Choice::From if line.from.is_none() => Some(Line {
+            from: value,
+            ..line
+        }),
+        Choice::To if line.to.is_none() => Some(Line { to: value, ..line }),
+        Choice::Rate if line.rate.is_none() => Some(Line {
+            rate: value,
+            ..line
+        }),
+        Choice::Target if line.target.is_none() => Some(Line {
+            target: value,
+            ..line
+        }),
+        _ => None,
+    }
+}
+
+/// What a line and the parts that the words spell give together; none where they spell no parts, or something is given twice.
+pub fn gather<'a>(words: &'a [String], line: Line<'a>) -> Option<Line<'a>>
+    ensures { let spelled = map (λ w. string_bytes w) words.now in MatchOption result
+        ((parts : List Part) (given : Given) → AreParts parts → spelled ≡ spell parts → add_all (given_by line.entry) parts ≡ Some given → ⊥)
+        (λ all. (parts : List Part) × AreParts parts × (spelled ≡ spell parts) × (add_all (given_by line.entry) parts ≡ Some (given_by all))) }
+{
+    let Some((word, rest)) = first_word(words) else {
+        return Some(line);
+    };
+    let Some((found, behind)) = first_part(word, rest) else {
+        return None;
+    };
+    match with_part(line, found) {
+        Some(more) => gather(behind, more),
+        None => None,
+    }
+}

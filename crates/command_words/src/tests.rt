@@ -1,0 +1,89 @@
+//! Command lines and what they ask for.
+
+use crate::{Command, request_of};
+use std::alloc::{AllocError, Global};
+use std::test::Fail;
+
+fn words_of(alloc: Global, line: &str) -> Result<Vec<String>, AllocError> {
+    let mut words = Vec::new(alloc);
+    for word in line.split_whitespace() {
+        words.push(String::from_str(alloc, word)?)?;
+    }
+    Ok(words)
+}
+
+#[test]
+fn lines_ask_for_lists(rt: HostRuntime) -> Result<(), Fail> {
+    for (line, num, drop) in [
+        ("convert --to edl a.edl", 24, false),
+        ("convert a.edl --rate 25 --to edl --drop", 25, true),
+        ("convert --rate 29.97 --to edl a.edl", 30_000, false),
+        ("convert --drop --to edl .edl", 24, true),
+    ] {
+        let words = words_of(rt.alloc(), line)?;
+        match request_of(words.as_slice()) {
+            Some(request) => {
+                assert!(rt; request.name.ends_with(".edl"), "{line}");
+                match request.command {
+                    Command::ListToList { rate, drop: asked } => {
+                        assert_eq!(rt; rate.num, num, "{line}");
+                        assert_eq!(rt; asked, drop, "{line}");
+                    }
+                    Command::ToJson => assert!(rt; false, "{line}"),
+                }
+            }
+            None => assert!(rt; false, "{line}"),
+        }
+    }
+    Ok(())
+}
+
+#[test]
+fn lines_ask_for_json(rt: HostRuntime) -> Result<(), Fail> {
+    for (line, name) in [
+        ("convert --to json -", "-"),
+        ("convert x --rate 24 --to json", "x"),
+        ("convert --drop x.edl.json --to json", "x.edl.json"),
+    ] {
+        let words = words_of(rt.alloc(), line)?;
+        match request_of(words.as_slice()) {
+            Some(request) => {
+                assert_eq!(rt; request.name, name, "{line}");
+                assert_eq!(rt; request.command, Command::ToJson, "{line}");
+            }
+            None => assert!(rt; false, "{line}"),
+        }
+    }
+    Ok(())
+}
+
+#[test]
+fn other_lines_ask_for_nothing(rt: HostRuntime) -> Result<(), Fail> {
+    for line in [
+        "",
+        "convert",
+        "Convert --to edl a.edl",
+        "convert --to edl",
+        "convert a.edl",
+        "convert --to edl a.edl a.edl",
+        "convert --to edl --to edl a.edl",
+        "convert --to=edl a.edl",
+        "convert --to edl -a.edl",
+        "convert --to edl -- a.edl",
+        "convert --to json a.edl",
+        "convert --to edl a.json",
+        "convert --to otio a.edl",
+        "convert --to json --rate 29.5 x",
+        "convert --to json --rate 024 x",
+        "convert --to json --rate x",
+        "convert --to json --drop --drop x",
+        "convert --to json x --rate",
+        "convert --to json -o y x",
+        "convert --to json --output y x",
+        "convert --from otio --to json x",
+    ] {
+        let words = words_of(rt.alloc(), line)?;
+        assert!(rt; request_of(words.as_slice()).is_none(), "{line}");
+    }
+    Ok(())
+}

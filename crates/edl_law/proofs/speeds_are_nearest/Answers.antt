@@ -1,0 +1,5 @@
+use Rattle.edl_law.proofs.Nearest.{nearest}
+use Rattle.edl_law.proofs.speeds_are_nearest.Goals as goal
+
+pub returns : goal.returns
+returns c = nearest

@@ -1,0 +1,41 @@
+-- That the text of a list is read as the same list.
+use Rattle.std.specs.Prelude.{◌≡◌, ◌≤◌, Bool, IfSome, IsUtf8, length, All}
+use Rattle.edl_list.specs.declared.list.Side.{Side}
+use Rattle.edl_list.specs.declared.list.Event.{Event}
+use Rattle.edl_list.specs.declared.list.EventList.{EventList}
+use Rattle.edl_list.specs.Formed.{IsWellFormed}
+use Rattle.edl_list.specs.Alike.{IsEven, IsSame}
+use Rattle.edl_layout.specs.Rows.{outgoing}
+use Rattle.edl_layout.specs.Labelled.{IsLabelled}
+use Rattle.edl_layout.specs.Spelling.{spelling}
+use Rattle.edl_text.specs.Lists.{IsList, most_bytes}
+
+-- the name of a side, where it has one, is UTF-8, as each text is
+abbrev pub HasName : Side → Type 0
+HasName side = IfSome side.name IsUtf8
+
+-- so are the names of an event
+pub record HasNames (event : Event) : Type 0 where
+  pub to : HasName event.to
+  pub from : IfSome (outgoing event.cross) HasName
+
+-- A list that has a text, with drop-frame or without, and one that a reader takes: it is well formed and even, its events are at most 999, their labels are below
+-- the day, its texts are UTF-8, and its text isn't too large.
+pub record IsWritable (list : EventList) (drop : Bool) : Type 0 where
+  pub formed : IsWellFormed list
+  pub even : IsEven list
+  pub few : length list.events ≤ 999
+  pub labels : All (IsLabelled list.rate drop) list.events
+  pub title : IsUtf8 list.title
+  pub names : All HasNames list.events
+  pub small : length (spelling list drop) ≤ most_bytes
+
+-- the text of the list has exactly one reading at the list's rate, and it is the same list
+pub record IsReadAgain (list : EventList) (drop : Bool) : Type 0 where
+  pub read : EventList
+  pub reads : IsList list.rate (spelling list drop) read
+  pub same : IsSame list read
+  pub only : (other : EventList) → IsList list.rate (spelling list drop) other → other ≡ read
+
+abbrev pub SpellingIsRead : Type 0
+SpellingIsRead = (list : EventList) (drop : Bool) → IsWritable list drop → IsReadAgain list drop

@@ -1,0 +1,6 @@
+pub mod Leaving
+pub mod Trimmed
+pub mod Texts
+pub mod Days
+pub mod Firsts
+pub mod Film

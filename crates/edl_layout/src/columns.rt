@@ -1,0 +1,85 @@
+// What stands in the columns of a line.
+ghost use Rattle.std.specs.Prelude.{◌≡◌, ◌≤◌, ◌-◌, length};
+ghost use Rattle.edl_list.specs.Formed.{IsReel};
+ghost use Rattle.edl_layout.specs.Columns.{digits, spaces, column, reel_text, reel_width, channel_text, channel_width, kind_column as kind_of, duration_column as duration_of, HasSmallNumbers};
+
+use edl_list::{Channel, Cross, Reel};
+
+/// The spaces of a reel's column.
+const REEL_COLUMN: &[u8; 8] = b"        ";
+
+/// The column of the type of a cut.
+pub const CUT_COLUMN: &[u8; 4] = b"C   ";
+
+/// The column of a duration where there is none.
+pub const NO_DURATION: &[u8; 3] = b"   ";
+
+// A number in three digits.
+pub fn three_digits(number: u32) -> [u8; 3]
+    requires { number ≤ 999 }
+    ensures { result ≡ digits 3 number }
+{
+    [
+        b'0' + (number / 100) as u8,
+        b'0' + (number / 10 % 10) as u8,
+        b'0' + (number % 10) as u8,
+    ]
+}
+
+// The bytes of a reel.
+pub fn reel_bytes(reel: &Reel) -> &[u8]
+    requires { IsReel reel.now }
+    ensures text { result.now ≡ reel_text reel.now }
+    ensures short { length result.now ≤ reel_width }
+{
+    match reel {
+        Reel::Black => b"BL",
+        Reel::Named(name) => name.as_str().as_bytes(),
+    }
+}
+
+// The spaces that fill the column of a reel of this length.
+pub fn padding(length: usize) -> &'static [u8]
+    requires { length ≤ reel_width }
+    ensures { result.now ≡ spaces (reel_width - length) }
+{
+    REEL_COLUMN.split_at(length).1
+}
+
+// The column of a channel.
+pub fn channel_column(channel: Channel) -> &'static [u8; 5]
+    ensures { result.now ≡ column channel_width (channel_text channel) }
+{
+    match channel {
+        Channel::V => b"V    ",
+        Channel::A => b"A    ",
+        Channel::A2 => b"A2   ",
+    }
+}
+
+// The column of the type of an event.
+pub fn kind_column(cross: &Cross) -> [u8; 4]
+    requires { HasSmallNumbers cross.now }
+    ensures { result ≡ kind_of cross.now }
+{
+    match cross {
+        Cross::Cut => *CUT_COLUMN,
+        Cross::Dissolve { .. } => *b"D   ",
+        Cross::Wipe { code, .. } => {
+            let [first, second, third] = three_digits(u32::from(*code));
+            [b'W', first, second, third]
+        }
+    }
+}
+
+// The column of the duration of an event.
+pub fn duration_column(cross: &Cross) -> [u8; 3]
+    requires { HasSmallNumbers cross.now }
+    ensures { result ≡ duration_of cross.now }
+{
+    match cross {
+        Cross::Cut => *NO_DURATION,
+        Cross::Dissolve { frames, .. } => three_digits(u32::from(*frames)),
+        Cross::Wipe { frames, .. } => three_digits(u32::from(*frames)),
+    }
+}

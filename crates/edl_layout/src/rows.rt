@@ -1,0 +1,149 @@
+// The lines of events and of speeds.
+ghost use Rattle.std.specs.Prelude.{◌≤◌, ◌∷◌, [], codes};
+ghost use Rattle.std.specs.List.{concat};
+ghost use Rattle.dev_io.specs.Buffer.{standing, Puts};
+ghost use Rattle.edl_list.specs.Formed.{IsReel, IsFrame, IsSide, IsEvent};
+ghost use Rattle.edl_list.specs.Speeds.{day_of};
+ghost use Rattle.edl_layout.specs.Columns.{column, reel_text, reel_width};
+ghost use Rattle.edl_layout.specs.Rows.{event_line, first_line, main_line};
+ghost use Rattle.edl_layout.specs.Labelled.{IsBelowDay, IsLabelled};
+
+use crate::columns::{
+    CUT_COLUMN, NO_DURATION, channel_column, duration_column, kind_column, padding, reel_bytes,
+    three_digits,
+};
+use crate::labels::label_of;
+use dev_io::{Out, OutBuffer};
+use edl_list::{Channel, Event, Reel, Side};
+use tick_time::Rate;
+
+// What stands in an event line before the labels, the type and the duration as columns.
+#[derive(Clone, Copy)]
+struct Row<'a> {
+    number: u32,
+    reel: &'a Reel,
+    channel: Channel,
+    kind: [u8; 4],
+    duration: [u8; 3],
+}
+
+// The labels of an event line.
+#[derive(Clone, Copy)]
+struct Labels {
+    source_in: [u8; 11],
+    source_out: [u8; 11],
+    record_in: [u8; 11],
+    record_out: [u8; 11],
+}
+
+// Hands over the column of a reel.
+pub fn put_reel<W: Out>(buffer: &mut OutBuffer, out: &mut W, reel: &Reel)
+    requires { IsReel reel.now }
+    ensures { Puts (standing W.known W.faults out.old buffer.old) (standing W.known W.faults out.new buffer.new) (column reel_width (reel_text reel.now)) }
+{
+    let bytes = reel_bytes(reel);
+    buffer.put(out, bytes);
+    buffer.put(out, padding(bytes.len()));
+}
+
+// Hands over the labels of an event line, with spaces between.
+fn put_labels<W: Out>(buffer: &mut OutBuffer, out: &mut W, labels: Labels)
+    ensures { Puts (standing W.known W.faults out.old buffer.old) (standing W.known W.faults out.new buffer.new)
+        (concat (labels.source_in ∷ codes " " ∷ labels.source_out ∷ codes " " ∷ labels.record_in ∷ codes " " ∷ labels.record_out ∷ [])) }
+{
+    buffer.put(out, &labels.source_in);
+    buffer.put(out, b" ");
+    buffer.put(out, &labels.source_out);
+    buffer.put(out, b" ");
+    buffer.put(out, &labels.record_in);
+    buffer.put(out, b" ");
+    buffer.put(out, &labels.record_out);
+}
+
+// Hands over an event line, without its end.
+fn put_row<W: Out>(buffer: &mut OutBuffer, out: &mut W, row: Row<'_>, labels: Labels)
+    requires number { row.number ≤ 999 }
+    requires reel { IsReel row.reel.now }
+    ensures { Puts (standing W.known W.faults out.old buffer.old) (standing W.known W.faults out.new buffer.new)
+        (event_line row.entry.number (reel_text row.entry.reel.now) row.entry.channel row.entry.kind row.entry.duration labels.source_in labels.source_out labels.record_in labels.record_out) }
+{
+    let number = three_digits(row.number);
+    buffer.put(out, &number);
+    buffer.put(out, b"  ");
+    put_reel(buffer, out, row.reel);
+    buffer.put(out, b" ");
+    buffer.put(out, channel_column(row.channel));
+    buffer.put(out, b" ");
+    buffer.put(out, &row.kind);
+    buffer.put(out, b" ");
+    buffer.put(out, &row.duration);
+    buffer.put(out, b" ");
+    put_labels(buffer, out, labels);
+}
+
+#[tactic(auto, using(crate::proofs::Days::below_kept))]
+// Hands over the one line of a cut, or the second line of a pair, without its end.
+pub fn put_main<W: Out>(
+    buffer: &mut OutBuffer,
+    out: &mut W,
+    event: &Event,
+    number: u32,
+    rate: Rate,
+    drop: bool,
+)
+    requires number { number ≤ 999 }
+    requires event { IsEvent (day_of rate) event.now }
+    requires labels { IsLabelled rate drop event.now }
+    ensures { Puts (standing W.known W.faults out.old buffer.old) (standing W.known W.faults out.new buffer.new) (main_line rate drop number event.now) }
+{
+    let row = Row {
+        number,
+        reel: &event.to.reel,
+        channel: event.channel,
+        kind: kind_column(&event.cross),
+        duration: duration_column(&event.cross),
+    };
+    let labels = Labels {
+        source_in: label_of(event.to.src_in, rate, drop),
+        source_out: label_of(event.to.src_out, rate, drop),
+        record_in: label_of(event.rec_in, rate, drop),
+        record_out: label_of(event.rec_out, rate, drop),
+    };
+    put_row(buffer, out, row, labels);
+}
+
+#[tactic(auto, using(crate::proofs::Days::below_kept))]
+// Hands over the first line of a pair with this outgoing side, without its end.
+pub fn put_first<W: Out>(
+    buffer: &mut OutBuffer,
+    out: &mut W,
+    event: &Event,
+    from: &Side,
+    number: u32,
+    rate: Rate,
+    drop: bool,
+)
+    requires number { number ≤ 999 }
+    requires from { IsSide (day_of rate) from.now }
+    requires record { IsFrame (day_of rate) event.now.rec_in }
+    requires source_in { IsBelowDay rate drop from.now.src_in }
+    requires record_in { IsBelowDay rate drop event.now.rec_in }
+    ensures { Puts (standing W.known W.faults out.old buffer.old) (standing W.known W.faults out.new buffer.new) (first_line rate drop number event.now from.now) }
+{
+    let row = Row {
+        number,
+        reel: &from.reel,
+        channel: event.channel,
+        kind: *CUT_COLUMN,
+        duration: *NO_DURATION,
+    };
+    let source = label_of(from.src_in, rate, drop);
+    let record = label_of(event.rec_in, rate, drop);
+    let labels = Labels {
+        source_in: source,
+        source_out: source,
+        record_in: record,
+        record_out: record,
+    };
+    put_row(buffer, out, row, labels);
+}

@@ -1,0 +1,136 @@
+// Speeds, and the lines that give them.
+ghost use Rattle.std.specs.Prelude.{◌≡◌, ◌≤◌, Some, false, IsSome};
+ghost use Rattle.smpte_tc.specs.Modes.{mode_of};
+ghost use Rattle.dev_io.specs.Buffer.{standing, Puts};
+ghost use Rattle.edl_list.specs.Formed.{IsReel, IsSide, IsSpeed};
+ghost use Rattle.edl_list.specs.Speeds.{day_of, count_of as frames_of, speed_of as speed_at};
+ghost use Rattle.edl_layout.specs.Rows.{needs_line as needs, speed_line, speed_lines_if, written_tenths as tenths_of, has_speed as is_fast, has_one_reel as is_one_reel};
+ghost use Rattle.edl_layout.specs.Spelling.{text_of};
+ghost use Rattle.edl_layout.specs.Labelled.{IsBelowDay};
+
+use crate::columns::{reel_bytes, three_digits};
+use crate::labels::label_of;
+use crate::rows::put_reel;
+use dev_io::{Out, OutBuffer};
+use edl_list::Side;
+use tick_time::Rate;
+
+// The rate's own speed, in millionths.
+const OWN_SPEED: u32 = 1_000_000;
+
+// How many frames timecode counts a second, and 0 where the rate has no timecode.
+fn count_of(rate: Rate) -> u32
+    ensures count { result ≡ frames_of rate }
+    ensures small { result ≤ 60 }
+    ensures some { IsSome (mode_of rate false) → 1 ≤ result }
+{
+    match rate.nominal() {
+        Some(count) => count as u32,
+        None => 0,
+    }
+}
+
+// Tenths of a frame a second as millionths of so many frames a second, rounded half to even.
+fn millionths_of(tenths: u32, count: u32) -> u32
+    requires some { 1 ≤ count }
+    requires small { count ≤ 60 }
+    requires tenths { tenths ≤ 9999 }
+    ensures { result ≡ speed_at count (Some tenths) }
+{
+    let whole = tenths * 100_000 / count;
+    let rest = tenths * 100_000 % count;
+    if 2 * rest < count {
+        whole
+    } else if count < 2 * rest {
+        whole + 1
+    } else {
+        whole + whole % 2
+    }
+}
+
+// Whether the speed of a side isn't the rate's own.
+pub fn has_speed(side: &Side, rate: Rate) -> bool
+    requires { IsSide (day_of rate) side.now }
+    ensures { result ≡ is_fast rate side.now }
+{
+    match side.speed {
+        Some(tenths) => millionths_of(u32::from(tenths), count_of(rate)) != OWN_SPEED,
+        None => false,
+    }
+}
+
+// Whether both sides have one reel.
+fn has_one_reel(a: &Side, b: &Side) -> bool
+    requires first { IsReel a.now.reel }
+    requires second { IsReel b.now.reel }
+    ensures { result ≡ is_one_reel a.now b.now }
+{
+    reel_bytes(&a.reel) == reel_bytes(&b.reel)
+}
+
+// Whether the incoming side of a pair needs an M2 line.
+pub fn needs_line(to: &Side, from: &Side, rate: Rate) -> bool
+    requires to { IsSide (day_of rate) to.now }
+    requires from { IsSide (day_of rate) from.now }
+    ensures { result ≡ needs rate to.now (Some from.now) }
+{
+    if has_speed(to, rate) {
+        return true;
+    }
+    if !has_speed(from, rate) {
+        return false;
+    }
+    has_one_reel(from, to)
+}
+
+// The tenths of a frame a second that an M2 line gives a side.
+fn written_tenths(side: &Side, rate: Rate) -> u32
+    requires { IsSpeed side.now.speed }
+    ensures tenths { result ≡ tenths_of rate side.now }
+    ensures small { result ≤ 9999 }
+{
+    match side.speed {
+        Some(tenths) => u32::from(tenths),
+        None => 10 * count_of(rate),
+    }
+}
+
+#[tactic(auto, using(crate::proofs::Days::below_kept))]
+// Hands over the M2 line of a side, without its end.
+fn put_speed<W: Out>(buffer: &mut OutBuffer, out: &mut W, side: &Side, rate: Rate, drop: bool)
+    requires side { IsSide (day_of rate) side.now }
+    requires source_in { IsBelowDay rate drop side.now.src_in }
+    ensures { Puts (standing W.known W.faults out.old buffer.old) (standing W.known W.faults out.new buffer.new) (speed_line rate drop side.now) }
+{
+    let tenths = written_tenths(side, rate);
+    let whole = three_digits(tenths / 10);
+    let tenth = [b'0' + (tenths % 10) as u8];
+    let source_in = label_of(side.src_in, rate, drop);
+    buffer.put(out, b"M2   ");
+    put_reel(buffer, out, &side.reel);
+    buffer.put(out, b" ");
+    buffer.put(out, &whole);
+    buffer.put(out, b".");
+    buffer.put(out, &tenth);
+    buffer.put(out, b"                ");
+    buffer.put(out, &source_in);
+}
+
+// Hands over the M2 line of a side with its end, where it needs one.
+pub fn put_speed_if<W: Out>(
+    buffer: &mut OutBuffer,
+    out: &mut W,
+    needed: bool,
+    side: &Side,
+    rate: Rate,
+    drop: bool,
+)
+    requires side { IsSide (day_of rate) side.now }
+    requires source_in { IsBelowDay rate drop side.now.src_in }
+    ensures { Puts (standing W.known W.faults out.old buffer.old) (standing W.known W.faults out.new buffer.new) (text_of (speed_lines_if rate drop needed side.now)) }
+{
+    if needed {
+        put_speed(buffer, out, side, rate, drop);
+        buffer.put(out, b"\n");
+    }
+}

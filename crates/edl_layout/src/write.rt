@@ -1,0 +1,181 @@
+// The text of events and lists.
+ghost use Rattle.std.specs.Prelude.{◌≡◌, ◌≤◌, ◌++◌, codes, length, Some, None, All};
+ghost use Rattle.dev_io.specs.Buffer.{standing, Puts};
+ghost use Rattle.dev_io.specs.Calls.{Tells, SendsAll};
+ghost use Rattle.dev_io.specs.Causes.{HasCause};
+ghost use Rattle.edl_list.specs.Formed.{IsEvent, IsSide, IsWellFormed};
+ghost use Rattle.edl_list.specs.Speeds.{day_of};
+ghost use Rattle.edl_layout.specs.Rows.{outgoing, speed_lines};
+ghost use Rattle.edl_layout.specs.Spelling.{event_text, lines_from, text_of, spelling, mode_line as mode_text};
+ghost use Rattle.edl_layout.specs.Labelled.{IsBelowDay, IsLabelled};
+
+use crate::notes::{put_headed, put_name};
+use crate::rows::{put_first, put_main};
+use crate::speeds::{has_speed, needs_line, put_speed_if};
+use dev_io::{Out, OutBuffer, WriteFault};
+use edl_list::{Cross, Event, EventList, Side};
+use tick_time::Rate;
+
+// The head of the note of a cut's name, and of the name of an outgoing side.
+const FROM_HEAD: &[u8] = b"* FROM CLIP NAME: ";
+
+// The head of the note of the name of an incoming side.
+const TO_HEAD: &[u8] = b"* TO CLIP NAME: ";
+
+// Hands over the lines of a cut.
+fn put_cut<W: Out>(
+    buffer: &mut OutBuffer,
+    out: &mut W,
+    event: &Event,
+    number: u32,
+    rate: Rate,
+    drop: bool,
+)
+    requires cut { outgoing event.now.cross ≡ None }
+    requires number { number ≤ 999 }
+    requires event { IsEvent (day_of rate) event.now }
+    requires labels { IsLabelled rate drop event.now }
+    ensures { Puts (standing W.known W.faults out.old buffer.old) (standing W.known W.faults out.new buffer.new) (event_text rate drop number event.now) }
+{
+    put_main(buffer, out, event, number, rate, drop);
+    buffer.put(out, b"\n");
+    put_speed_if(
+        buffer,
+        out,
+        has_speed(&event.to, rate),
+        &event.to,
+        rate,
+        drop,
+    );
+    put_name(buffer, out, FROM_HEAD, &event.to.name);
+}
+
+// Hands over the lines of a pair with this outgoing side.
+fn put_pair<W: Out>(
+    buffer: &mut OutBuffer,
+    out: &mut W,
+    event: &Event,
+    from: &Side,
+    number: u32,
+    rate: Rate,
+    drop: bool,
+)
+    requires pair { outgoing event.now.cross ≡ Some from.now }
+    requires number { number ≤ 999 }
+    requires event { IsEvent (day_of rate) event.now }
+    requires labels { IsLabelled rate drop event.now }
+    ensures { Puts (standing W.known W.faults out.old buffer.old) (standing W.known W.faults out.new buffer.new) (event_text rate drop number event.now) }
+{
+    put_first(buffer, out, event, from, number, rate, drop);
+    buffer.put(out, b"\n");
+    put_main(buffer, out, event, number, rate, drop);
+    buffer.put(out, b"\n");
+    put_speeds(buffer, out, from, &event.to, rate, drop);
+    put_name(buffer, out, FROM_HEAD, &from.name);
+    put_name(buffer, out, TO_HEAD, &event.to.name);
+}
+
+// Hands over the M2 lines of a pair.
+fn put_speeds<W: Out>(
+    buffer: &mut OutBuffer,
+    out: &mut W,
+    from: &Side,
+    to: &Side,
+    rate: Rate,
+    drop: bool,
+)
+    requires from { IsSide (day_of rate) from.now }
+    requires to { IsSide (day_of rate) to.now }
+    requires from_in { IsBelowDay rate drop from.now.src_in }
+    requires to_in { IsBelowDay rate drop to.now.src_in }
+    ensures { Puts (standing W.known W.faults out.old buffer.old) (standing W.known W.faults out.new buffer.new) (text_of (speed_lines rate drop to.now (Some from.now))) }
+{
+    put_speed_if(buffer, out, has_speed(from, rate), from, rate, drop);
+    put_speed_if(buffer, out, needs_line(to, from, rate), to, rate, drop);
+}
+
+// Hands over the lines of an event.
+fn put_event<W: Out>(
+    buffer: &mut OutBuffer,
+    out: &mut W,
+    event: &Event,
+    number: u32,
+    rate: Rate,
+    drop: bool,
+)
+    requires number { number ≤ 999 }
+    requires event { IsEvent (day_of rate) event.now }
+    requires labels { IsLabelled rate drop event.now }
+    ensures { Puts (standing W.known W.faults out.old buffer.old) (standing W.known W.faults out.new buffer.new) (event_text rate drop number event.now) }
+{
+    match &event.cross {
+        Cross::Cut => put_cut(buffer, out, event, number, rate, drop),
+        Cross::Dissolve { from, .. } => put_pair(buffer, out, event, from, number, rate, drop),
+        Cross::Wipe { from, .. } => put_pair(buffer, out, event, from, number, rate, drop),
+    }
+}
+
+// Hands over the lines of the events, numbered from 1.
+fn put_events<W: Out>(buffer: &mut OutBuffer, out: &mut W, events: &[Event], rate: Rate, drop: bool)
+    requires few { length events.now ≤ 999 }
+    requires events { All (IsEvent (day_of rate)) events.now }
+    requires labels { All (IsLabelled rate drop) events.now }
+    ensures { Puts (standing W.known W.faults out.old buffer.old) (standing W.known W.faults out.new buffer.new) (text_of (lines_from rate drop 1 events.now)) }
+{
+    let mut number = 1;
+    for event in events {
+        put_event(buffer, out, event, number, rate, drop);
+        number += 1;
+    }
+}
+
+// The line of the frame code mode.
+fn mode_line(drop: bool) -> &'static [u8]
+    ensures { result.now ≡ mode_text drop ++ codes "\n" }
+{
+    if drop {
+        b"FCM: DROP FRAME\n"
+    } else {
+        b"FCM: NON-DROP FRAME\n"
+    }
+}
+
+/// Sends the lines of one event under this number: its event line, or the two of a pair, then the M2 lines of the sides
+/// whose speed isn't the rate's own, and then the notes of their names.
+///
+/// It takes no memory. `Sink` comes only where a write failed, and then a prefix of the text was sent.
+pub fn write_event<W: Out>(
+    event: &Event,
+    number: u32,
+    rate: Rate,
+    drop: bool,
+    out: &mut W,
+) -> Result<(), WriteFault>
+    requires number { number ≤ 999 }
+    requires event { IsEvent (day_of rate) event.now }
+    requires labels { IsLabelled rate drop event.now }
+    ensures told { Tells (SendsAll (event_text rate drop number event.now) result) (W.known out.old) (W.known out.new) }
+    ensures cause { HasCause (W.faults out.old) (W.faults out.new) result }
+{
+    let mut buffer = OutBuffer::new();
+    put_event(&mut buffer, out, event, number, rate, drop);
+    buffer.flush(out)
+}
+
+/// Sends the one text of a list at its rate, with drop-frame or without: the line of its title where that isn't empty, the
+/// frame code mode, and its events numbered from 1.
+///
+/// It takes no memory. `Sink` comes only where a write failed, and then a prefix of the text was sent.
+pub fn write_list<W: Out>(list: &EventList, drop: bool, out: &mut W) -> Result<(), WriteFault>
+    requires formed { IsWellFormed list.now }
+    requires few { length list.now.events ≤ 999 }
+    requires labels { All (IsLabelled list.now.rate drop) list.now.events }
+    ensures told { Tells (SendsAll (spelling list.now drop) result) (W.known out.old) (W.known out.new) }
+    ensures cause { HasCause (W.faults out.old) (W.faults out.new) result }
+{
+    let mut buffer = OutBuffer::new();
+    put_headed(&mut buffer, out, b"TITLE: ", list.title.as_str().as_bytes());
+    buffer.put(out, mode_line(drop));
+    put_events(&mut buffer, out, list.events.as_slice(), list.rate, drop);
+    buffer.flush(out)
+}

@@ -1,0 +1,65 @@
+-- Numbers and reels, each of one field.
+use Rattle.std.proofs.Common.{◌≡◌, ◌+◌, ◌-◌, ◌*◌, ◌^◌, ◌<◌, ◌≤◌, ℕ, List, [], ◌∷◌, ◌++◌, All, take, length, get_or, refl, sym, ap, ◌∙◌, arith}
+use Rattle.std.specs.Str.{IsUtf8}
+use Rattle.std.specs.Str.Parse.{AllDigits, IsNumeral, digits_value}
+use Rattle.std.proofs.lemmas.Grind.{common_steps}
+use Rattle.std.proofs.lemmas.List.{take_more}
+use Rattle.std.proofs.lemmas.List.Elements.{All-nil, All-cons, All-head, All-tail}
+use Rattle.std.proofs.lemmas.Str.{IsUtf8-from_ascii, digit_value_digit}
+use Rattle.std.proofs.lemmas.Str.Parse.{digit_from_value, digit_at, digits_value-take-le}
+use Rattle.std.proofs.lemmas.Int.Digits.{digits_value-lt, digits_value_push}
+use Rattle.std.proofs.Math.Nat.{pow-le-pow_right}
+use Rattle.edl_line.specs.Statements.{Reel, Black, Named}
+use Rattle.edl_line.specs.Numbers.{IsNumber, IsReelName, IsReel}
+
+-- bytes from `0` to `9` are digits
+pub digits_of : (bytes : List ℕ) → All (λ b. (48 ≤ b) × (b ≤ 57)) bytes → AllDigits 10 bytes
+digits_of [] h = tt
+digits_of (b ∷ bytes) h =
+    let range = All-head (λ x. (48 ≤ x) × (x ≤ 57)) b bytes h in
+    (omega (arith, digit_value_digit b range), digits_of bytes (All-tail (λ x. (48 ≤ x) × (x ≤ 57)) b bytes h))
+
+pub of_digits : (bytes : List ℕ) → AllDigits 10 bytes → All (λ b. (48 ≤ b) × (b ≤ 57)) bytes
+of_digits [] h = All-nil (λ x. (48 ≤ x) × (x ≤ 57))
+of_digits (b ∷ bytes) h = All-cons (λ x. (48 ≤ x) × (x ≤ 57)) b bytes (digit_from_value b h.0) (of_digits bytes h.1)
+
+-- a number of at most so many digits is below that power of ten
+pub below : (digits : List ℕ) (most : ℕ) → AllDigits 10 digits → length digits ≤ most → digits_value 10 digits < 10 ^ most
+below digits most all few = omega (arith, digits_value-lt 10 digits all, pow-le-pow_right {n = 10} (omega arith) {i = length digits} {j = most} few)
+
+pub is_number : (field : List ℕ) (most : ℕ) → IsNumeral 10 field → length field ≤ most → IsNumber most field (digits_value 10 field)
+is_number field most digits few = record { digits = digits; few = few; value = refl }
+
+-- a digit more of at most four leaves a number below ten thousand
+pub one_more : (digits : List ℕ) (i : ℕ) → AllDigits 10 digits → length digits ≤ 4 → i < length digits
+    → digits_value 10 (take i digits) * 10 + (get_or digits i 0 - 48) < 10000
+one_more digits i all few within =
+    let range = digit_at digits i all within in
+    let push = digits_value_push 10 (take i digits) (get_or digits i 0) in
+    let more : digits_value 10 (take (i + 1) digits) ≡ digits_value 10 (take i digits ++ get_or digits i 0 ∷ []) = ap (digits_value 10) (take_more digits i 0 within) in
+    omega (arith, range, digit_value_digit (get_or digits i 0) range, push, more, digits_value-take-le 10 digits (i + 1) (omega arith), below digits 4 all few)
+
+pub pushed : (digits : List ℕ) (i : ℕ) → AllDigits 10 digits → i < length digits → digits_value 10 (take i digits) * 10 + (get_or digits i 0 - 48) ≡ digits_value 10 (take (i + 1) digits)
+pushed digits i all within =
+    let range = digit_at digits i all within in
+    let push = digits_value_push 10 (take i digits) (get_or digits i 0) in
+    let more : digits_value 10 (take (i + 1) digits) ≡ digits_value 10 (take i digits ++ get_or digits i 0 ∷ []) = ap (digits_value 10) (take_more digits i 0 within) in
+    omega (arith, digit_value_digit (get_or digits i 0) range, push, more)
+
+-- a field writes one number
+pub number_unique : (most : ℕ) (field : List ℕ) (a b : ℕ) → IsNumber most field a → IsNumber most field b → a ≡ b
+number_unique most field a b p q = p.value ∙ sym q.value
+
+low_at : (name : List ℕ) → All (λ b. (33 ≤ b) × (b ≤ 126)) name → (i : ℕ) → get_or name i 0 < 128
+low_at name h i = grind (arith, common_steps, h i 0)
+
+-- the name of a reel is text
+pub reel_is_text : (name : List ℕ) → IsReelName name → IsUtf8 name
+reel_is_text name h = IsUtf8-from_ascii name (low_at name h.prints)
+
+-- a field is one reel
+pub reel_unique : (field : List ℕ) (a b : Reel) → IsReel field a → IsReel field b → a ≡ b
+reel_unique field Black Black p q = refl
+reel_unique field Black (Named name) p q = absurd (q.0.not_black p)
+reel_unique field (Named name) Black p q = absurd (p.0.not_black q)
+reel_unique field (Named a) (Named b) p q = ap Named (p.1 ∙ sym q.1)

@@ -1,0 +1,7 @@
+pub mod Events
+pub mod Notes
+pub mod Numbers
+pub mod Saying
+pub mod Speeds
+pub mod Statements
+pub mod Views

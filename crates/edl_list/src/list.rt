@@ -1,0 +1,97 @@
+//! Lists, events and their sides.
+
+use sequences::{Sequence, Text};
+use tick_time::Rate;
+
+/// A channel of the record, in the order in which events of one record in stand.
+#[derive(Debug, Clone, Copy, PartialEq, Eq)]
+pub enum Channel {
+    /// The picture.
+    V,
+    /// The first sound.
+    A,
+    /// The second sound.
+    A2,
+}
+
+/// Where a side's frames come from.
+#[derive(Debug, Drop)]
+pub enum Reel {
+    /// Black, or silence: `BL` in a list.
+    Black,
+    /// The source of that name. In a well formed list a name has one to eight bytes from 0x21 to 0x7E and isn't `BL`.
+    Named(Text),
+}
+
+/// One source of an event: the incoming one of a pair or that of a cut, or the outgoing one of a pair.
+#[derive(Debug, Drop)]
+pub struct Side {
+    /// Where the frames come from.
+    pub reel: Reel,
+    /// The name of the clip that a note gives, in UTF-8. A note without a text gives none.
+    pub name: Option<Text>,
+    /// The first frame of the source, as a frame number of the day.
+    pub src_in: i64,
+    /// The frame of the source behind the last, as a frame number of the day.
+    pub src_out: i64,
+    /// The speed that an M2 line gives, in tenths of a frame a second; `None` without such a line, which is the rate's
+    /// own speed.
+    pub speed: Option<u16>,
+}
+
+/// How an event begins.
+#[derive(Debug, Drop)]
+pub enum Cross {
+    /// At once.
+    Cut,
+    /// By a dissolve from the outgoing side, over so many frames of the record from the event's start.
+    Dissolve {
+        /// From 1 to 999 in a well formed list.
+        frames: u16,
+        /// The outgoing side.
+        from: Side,
+    },
+    /// By a wipe from the outgoing side, over so many frames of the record from the event's start.
+    Wipe {
+        /// The number of the pattern, at most 999 in a well formed list.
+        code: u16,
+        /// From 1 to 999 in a well formed list.
+        frames: u16,
+        /// The outgoing side.
+        from: Side,
+    },
+}
+
+/// One event of a list on one channel.
+#[derive(Debug, Drop)]
+pub struct Event {
+    /// The line that it was read from, counted from 1: the second one of a pair. For an event of a timeline its place in
+    /// the list, counted from 1.
+    pub line: u32,
+    /// The channel of the record.
+    pub channel: Channel,
+    /// The side that is shown: that of a cut, and the incoming one of a dissolve or wipe.
+    pub to: Side,
+    /// How the event begins.
+    pub cross: Cross,
+    /// The first frame in the record, as a frame number of the day.
+    pub rec_in: i64,
+    /// The frame in the record behind the last, as a frame number of the day.
+    pub rec_out: i64,
+}
+
+/// The events of a list. In a well formed list they stand in order of record in, then of V, A and A2.
+pub type EventSeq = Sequence<Event>;
+
+/// An edit decision list.
+#[derive(Debug, Drop)]
+pub struct EventList {
+    /// The title, empty where the list has none.
+    pub title: Text,
+    /// The rate at which all frames are counted.
+    pub rate: Rate,
+    /// Whether the list is in drop-frame mode: whether the `FCM` in force at its first event line is drop.
+    pub drop: bool,
+    /// The events.
+    pub events: EventSeq,
+}

@@ -1,0 +1,25 @@
+-- What a reader of a list was fed.
+use Rattle.std.specs.Prelude.{◌≡◌, ◌≤◌, ℕ, List, [], length, Some, None}
+use Rattle.text_lines.specs.First.{HasNone}
+use Rattle.text_lines.specs.Lines.{ended_lines, last_line}
+use Rattle.tick_time.specs.declared.rates.Rate.{Rate}
+use Rattle.edl_line.specs.Statements.{Statement}
+use Rattle.edl_text.specs.declared.faults.EdlFault.{EdlFault}
+use Rattle.edl_text.specs.declared.reader.EdlReader.{EdlReader}
+use Rattle.edl_text.specs.Lines.{AreSound}
+use Rattle.edl_text.specs.Stands.{Stands}
+
+-- The reader was fed these bytes of a list at that rate, in whatever pieces, and met no fault.
+pub record HasRead (rate : Rate) (bytes : List ℕ) (reader : EdlReader) : Type 0 where
+  pub past : List Statement
+  pub ended : AreSound rate [] (ended_lines bytes) past
+  pub few : length past ≤ length bytes
+  pub stands : Stands rate past reader.said
+  pub held : reader.held.items ≡ last_line bytes
+  pub unended : HasNone 10 reader.held.items
+  pub sound : reader.fault ≡ None
+  pub taken : length bytes ≡ reader.taken
+
+-- The reader met this fault.
+abbrev pub HasFailed : EdlFault → EdlReader → Type 0
+HasFailed fault reader = reader.fault ≡ Some fault

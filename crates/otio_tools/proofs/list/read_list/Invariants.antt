@@ -1,0 +1,19 @@
+use Rattle.std.proofs.Common.{◌≡◌, ◌+◌, ◌-◌, ◌≤◌, ℕ, List, length}
+use Rattle.dev_io.specs.Calls.{Tells}
+use Rattle.edl_text.specs.Reader.{HasRead}
+use Rattle.otio_tools.specs.Whole.{Takes, SameFiles}
+use Rattle.otio_tools.specs.declared.TheConstants.{FILE_LIMIT}
+use Rattle.otio_tools.proofs.list.read_list.Given as goal
+
+-- what was fed so far was taken from the file
+abbrev pub invariant-pieces : goal.invariant-pieces
+invariant-pieces g l =
+    let files = g.F.Files in
+    record {
+      fed : (bytes : List ℕ) × HasRead l.fn.rate bytes l.reader × (length bytes ≡ l.taken) × (length bytes ≤ FILE_LIMIT) × Tells (Takes bytes) (files.known l.fn.files) (files.known l.files);
+      same : Tells SameFiles (files.known l.fn.files) (files.known l.files);
+      calm : files.faults l.files ≡ files.faults l.fn.files;
+    }
+
+abbrev pub decreases-pieces : goal.decreases-pieces
+decreases-pieces g l = FILE_LIMIT + 1 - l.taken

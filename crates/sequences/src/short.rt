@@ -1,0 +1,51 @@
+//! Texts of few bytes, which lie in the value itself.
+
+ghost use Rattle.std.specs.Prelude.{◌≡◌, ◌≤◌, IfSome, length, take};
+
+use std::marker::Model;
+use std::str;
+
+/// How many bytes a short text has at most.
+const ROOM: usize = 16;
+
+/// A text of at most 16 bytes in UTF-8, which contracts see as the list of its bytes.
+#[derive(Drop)]
+pub(crate) struct Short {
+    len: usize,
+    bytes: [u8; ROOM],
+}
+
+impl Model for Short {
+    ghost use Rattle.std.specs.Prelude.{◌≡◌, ◌≤◌, List, ℕ, true, take};
+    ghost use Rattle.std.specs.Str.{is_utf8};
+
+    ghost Value = { List ℕ };
+
+    ghost view = { λ s. take s.len s.bytes };
+
+    ghost invariant = { λ s. (s.len ≤ 16) × (is_utf8 (take s.len s.bytes) ≡ true) };
+}
+
+impl Short {
+    /// A copy of the text, where it is short.
+    pub(crate) fn of(text: &str) -> Option<Short>
+        ensures { IfSome result (λ made. made ≡ text.now) }
+    {
+        if text.len() > ROOM {
+            return None;
+        }
+        let mut bytes = [0; ROOM];
+        bytes[..text.len()].copy_from_slice(text.as_bytes());
+        Some(Short {
+            len: text.len(),
+            bytes,
+        })
+    }
+
+    /// The characters.
+    pub(crate) fn as_str(&self) -> &str
+        ensures { result.now ≡ self.now }
+    {
+        unsafe { str::from_utf8_unchecked(&self.bytes[..self.len]) }
+    }
+}
