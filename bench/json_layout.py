@@ -91,6 +91,7 @@ def worst_texts():
     return [
         ('`[0,0,..]`', lambda: '[' + '0,' * ((LIMIT - 1) // 2 - 1) + '0]'),
         ('`[[],[],..]`', lambda: '[' + '[],' * ((LIMIT - 1) // 3 - 1) + '[]]'),
+        ('`[[0],[0],..]`', lambda: '[' + '[0],' * ((LIMIT - 1) // 4 - 1) + '[0]]'),
         ('one string', lambda: '"' + 'a' * (LIMIT - 2) + '"'),
         ('one object of a million names', lambda: '{' + ','.join(members) + '}'),
         ('a fault in byte 5', lambda: '[0,0,?' + '0,' * (LIMIT // 2 - 4) + '0]'),
