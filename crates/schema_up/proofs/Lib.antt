@@ -1,0 +1,5 @@
+pub mod Digits
+pub mod Levels
+pub mod MemberLemmas
+pub mod Points
+pub mod Steps
