@@ -1,15 +1,17 @@
 -- What words spell, and what it gives.
-use Rattle.std.proofs.Common.{◌≡◌, ℕ, Bool, true, false, List, [], ◌∷◌, Option, Some, None, is_some, MatchOption, refl, sym, ◌∙◌, ap, subst, codes}
+use Rattle.std.proofs.Common.{◌≡◌, ℕ, Bool, true, false, List, [], ◌∷◌, Option, Some, None, is_some, MatchOption, refl, sym, ◌∙◌, ap, subst, codes, get_or, arith}
 use Rattle.std.proofs.lemmas.Bool.{false≢true}
 use Rattle.command_words.specs.declared.requests.Request.{Request}
 use Rattle.std.specs.Option.{option_map, option_and_then}
 use Rattle.tick_time.specs.declared.rates.Rate.{Rate}
 use Rattle.command_words.specs.Parts.{Part, IsPart, AreParts, spelled, spell}
 use Rattle.command_words.specs.Gathered.{Given, nothing_given, add, add_all, given_by}
-use Rattle.command_words.specs.Asked.{IsRate, IsAskedOf, IsAskedBy, Ask, AskNothing}
+use Rattle.command_words.specs.Asked.{IsRate, IsInput, IsDefault, IsOutput, IsAskedOf, IsAskedBy, Ask, AskNothing}
+use Rattle.command_words.specs.declared.requests.Form.{Form}
+use Rattle.command_words.specs.declared.requests.Form.TheVariants as form
 use Rattle.command_words.specs.declared.lines.Line.{Line}
 use Rattle.command_words.specs.declared.requests.Command.{Command}
-use Rattle.command_words.specs.declared.requests.Command.TheVariants.{ListToList, ToJson}
+use Rattle.command_words.specs.declared.requests.Command.TheVariants.{ListToList, ToObjects, ToJson}
 use Rattle.command_words.proofs.Spelling.{heads, parts_once}
 use Rattle.command_words.proofs.SameRates.{rate_once}
 
@@ -65,22 +67,77 @@ gathers_more found word behind rest g h (Some line) is e a m = (
   add_first g h found m.0 a ∙ m.3,
 )
 
+list_not : (name : List ℕ) (f g : Form) → IsInput None name f → IsInput None name g → f ≡ g
+list_not name form.Objects form.Objects p q = refl
+list_not name form.Objects form.List p q = absurd (p q)
+list_not name form.Objects form.Json p q = absurd q
+list_not name form.List form.Objects p q = absurd (q p)
+list_not name form.List form.List p q = refl
+list_not name form.List form.Json p q = absurd q
+list_not name form.Json g p q = absurd p
+
+-- a file is read as at most one form
+pub input_once : (from : Option (List ℕ)) (name : List ℕ) (f g : Form) → IsInput from name f → IsInput from name g → f ≡ g
+input_once None name f g p q = list_not name f g p q
+input_once (Some word) name form.Objects form.Objects p q = refl
+input_once (Some word) name form.Objects form.List p q = absurd q
+input_once (Some word) name form.Objects form.Json p q = absurd q
+input_once (Some word) name form.List g p q = absurd p
+input_once (Some word) name form.Json g p q = absurd p
+
+default_once : (target : Option (List ℕ)) (f g : Form) → IsDefault target f → IsDefault target g → f ≡ g
+default_once None form.Objects form.Objects p q = refl
+default_once None form.Objects form.List p q = absurd q
+default_once None form.Objects form.Json p q = absurd q
+default_once None form.List g p q = absurd p
+default_once None form.Json g p q = absurd p
+default_once (Some t) form.Objects form.Objects p q = refl
+default_once (Some t) form.Objects form.List p q = absurd (p q)
+default_once (Some t) form.Objects form.Json p q = absurd q
+default_once (Some t) form.List form.Objects p q = absurd (q p)
+default_once (Some t) form.List form.List p q = refl
+default_once (Some t) form.List form.Json p q = absurd q
+default_once (Some t) form.Json g p q = absurd p
+
+-- the first byte of a word
+abbrev first : List ℕ → ℕ
+first word = get_or word 0 0
+
+word_once : (word : List ℕ) (target : Option (List ℕ)) (f g : Form) → IsOutput (Some word) target f → IsOutput (Some word) target g → f ≡ g
+word_once word target form.Objects form.Objects p q = refl
+word_once word target form.Objects form.List p q = absurd (omega (arith, ap first p, ap first q))
+word_once word target form.Objects form.Json p q = absurd (omega (arith, ap first p, ap first q))
+word_once word target form.List form.Objects p q = absurd (omega (arith, ap first p, ap first q))
+word_once word target form.List form.List p q = refl
+word_once word target form.List form.Json p q = absurd (omega (arith, ap first p, ap first q))
+word_once word target form.Json form.Objects p q = absurd (omega (arith, ap first p, ap first q))
+word_once word target form.Json form.List p q = absurd (omega (arith, ap first p, ap first q))
+word_once word target form.Json form.Json p q = refl
+
+-- at most one form is written
+pub output_once : (to target : Option (List ℕ)) (f g : Form) → IsOutput to target f → IsOutput to target g → f ≡ g
+output_once None target f g p q = default_once target f g p q
+output_once (Some word) target f g p q = word_once word target f g p q
+
 -- what is asked with these values
-pub asked_with : (command : Command) (called name to : List ℕ) (rate : Rate) (given : Given) → given.file ≡ Some name → given.to ≡ Some to → IsRate given.rate rate
-    → IsAskedBy command called given → IsAskedOf command name to rate given.drop × (called ≡ name)
-asked_with command called name to rate given file output is a =
+pub asked_with : (command : Command) (called name : List ℕ) (target : Option (List ℕ)) (input output : Form) (rate : Rate) (given : Given) → given.file ≡ Some name
+    → IsInput given.from name input → IsOutput given.to given.target output → IsRate given.rate rate
+    → IsAskedBy command called target given → IsAskedOf command input output rate given.drop × (called ≡ name) × (target ≡ given.target)
+asked_with command called name target input output rate given file reads writes is a =
     let same : called ≡ name = let e = sym a.file ∙ file in cc in
-    let also : a.to ≡ to = let e = sym a.output ∙ output in cc in
+    let read : a.input ≡ input = input_once given.from name a.input input (subst (λ n. IsInput given.from n a.input) same a.reads) reads in
+    let wrote : a.output ≡ output = output_once given.to given.target a.output output a.writes writes in
     let once = rate_once given.rate a.rate rate a.is_rate is in (
-      subst (λ n. IsAskedOf command n to rate given.drop) same (subst (λ t. IsAskedOf command called t rate given.drop) also
-          (subst (λ r. IsAskedOf command called a.to r given.drop) once a.means)),
+      subst (λ i. IsAskedOf command i output rate given.drop) read (subst (λ o. IsAskedOf command a.input o rate given.drop) wrote
+          (subst (λ r. IsAskedOf command a.input a.output r given.drop) once a.means)),
       same,
+      sym a.target_is,
     )
 
 -- words ask for what their parts ask for
-pub asks : (words rest : List (List ℕ)) (g given : Given) (parts : List Part) (command : Command) (name : List ℕ) → words ≡ codes "convert" ∷ rest → AreParts parts
-    → rest ≡ spell parts → g ≡ nothing_given → add_all g parts ≡ Some given → IsAskedBy command name given → Ask words command name
-asks words rest g given parts command name w a s n e is = record {
+pub asks : (words rest : List (List ℕ)) (g given : Given) (parts : List Part) (command : Command) (name : List ℕ) (target : Option (List ℕ)) → words ≡ codes "convert" ∷ rest
+    → AreParts parts → rest ≡ spell parts → g ≡ nothing_given → add_all g parts ≡ Some given → IsAskedBy command name target given → Ask words command name target
+asks words rest g given parts command name target w a s n e is = record {
   parts = parts;
   are_parts = a;
   words_are = w ∙ ap (λ l. codes "convert" ∷ l) s;
@@ -89,39 +146,60 @@ asks words rest g given parts command name w a s n e is = record {
   asked = is;
 }
 
--- what isn't there gives nothing
-pub none_of : {X Y : Type 0} (f : X → Y) (o : Option X) → false ≡ is_some o → option_map f o ≡ None
-none_of f None e = refl
-none_of f (Some x) e = absurd (false≢true e)
+-- the characters of the name of an output
+abbrev pub target_of : Request → Option (List ℕ)
+target_of request = option_map (λ s. s.now) request.target
 
 -- the request of a line is what the words ask for
 pub request_asks : (words rest : List (List ℕ)) (parts : List Part) (g : Given) (result : Option Request) → words ≡ codes "convert" ∷ rest → AreParts parts → rest ≡ spell parts
     → add_all nothing_given parts ≡ Some g
-    → MatchOption result ((command : Command) (name : List ℕ) → IsAskedBy command name g → ⊥) (λ request. IsAskedBy request.command request.name.now g)
-    → MatchOption result (AskNothing words) (λ request. Ask words request.command request.name.now)
-request_asks words rest parts g None w a s e m = λ command name ask.
+    → MatchOption result ((command : Command) (name : List ℕ) (target : Option (List ℕ)) → IsAskedBy command name target g → ⊥)
+    (λ request. IsAskedBy request.command request.name.now (target_of request) g)
+    → MatchOption result (AskNothing words) (λ request. Ask words request.command request.name.now (target_of request))
+request_asks words rest parts g None w a s e m = λ command name target ask.
     let same : spell ask.parts ≡ spell parts = let k = sym ask.words_are ∙ w ∙ ap (λ l. codes "convert" ∷ l) s in cc in
     let once : ask.parts ≡ parts = parts_once ask.parts parts ask.are_parts a same in
     let both : Some ask.given ≡ Some g = sym ask.gathered ∙ ap (add_all nothing_given) once ∙ e in
-    let given : ask.given ≡ g = cc in m command name (subst (IsAskedBy command name) given ask.asked)
-request_asks words rest parts g (Some request) w a s e m = asks words rest nothing_given g parts request.command request.name.now w a s refl e m
+    let given : ask.given ≡ g = cc in m command name target (subst (IsAskedBy command name target) given ask.asked)
+request_asks words rest parts g (Some request) w a s e m = asks words rest nothing_given g parts request.command request.name.now (target_of request) w a s refl e m
 
 -- one file, one output and one rate make at most one command
-asked_once : (c d : Command) (name to : List ℕ) (rate : Rate) (drop : Bool) → IsAskedOf c name to rate drop → IsAskedOf d name to rate drop → c ≡ d
-asked_once (ListToList r f) (ListToList s g) name to rate drop p q = let e = p.2 ∙ sym q.2 in let h = p.3 ∙ sym q.3 in cc
-asked_once (ListToList r f) ToJson name to rate drop p q = absurd (q.0 p.0)
-asked_once ToJson (ListToList s g) name to rate drop p q = absurd (p.0 q.0)
-asked_once ToJson ToJson name to rate drop p q = refl
+asked_once : (c d : Command) (input output : Form) (rate : Rate) (drop : Bool) → IsAskedOf c input output rate drop → IsAskedOf d input output rate drop → c ≡ d
+asked_once (ListToList r f) (ListToList s g) form.List form.List rate drop p q = let e = p.0 ∙ sym q.0 in let h = p.1 ∙ sym q.1 in cc
+asked_once ToObjects ToObjects input output rate drop p q = refl
+asked_once ToJson ToJson input output rate drop p q = refl
+asked_once (ListToList r f) d form.Objects output rate drop p q = absurd p
+asked_once (ListToList r f) d form.Json output rate drop p q = absurd p
+asked_once (ListToList r f) d form.List form.Objects rate drop p q = absurd p
+asked_once (ListToList r f) d form.List form.Json rate drop p q = absurd p
+asked_once (ListToList r f) ToObjects form.List form.List rate drop p q = absurd q
+asked_once (ListToList r f) ToJson form.List form.List rate drop p q = absurd q
+asked_once ToObjects (ListToList s g) form.Objects output rate drop p q = absurd q
+asked_once ToObjects (ListToList s g) form.List output rate drop p q = absurd p
+asked_once ToObjects (ListToList s g) form.Json output rate drop p q = absurd p
+asked_once ToObjects ToJson form.Objects form.Objects rate drop p q = absurd q
+asked_once ToObjects ToJson form.Objects form.List rate drop p q = absurd p
+asked_once ToObjects ToJson form.Objects form.Json rate drop p q = absurd p
+asked_once ToObjects ToJson form.List output rate drop p q = absurd p
+asked_once ToObjects ToJson form.Json output rate drop p q = absurd p
+asked_once ToJson (ListToList s g) form.Objects output rate drop p q = absurd q
+asked_once ToJson (ListToList s g) form.List output rate drop p q = absurd p
+asked_once ToJson (ListToList s g) form.Json output rate drop p q = absurd p
+asked_once ToJson ToObjects form.Objects form.Objects rate drop p q = absurd p
+asked_once ToJson ToObjects form.Objects form.List rate drop p q = absurd p
+asked_once ToJson ToObjects form.Objects form.Json rate drop p q = absurd q
+asked_once ToJson ToObjects form.List output rate drop p q = absurd p
+asked_once ToJson ToObjects form.Json output rate drop p q = absurd p
 
-by_once : (c d : Command) (a b : List ℕ) (given : Given) → IsAskedBy c a given → IsAskedBy d b given → (c ≡ d) × (a ≡ b)
-by_once c d a b given p q =
-    let h = asked_with d b a p.to p.rate given p.file p.output p.is_rate q in
-    (asked_once c d a p.to p.rate given.drop p.means h.0, sym h.1)
+by_once : (c d : Command) (a b : List ℕ) (s t : Option (List ℕ)) (given : Given) → IsAskedBy c a s given → IsAskedBy d b t given → (c ≡ d) × (a ≡ b) × (s ≡ t)
+by_once c d a b s t given p q =
+    let h = asked_with d b a t p.input p.output p.rate given p.file p.reads p.writes p.is_rate q in
+    (asked_once c d p.input p.output p.rate given.drop p.means h.0, sym h.1, sym p.target_is ∙ sym h.2)
 
 -- words ask for at most one command on at most one file
-pub ask_once : (words : List (List ℕ)) (c d : Command) (a b : List ℕ) → Ask words c a → Ask words d b → (c ≡ d) × (a ≡ b)
-ask_once words c d a b p q =
+pub ask_once : (words : List (List ℕ)) (c d : Command) (a b : List ℕ) (s t : Option (List ℕ)) → Ask words c a s → Ask words d b t → (c ≡ d) × (a ≡ b) × (s ≡ t)
+ask_once words c d a b s t p q =
     let same : spell p.parts ≡ spell q.parts = let k = sym p.words_are ∙ q.words_are in cc in
     let once : p.parts ≡ q.parts = parts_once p.parts q.parts p.are_parts q.are_parts same in
     let both : Some p.given ≡ Some q.given = sym p.gathered ∙ ap (add_all nothing_given) once ∙ q.gathered in
-    let given : p.given ≡ q.given = cc in by_once c d a b q.given (subst (IsAskedBy c a) given p.asked) q.asked
+    let given : p.given ≡ q.given = cc in by_once c d a b s t q.given (subst (IsAskedBy c a s) given p.asked) q.asked

@@ -6,8 +6,10 @@ use Rattle.tick_time.specs.declared.rates.Rate.{Rate}
 use Rattle.command_words.specs.Names.{IsListName}
 use Rattle.command_words.specs.Parts.{Part, AreParts, spell}
 use Rattle.command_words.specs.Gathered.{Given, nothing_given, add_all}
+use Rattle.command_words.specs.declared.requests.Form.{Form}
+use Rattle.command_words.specs.declared.requests.Form.TheVariants as form
 use Rattle.command_words.specs.declared.requests.Command.{Command}
-use Rattle.command_words.specs.declared.requests.Command.TheVariants.{ListToList, ToJson}
+use Rattle.command_words.specs.declared.requests.Command.TheVariants.{ListToList, ToObjects, ToJson}
 
 -- The word is a rate: a number of JSON (RFC 8259, section 6) that isn't too long and stands for the rate.
 pub record IsRateWord (word : List ℕ) (rate : Rate) : Type 0 where
@@ -20,31 +22,60 @@ abbrev pub IsRate : Option (List ℕ) → Rate → Type 0
 IsRate None rate = (rate.num ≡ pos 24) × (rate.den ≡ pos 1)
 IsRate (Some word) rate = IsRateWord word rate
 
--- The command: a list is written as a list at this rate, and every other file as JSON.
-abbrev pub IsAskedOf : Command → List ℕ → List ℕ → Rate → Bool → Type 0
-IsAskedOf (ListToList rate drop) name to asked flag = IsListName name × (to ≡ codes "edl") × (rate ≡ asked) × (drop ≡ flag)
-IsAskedOf ToJson name to asked flag = (IsListName name → ⊥) × (to ≡ codes "json")
+-- what the file is read as: as the option says, else as a list where its name is that of a list, and as objects where it isn't
+abbrev pub IsInput : Option (List ℕ) → List ℕ → Form → Type 0
+IsInput None name form.Objects = IsListName name → ⊥
+IsInput None name form.List = IsListName name
+IsInput None name form.Json = ⊥
+IsInput (Some word) name form.Objects = word ≡ codes "otio"
+IsInput (Some word) name form.List = ⊥
+IsInput (Some word) name form.Json = ⊥
+
+-- what an output of that name is written as where no option says so: a list where the name is that of a list, else objects
+abbrev pub IsDefault : Option (List ℕ) → Form → Type 0
+IsDefault None form.Objects = Unit {0}
+IsDefault None form.List = ⊥
+IsDefault None form.Json = ⊥
+IsDefault (Some target) form.Objects = IsListName target → ⊥
+IsDefault (Some target) form.List = IsListName target
+IsDefault (Some target) form.Json = ⊥
+
+-- what is written: as the option says, else by the name of the output
+abbrev pub IsOutput : Option (List ℕ) → Option (List ℕ) → Form → Type 0
+IsOutput None target form = IsDefault target form
+IsOutput (Some word) target form.Objects = word ≡ codes "otio"
+IsOutput (Some word) target form.List = word ≡ codes "edl"
+IsOutput (Some word) target form.Json = word ≡ codes "json"
+
+-- The command: a list is written as a list at this rate, with drop-frame timecode where the flag is there; objects as objects or as JSON.
+abbrev pub IsAskedOf : Command → Form → Form → Rate → Bool → Type 0
+IsAskedOf (ListToList rate drop) form.List form.List asked flag = (rate ≡ asked) × (drop ≡ flag)
+IsAskedOf ToObjects form.Objects form.Objects asked flag = Unit {0}
+IsAskedOf ToJson form.Objects form.Json asked flag = Unit {0}
+IsAskedOf command input output asked flag = ⊥
 
 -- What the options and the file ask for. Other options have a value that is allowed even where the command doesn't need it.
-pub record IsAskedBy (command : Command) (name : List ℕ) (given : Given) : Type 0 where
+pub record IsAskedBy (command : Command) (name : List ℕ) (target : Option (List ℕ)) (given : Given) : Type 0 where
   pub file : given.file ≡ Some name
-  pub from : given.from ≡ None
-  pub target : given.target ≡ None
-  pub to : List ℕ
-  pub output : given.to ≡ Some to
+  pub target_is : given.target ≡ target
+  pub input : Form
+  pub reads : IsInput given.from name input
+  pub output : Form
+  pub writes : IsOutput given.to given.target output
   pub rate : Rate
   pub is_rate : IsRate given.rate rate
-  pub means : IsAskedOf command name to rate given.drop
+  pub means : IsAskedOf command input output rate given.drop
 
--- The words ask for this command on the file of this name: `convert`, then the options and the file in any order.
-pub record Ask (words : List (List ℕ)) (command : Command) (name : List ℕ) : Type 0 where
+-- The words ask for this command on the file of this name, with the output into the file of the target's name, or to the standard output where there is none:
+-- `convert`, then the options and the file in any order.
+pub record Ask (words : List (List ℕ)) (command : Command) (name : List ℕ) (target : Option (List ℕ)) : Type 0 where
   pub parts : List Part
   pub are_parts : AreParts parts
   pub words_are : words ≡ codes "convert" ∷ spell parts
   pub given : Given
   pub gathered : add_all nothing_given parts ≡ Some given
-  pub asked : IsAskedBy command name given
+  pub asked : IsAskedBy command name target given
 
 -- the words ask for no command
 abbrev pub AskNothing : List (List ℕ) → Type 0
-AskNothing words = (command : Command) (name : List ℕ) → Ask words command name → ⊥
+AskNothing words = (command : Command) (name : List ℕ) (target : Option (List ℕ)) → Ask words command name target → ⊥

@@ -1,6 +1,7 @@
 // What a command line asks for.
-ghost use Rattle.std.specs.Prelude.{◌≡◌, ℕ, List, map, string_bytes, MatchOption};
-ghost use Rattle.command_words.specs.Asked.{Ask, AskNothing, IsAskedBy, IsAskedOf};
+ghost use Rattle.std.specs.Prelude.{◌≡◌, ℕ, Bool, List, Option, Some, None, map, string_bytes, MatchOption};
+ghost use Rattle.std.specs.Option.{option_map};
+ghost use Rattle.command_words.specs.Asked.{Ask, AskNothing, IsAskedBy, IsAskedOf, IsInput, IsOutput};
 ghost use Rattle.command_words.specs.Gathered.{given_by};
 
 use crate::lines::{Line, empty_line, gather};
@@ -20,8 +21,21 @@ pub enum Command {
         /// Whether the list is written with drop-frame timecode whatever it says itself.
         drop: bool,
     },
+    /// An object is written in the current schemas and the written order.
+    ToObjects,
     /// A JSON text is written in its layout.
     ToJson,
+}
+
+/// What a file is read as, or what is written.
+#[derive(Clone, Copy, Debug, PartialEq, Eq)]
+pub enum Form {
+    /// An object of OpenTimelineIO.
+    Objects,
+    /// A CMX 3600 list.
+    List,
+    /// A JSON text.
+    Json,
 }
 
 /// What a command line asks for.
@@ -31,11 +45,14 @@ pub struct Request<'a> {
     pub command: Command,
     /// The name of the file; `-` is the standard input.
     pub name: &'a str,
+    /// The name of the output file; none for the standard output.
+    pub target: Option<&'a str>,
 }
 
 /// What the words behind the program's name ask for; none exactly where they ask for nothing.
 pub fn request_of(words: &[String]) -> Option<Request<'_>>
-    ensures { let said = map (λ w. string_bytes w) words.now in MatchOption result (AskNothing said) (λ request. Ask said request.command request.name.now) }
+    ensures { let said = map (λ w. string_bytes w) words.now in MatchOption result (AskNothing said)
+        (λ request. Ask said request.command request.name.now (option_map (λ s. s.now) request.target)) }
 {
     let Some((command, rest)) = first_word(words) else {
         return None;
@@ -52,46 +69,132 @@ pub fn request_of(words: &[String]) -> Option<Request<'_>>
 // What the options and the file of a line ask for.
 fn request_in<'a>(line: &Line<'a>) -> Option<Request<'a>>
     ensures { let given = given_by line.now in MatchOption result
-        ((command : Command) (name : List ℕ) → IsAskedBy command name given → ⊥)
-        (λ request. IsAskedBy request.command request.name.now given) }
+        ((command : Command) (name : List ℕ) (target : Option (List ℕ)) → IsAskedBy command name target given → ⊥)
+        (λ request. IsAskedBy request.command request.name.now (option_map (λ s. s.now) request.target) given) }
 {
     let Some(name) = line.file else {
         return None;
     };
-    let Some(to) = line.to else {
+    let Some(input) = input_of(line.from, name) else {
         return None;
     };
-    if line.from.is_some() || line.target.is_some() {
+    let Some(output) = output_of(line.to, line.target) else {
         return None;
-    }
+    };
     let Some(rate) = rate_asked(line.rate) else {
         return None;
     };
-    match command_in(name, to, rate, line.drop) {
-        Some(command) => Some(Request { command, name }),
+    match command_in(input, output, rate, line.drop) {
+        Some(command) => Some(Request {
+            command,
+            name,
+            target: line.target,
+        }),
         None => None,
     }
 }
 
-// The command by what is read and what is written.
-fn command_in(name: &str, to: &str, rate: Rate, drop: bool) -> Option<Command>
-    ensures { MatchOption result
-        ((command : Command) → IsAskedOf command name.now to.now rate drop → ⊥)
-        (λ command. IsAskedOf command name.now to.now rate drop) }
+// What the file is read as.
+fn input_of(from: Option<&str>, name: &str) -> Option<Form>
+    ensures { let asked = option_map (λ s. s.now) from.entry in MatchOption result
+        ((form : Form) → IsInput asked name.now form → ⊥)
+        (λ form. IsInput asked name.now form) }
+{
+    match from {
+        Some(word) => {
+            if is_text(word.as_bytes(), b"otio") {
+                Some(Form::Objects)
+            } else {
+                None
+            }
+        }
+        None => Some(form_of_name(name)),
+    }
+}
+
+// What a file of that name is where nothing else says so.
+fn form_of_name(name: &str) -> Form
+    ensures { IsInput None name.now result }
 {
     if is_list_name(name) {
-        if is_text(to.as_bytes(), b"edl") {
-            return Some(Command::ListToList { rate, drop });
-        }
-        return None;
+        Form::List
+    } else {
+        Form::Objects
     }
-    if is_text(to.as_bytes(), b"json") {
-        return Some(Command::ToJson);
+}
+
+// What is written.
+fn output_of(to: Option<&str>, target: Option<&str>) -> Option<Form>
+    ensures { let asked = option_map (λ s. s.now) to.entry in let named = option_map (λ s. s.now) target.entry in MatchOption result
+        ((form : Form) → IsOutput asked named form → ⊥)
+        (λ form. IsOutput asked named form) }
+{
+    match to {
+        Some(word) => form_of_word(word),
+        None => Some(default_output(target)),
+    }
+}
+
+// What a word asks to be written.
+fn form_of_word(word: &str) -> Option<Form>
+    ensures { (target : Option (List ℕ)) → MatchOption result
+        ((form : Form) → IsOutput (Some word.now) target form → ⊥)
+        (λ form. IsOutput (Some word.now) target form) }
+{
+    let word = word.as_bytes();
+    if is_text(word, b"otio") {
+        return Some(Form::Objects);
+    }
+    if is_text(word, b"edl") {
+        return Some(Form::List);
+    }
+    if is_text(word, b"json") {
+        return Some(Form::Json);
     }
     None
 }
 
-/// Law: words ask for at most one command on at most one file. It does nothing.
+// What is written into a file of that name, or to the standard output, where no option says so.
+fn default_output(target: Option<&str>) -> Form
+    ensures { IsOutput None (option_map (λ s. s.now) target.entry) result }
+{
+    match target {
+        Some(name) => form_of_name(name),
+        None => Form::Objects,
+    }
+}
+
+// The command by what is read and what is written.
+fn command_in(input: Form, output: Form, rate: Rate, drop: bool) -> Option<Command>
+    ensures { MatchOption result
+        ((command : Command) → IsAskedOf command input output rate drop → ⊥)
+        (λ command. IsAskedOf command input output rate drop) }
+{
+    match input {
+        Form::Objects => object_command(output),
+        Form::List => match output {
+            Form::List => Some(Command::ListToList { rate, drop }),
+            _ => None,
+        },
+        Form::Json => None,
+    }
+}
+
+// The command for objects.
+fn object_command(output: Form) -> Option<Command>
+    ensures { (rate : Rate) (drop : Bool) → MatchOption result
+        ((command : Command) → IsAskedOf command Form.Objects output rate drop → ⊥)
+        (λ command. IsAskedOf command Form.Objects output rate drop) }
+{
+    match output {
+        Form::Objects => Some(Command::ToObjects),
+        Form::Json => Some(Command::ToJson),
+        Form::List => None,
+    }
+}
+
+/// Law: words ask for at most one command on at most one file, with at most one output. It does nothing.
 pub fn one_request()
-    ensures { (words : List (List ℕ)) (one other : Command) (a b : List ℕ) → Ask words one a → Ask words other b → (one ≡ other) × (a ≡ b) }
+    ensures { (words : List (List ℕ)) (one other : Command) (a b : List ℕ) (p q : Option (List ℕ)) → Ask words one a p → Ask words other b q
+        → (one ≡ other) × (a ≡ b) × (p ≡ q) }
 {}

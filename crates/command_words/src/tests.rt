@@ -29,7 +29,7 @@ fn lines_ask_for_lists(rt: HostRuntime) -> Result<(), Fail> {
                         assert_eq!(rt; rate.num, num, "{line}");
                         assert_eq!(rt; asked, drop, "{line}");
                     }
-                    Command::ToJson => assert!(rt; false, "{line}"),
+                    _ => assert!(rt; false, "{line}"),
                 }
             }
             None => assert!(rt; false, "{line}"),
@@ -64,7 +64,6 @@ fn other_lines_ask_for_nothing(rt: HostRuntime) -> Result<(), Fail> {
         "convert",
         "Convert --to edl a.edl",
         "convert --to edl",
-        "convert a.edl",
         "convert --to edl a.edl a.edl",
         "convert --to edl --to edl a.edl",
         "convert --to=edl a.edl",
@@ -73,17 +72,55 @@ fn other_lines_ask_for_nothing(rt: HostRuntime) -> Result<(), Fail> {
         "convert --to json a.edl",
         "convert --to edl a.json",
         "convert --to otio a.edl",
+        "convert a.edl",
+        "convert --from edl --to edl a.edl",
+        "convert --from edl x",
+        "convert --to edl x",
+        "convert -o l.edl x",
+        "convert --from otio --to edl a.edl",
+        "convert -o b.edl --output c.edl a.edl",
         "convert --to json --rate 29.5 x",
         "convert --to json --rate 024 x",
         "convert --to json --rate x",
         "convert --to json --drop --drop x",
         "convert --to json x --rate",
-        "convert --to json -o y x",
-        "convert --to json --output y x",
-        "convert --from otio --to json x",
+        "convert -o -x y",
     ] {
         let words = words_of(rt.alloc(), line)?;
         assert!(rt; request_of(words.as_slice()).is_none(), "{line}");
+    }
+    Ok(())
+}
+
+#[test]
+fn lines_ask_for_objects_and_outputs(rt: HostRuntime) -> Result<(), Fail> {
+    for (line, command, target) in [
+        ("convert x.otio", Command::ToObjects, None),
+        ("convert --to otio x.otio", Command::ToObjects, None),
+        ("convert --from otio a.edl", Command::ToObjects, None),
+        ("convert x -o y", Command::ToObjects, Some("y")),
+        ("convert --output - x", Command::ToObjects, Some("-")),
+        (
+            "convert --to otio -o l.edl x",
+            Command::ToObjects,
+            Some("l.edl"),
+        ),
+        ("convert --to json -o y x", Command::ToJson, Some("y")),
+        ("convert --from otio --to json a.edl", Command::ToJson, None),
+    ] {
+        let words = words_of(rt.alloc(), line)?;
+        match request_of(words.as_slice()) {
+            Some(request) => {
+                assert_eq!(rt; request.command, command, "{line}");
+                assert_eq!(rt; request.target, target, "{line}");
+            }
+            None => assert!(rt; false, "{line}"),
+        }
+    }
+    let words = words_of(rt.alloc(), "convert -o l.edl a.edl")?;
+    match request_of(words.as_slice()) {
+        Some(request) => assert!(rt; matches!(request.command, Command::ListToList { .. })),
+        None => assert!(rt; false),
     }
     Ok(())
 }

@@ -1,7 +1,8 @@
 -- The fault of the front of a file is that of the file.
-use Rattle.std.proofs.Common.{◌≡◌, ◌<◌, ◌≤◌, ◌+◌, ℕ, List, ◌++◌, Some, None, Result, Ok, Err, IfSome, MatchOption, length, take, sym, subst, inl, inr, refl, arith, length-append}
+use Rattle.std.proofs.Common.{◌<◌, ◌≤◌, ◌+◌, ℕ, List, ◌++◌, Some, None, Result, Ok, Err, IfSome, IfOk, MatchOption, length, sym, subst, inl, inr, refl, arith, length-append}
 use Rattle.std.proofs.lemmas.List.{take-append-le}
-use Rattle.json_text.specs.Faults.{Names, IsDeadAt, BreaksUtf8, BreaksGrammar, IsTooDeep}
+use Rattle.json_text.specs.Faults.{Names, IsDeadAt, BreaksUtf8, BreaksGrammar}
+use Rattle.json_text.specs.Grammar.{text_of}
 use Rattle.json_text.specs.declared.faults.JsonFault.{JsonFault}
 use Rattle.json_text.specs.declared.faults.JsonFault.TheVariants.{Syntax, Utf8, Depth, Large, Memory}
 use Rattle.otio_tools.specs.declared.fault.Fault.TheVariants.{Json as OfJson}
@@ -81,22 +82,28 @@ value_left bytes None new result e h = tt
 value_left bytes (Some old) None result e h = absurd e
 value_left bytes (Some old) (Some new) result e h = left_value old.hand bytes old new result e h
 
+-- what was read of the bytes that were fed is what some bytes stand for
+pub with_bytes : (bytes : List ℕ) (result : Result Json Fault) → IfOk result (λ value. text_of bytes value) → IfOk result (λ value. (text : List ℕ) × text_of text value)
+with_bytes bytes (Ok value) h = (bytes, h)
+with_bytes bytes (Err e) h = tt
+
 plans_json : (name left : List ℕ) (fault : JsonFault) → IsJsonFaultRead left fault → Plans ToJson name (Some left) (Err (OfJson fault))
-plans_json name left (Syntax n) h = inr (Syntax n, h, refl)
-plans_json name left (Utf8 n) h = inr (Utf8 n, h, refl)
-plans_json name left (Depth n) h = inr (Depth n, h, refl)
-plans_json name left Large h = inr (Large, h, refl)
-plans_json name left Memory h = tt
+plans_json name left (Syntax n) h = λ target. inr (Syntax n, h, refl)
+plans_json name left (Utf8 n) h = λ target. inr (Utf8 n, h, refl)
+plans_json name left (Depth n) h = λ target. inr (Depth n, h, refl)
+plans_json name left Large h = λ target. inr (Large, h, refl)
+plans_json name left Memory h = λ target. tt
 
 plans_fault : (name left : List ℕ) (fault : Fault) → ReadsAs left (Err fault) → Plans ToJson name (Some left) (Err fault)
 plans_fault name left faults.Absent h = absurd h
-plans_fault name left faults.ReadFailed h = tt
+plans_fault name left faults.ReadFailed h = λ target. tt
 plans_fault name left (faults.List fault) h = absurd h
 plans_fault name left faults.NoTimecode h = absurd h
 plans_fault name left faults.Events h = absurd h
 plans_fault name left (faults.Day line) h = absurd h
 plans_fault name left (faults.Json fault) h = plans_json name left fault h
-plans_fault name left faults.Memory h = tt
+plans_fault name left (faults.Object text) h = absurd h
+plans_fault name left faults.Memory h = λ target. tt
 
 fault_at : (name : List ℕ) (hand : Option (List ℕ × List ℕ)) (fault : Fault) → MatchOption hand (Unit {0}) (λ (h : List ℕ × List ℕ). ReadsAs h.1 (Err fault))
     → MatchOption hand (Unit {0}) (λ (h : List ℕ × List ℕ). Plans ToJson name (Some h.1) (Err fault))

@@ -1,5 +1,5 @@
 -- The early fault of the front of a file is that of the file.
-use Rattle.std.proofs.Common.{◌≡◌, ◌⊎◌, ◌<◌, ◌≤◌, ◌+◌, ◌-◌, ◌||◌, ℕ, zero, suc, Bool, List, [], ◌∷◌, ◌++◌, Some, None, Result, Ok, Err, IfSome, MatchOption, length, take, sym, ap, ◌∙◌, subst, inl, inr, refl, arith, length-append}
+use Rattle.std.proofs.Common.{◌≡◌, ◌⊎◌, ◌≤◌, ◌||◌, ℕ, zero, suc, Bool, List, [], ◌∷◌, ◌++◌, Some, None, Result, Ok, Err, IfSome, MatchOption, length, take, sym, ap, ◌∙◌, subst, inl, inr, refl, arith, length-append}
 use Rattle.std.proofs.lemmas.List.{take-append-le}
 use Rattle.std.specs.declared.option.Option.{Option}
 use Rattle.tick_time.specs.declared.rates.Rate.{Rate}
@@ -10,7 +10,7 @@ use Rattle.dev_io.specs.Calls.{Tells}
 use Rattle.edl_list.specs.declared.list.EventList.{EventList}
 use Rattle.edl_line.specs.Statements.{Statement}
 use Rattle.edl_text.specs.Lines.{HasFirstFault}
-use Rattle.edl_text.specs.Lists.{IsList, IsEarlyFault, IsFault, IsTooLarge, most_bytes}
+use Rattle.edl_text.specs.Lists.{IsList, IsEarlyFault, IsFault, most_bytes}
 use Rattle.edl_text.specs.declared.faults.EdlFault.{EdlFault}
 use Rattle.edl_text.specs.declared.faults.EdlFault.TheVariants.{Form, Timecode, Order, Unequal, Key, Split, Overlap, Reverse, Large, Memory}
 use Rattle.command_words.specs.declared.requests.Command.TheVariants.{ListToList}
@@ -90,26 +90,27 @@ list_left rate bytes (Some old) None result e h = absurd e
 list_left rate bytes (Some old) (Some new) result e h = left_list rate old.hand bytes old new result e h
 
 plans_list_fault : (rate : Rate) (drop : Bool) (name left : List ℕ) (fault : EdlFault) → IsFaultRead rate left fault → Plans (ListToList rate drop) name (Some left) (Err (faults.List fault))
-plans_list_fault rate drop name left (Form n) h = inr (Form n, h, refl)
-plans_list_fault rate drop name left (Timecode n) h = inr (Timecode n, h, refl)
-plans_list_fault rate drop name left (Order n) h = inr (Order n, h, refl)
-plans_list_fault rate drop name left (Unequal n) h = inr (Unequal n, h, refl)
-plans_list_fault rate drop name left (Key n) h = inr (Key n, h, refl)
-plans_list_fault rate drop name left (Split n) h = inr (Split n, h, refl)
-plans_list_fault rate drop name left (Overlap n) h = inr (Overlap n, h, refl)
-plans_list_fault rate drop name left (Reverse n) h = inr (Reverse n, h, refl)
-plans_list_fault rate drop name left Large h = inr (Large, h, refl)
-plans_list_fault rate drop name left Memory h = tt
+plans_list_fault rate drop name left (Form n) h = λ target. inr (Form n, h, refl)
+plans_list_fault rate drop name left (Timecode n) h = λ target. inr (Timecode n, h, refl)
+plans_list_fault rate drop name left (Order n) h = λ target. inr (Order n, h, refl)
+plans_list_fault rate drop name left (Unequal n) h = λ target. inr (Unequal n, h, refl)
+plans_list_fault rate drop name left (Key n) h = λ target. inr (Key n, h, refl)
+plans_list_fault rate drop name left (Split n) h = λ target. inr (Split n, h, refl)
+plans_list_fault rate drop name left (Overlap n) h = λ target. inr (Overlap n, h, refl)
+plans_list_fault rate drop name left (Reverse n) h = λ target. inr (Reverse n, h, refl)
+plans_list_fault rate drop name left Large h = λ target. inr (Large, h, refl)
+plans_list_fault rate drop name left Memory h = λ target. tt
 
 plans_fault : (rate : Rate) (drop : Bool) (name left : List ℕ) (fault : Fault) → ReadsAsList rate left (Err fault) → Plans (ListToList rate drop) name (Some left) (Err fault)
 plans_fault rate drop name left faults.Absent h = absurd h
-plans_fault rate drop name left faults.ReadFailed h = tt
+plans_fault rate drop name left faults.ReadFailed h = λ target. tt
 plans_fault rate drop name left (faults.List fault) h = plans_list_fault rate drop name left fault h
 plans_fault rate drop name left faults.NoTimecode h = absurd h
 plans_fault rate drop name left faults.Events h = absurd h
 plans_fault rate drop name left (faults.Day line) h = absurd h
 plans_fault rate drop name left (faults.Json fault) h = absurd h
-plans_fault rate drop name left faults.Memory h = tt
+plans_fault rate drop name left (faults.Object text) h = absurd h
+plans_fault rate drop name left faults.Memory h = λ target. tt
 
 fault_at : (rate : Rate) (drop : Bool) (name : List ℕ) (hand : Option (List ℕ × List ℕ)) (fault : Fault)
     → MatchOption hand (Unit {0}) (λ (h : List ℕ × List ℕ). ReadsAsList rate h.1 (Err fault))
@@ -125,10 +126,11 @@ list_fault_planned rate drop name (Some k) fault h = fault_at rate drop name k.h
 
 plans_list : (rate : Rate) (drop : Bool) (name left : List ℕ) (list : EventList) (result : Result Planned Fault) → IsList rate left list → PlansEvents name list (drop || list.drop) result
     → Plans (ListToList rate drop) name (Some left) result
-plans_list rate drop name left list result is h = owed (answer_planned name result) h where
-  owed : (o : Option Answer) → IfSome o (λ answer. AnswersEvents name list (drop || list.drop) answer) → IfSome o (λ answer. AnswersFile (ListToList rate drop) name (Some left) answer)
-  owed None h = tt
-  owed (Some answer) h = inl (list, is, h)
+plans_list rate drop name left list result is h = λ target. owed target (answer_planned name target result) (h target) where
+  owed : (target : Option (List ℕ)) (o : Option Answer) → IfSome o (λ answer. AnswersEvents name target list (drop || list.drop) answer)
+      → IfSome o (λ answer. AnswersFile (ListToList rate drop) name target (Some left) answer)
+  owed target None h = tt
+  owed target (Some answer) h = inl (list, is, h)
 
 list_at : (rate : Rate) (drop : Bool) (name : List ℕ) (hand : Option (List ℕ × List ℕ)) (list : EventList) (result : Result Planned Fault)
     → MatchOption hand (Unit {0}) (λ (h : List ℕ × List ℕ). ReadsAsList rate h.1 (Ok list)) → PlansEvents name list (drop || list.drop) result

@@ -1,10 +1,9 @@
 -- Plans.
-use Rattle.std.proofs.Common.{◌≡◌, ◌<◌, ◌≤◌, ℕ, List, [], Some, None, Result, Ok, Err, refl, ap, subst, length, IfSome, IsErrOf, OnOk, inl, inr, arith}
+use Rattle.std.proofs.Common.{ℕ, List, Some, None, Result, subst, IfSome}
 use Rattle.std.specs.declared.option.Option.{Option}
 use Rattle.dev_io.specs.Known.{KnownFiles}
 use Rattle.dev_io.specs.Calls.{Tells, Opens}
 use Rattle.dev_io.specs.declared.files.Opened.TheVariants.{Found}
-use Rattle.otio_tools.specs.Answer.{AnswersFile}
 use Rattle.otio_tools.specs.Whole.{IsLeft}
 use Rattle.otio_tools.specs.Plan.{Plans}
 use Rattle.command_words.specs.declared.requests.Command.{Command}

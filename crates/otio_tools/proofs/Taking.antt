@@ -1,10 +1,9 @@
 -- What several reads took, one after another.
-use Rattle.std.proofs.Common.{◌≡◌, ◌+◌, ◌<◌, ℕ, List, [], ◌∷◌, ◌++◌, Some, None, Result, Ok, Err, IfSome, OnOk, refl, sym, subst, ap, ◌∙◌, take, length, append-nil, append_assoc, arith, MatchOption}
+use Rattle.std.proofs.Common.{◌≡◌, ◌<◌, ℕ, List, [], ◌∷◌, ◌++◌, Some, None, Result, Ok, Err, OnOk, refl, sym, subst, ap, ◌∙◌, take, length, append-nil, append_assoc, arith}
 use Rattle.std.specs.declared.option.Option.{Option}
 use Rattle.dev_io.specs.Known.{KnownFiles}
 use Rattle.dev_io.specs.Calls.{Tells, Reads, ReadsFrom, failed_read}
-use Rattle.dev_io.specs.Calls.{Takes as TakesNext}
-use Rattle.otio_tools.specs.Whole.{Takes, TakesFrom, TakesAll, EndsFrom, EndsHand, ReadsOn, IsLeft, SameFiles, Fails, FailsIn}
+use Rattle.otio_tools.specs.Whole.{Takes, TakesFrom, TakesAll, EndsFrom, EndsHand, ReadsOn, SameFiles, Fails, FailsIn}
 
 taken_none : (hand : Option (List ℕ × List ℕ)) (k : KnownFiles) → k.hand ≡ hand → TakesFrom hand [] k k
 taken_none None k h = tt

@@ -1,5 +1,5 @@
--- The answer to words and files: a status, an output and a message.
-use Rattle.std.specs.Prelude.{◌≡◌, ◌≤◌, ◌<◌, ◌⊎◌, ◌||◌, Bool, IsSome, ℕ, List, [], ◌∷◌, ◌++◌, Some, None, codes, decimal, length}
+-- The answer to words and files: a status, a target, an output and a message.
+use Rattle.std.specs.Prelude.{◌≡◌, ◌≤◌, ◌<◌, ◌⊎◌, ◌||◌, Bool, IsSome, ℕ, List, [], ◌∷◌, Some, None, codes, decimal, length}
 use Rattle.std.specs.declared.option.Option.{Option}
 use Rattle.std.specs.List.{concat}
 use Rattle.json_value.specs.declared.Json.{Json}
@@ -8,6 +8,14 @@ use Rattle.json_text.specs.Faults.{IsFault}
 use Rattle.json_text.specs.declared.faults.JsonFault.{JsonFault}
 use Rattle.json_text.specs.declared.faults.JsonFault.TheVariants.{Syntax, Utf8, Depth, Large, Memory as JsonMemory}
 use Rattle.json_layout.specs.Layout.{layout}
+use Rattle.otio_model.specs.declared.roots.Object.{Object}
+use Rattle.schema_up.specs.Upgrades.{upgraded}
+use Rattle.schema_rows.specs.Counts.{count_of}
+use Rattle.schema_rows.specs.Stands.{Stands}
+use Rattle.schema_rows.specs.Faults.{IsFirstFault}
+use Rattle.schema_rows.specs.declared.faults.SchemaFault.{SchemaFault}
+use Rattle.schema_write.specs.Objects.{json_of}
+use Rattle.fault_text.specs.Faults.{fault_text}
 use Rattle.tick_time.specs.declared.rates.Rate.{Rate}
 use Rattle.smpte_tc.specs.Modes.{mode_of}
 use Rattle.edl_list.specs.declared.list.EventList.{EventList}
@@ -18,27 +26,29 @@ use Rattle.edl_layout.specs.Labelled.{IsFirstPast}
 use Rattle.edl_layout.specs.Spelling.{spelling}
 use Rattle.command_words.specs.Asked.{Ask, AskNothing}
 use Rattle.command_words.specs.declared.requests.Command.{Command}
-use Rattle.command_words.specs.declared.requests.Command.TheVariants.{ListToList, ToJson}
+use Rattle.command_words.specs.declared.requests.Command.TheVariants.{ListToList, ToObjects, ToJson}
 use Rattle.otio_tools.specs.declared.Status.{Status}
 use Rattle.otio_tools.specs.declared.Status.TheVariants.{Done, Refused, Usage, Input}
 
+-- A status, the file that the output goes to (none: the standard output), the output and the message.
 pub record Answer : Type 0 where
   pub status : Status
+  pub target : Option (List ℕ)
   pub output : List ℕ
   pub message : List ℕ
 
-abbrev pub done : List ℕ → Answer
-done output = record { status = Done; output = output; message = [] }
+abbrev pub done : Option (List ℕ) → List ℕ → Answer
+done target output = record { status = Done; target = target; output = output; message = [] }
 
 -- a message about a file, in parts
 abbrev pub message_of : List ℕ → List (List ℕ) → List ℕ
 message_of name why = concat (codes "otio: " ∷ name ∷ why)
 
 abbrev pub refused : List ℕ → List (List ℕ) → Answer
-refused name why = record { status = Refused; output = []; message = message_of name why }
+refused name why = record { status = Refused; target = None; output = []; message = message_of name why }
 
 abbrev pub absent : List ℕ → Answer
-absent name = record { status = Input; output = []; message = message_of name (codes ": absent\n" ∷ []) }
+absent name = record { status = Input; target = None; output = []; message = message_of name (codes ": absent\n" ∷ []) }
 
 abbrev pub read_failed : List ℕ → List ℕ
 read_failed name = message_of name (codes ": read failed\n" ∷ [])
@@ -56,7 +66,7 @@ usage_text = concat (
     ∷ [])
 
 abbrev pub usage : Answer
-usage = record { status = Usage; output = []; message = usage_text }
+usage = record { status = Usage; target = None; output = []; message = usage_text }
 
 -- how the fault of a list is told
 abbrev pub list_why : EdlFault → List (List ℕ)
@@ -89,17 +99,17 @@ pub record CanBeWritten (list : EventList) (drop : Bool) : Type 0 where
   pub few : length list.events ≤ 999
 
 -- The answer to a list of events that is written as a list, with drop-frame timecode or without: the first refusal that holds, else its spelling.
-pub data AnswersEvents (name : List ℕ) (list : EventList) (drop : Bool) (answer : Answer) : Type 0 where
-  NoTimecode : mode_of list.rate drop ≡ None → answer ≡ refused name no_timecode_why → AnswersEvents name list drop answer
-  TooMany : IsSome (mode_of list.rate drop) → 999 < length list.events → answer ≡ refused name events_why → AnswersEvents name list drop answer
-  PastDay : CanBeWritten list drop → (line : ℕ) → IsFirstPast list.rate drop list.events (Some line) → answer ≡ refused name (day_why line) → AnswersEvents name list drop answer
-  Spelled : CanBeWritten list drop → IsFirstPast list.rate drop list.events None → answer ≡ done (spelling list drop) → AnswersEvents name list drop answer
+pub data AnswersEvents (name : List ℕ) (target : Option (List ℕ)) (list : EventList) (drop : Bool) (answer : Answer) : Type 0 where
+  NoTimecode : mode_of list.rate drop ≡ None → answer ≡ refused name no_timecode_why → AnswersEvents name target list drop answer
+  TooMany : IsSome (mode_of list.rate drop) → 999 < length list.events → answer ≡ refused name events_why → AnswersEvents name target list drop answer
+  PastDay : CanBeWritten list drop → (line : ℕ) → IsFirstPast list.rate drop list.events (Some line) → answer ≡ refused name (day_why line) → AnswersEvents name target list drop answer
+  Spelled : CanBeWritten list drop → IsFirstPast list.rate drop list.events None → answer ≡ done target (spelling list drop) → AnswersEvents name target list drop answer
 
 -- The answer to a list that is written as a list, at a rate: with drop-frame timecode where that is asked for or is in force at its first event line. Bytes that
 -- are no list are refused with their first fault.
-abbrev pub AnswersList : Rate → Bool → List ℕ → List ℕ → Answer → Type 0
-AnswersList rate drop name bytes answer =
-    ((list : EventList) × IsList rate bytes list × AnswersEvents name list (drop || list.drop) answer)
+abbrev pub AnswersList : Rate → Bool → List ℕ → Option (List ℕ) → List ℕ → Answer → Type 0
+AnswersList rate drop name target bytes answer =
+    ((list : EventList) × IsList rate bytes list × AnswersEvents name target list (drop || list.drop) answer)
     ⊎ ((fault : EdlFault) × IsListFault rate bytes fault × (answer ≡ refused name (list_why fault)))
 
 -- the bytes of a file are a text of this value
@@ -116,18 +126,32 @@ json_why Large = codes ": J4 Large\n" ∷ []
 json_why JsonMemory = []
 
 -- The answer to a file that is written as JSON: the layout of its value where it is a JSON text, and else its first fault.
-abbrev pub AnswersJson : List ℕ → List ℕ → Answer → Type 0
-AnswersJson name bytes answer =
-    ((value : Json) × IsJson bytes value × (answer ≡ done (layout value)))
+abbrev pub AnswersJson : List ℕ → Option (List ℕ) → List ℕ → Answer → Type 0
+AnswersJson name target bytes answer =
+    ((value : Json) × IsJson bytes value × (answer ≡ done target (layout value)))
+    ⊎ ((fault : JsonFault) × IsFault fault bytes × (answer ≡ refused name (json_why fault)))
+
+-- The answer to a value that is written as an object: the layout of the object that it stands for by the tables of the schemas, in the current schemas and the
+-- written order, and else the value's first fault.
+abbrev pub AnswersObject : List ℕ → Option (List ℕ) → Json → Answer → Type 0
+AnswersObject name target value answer =
+    ((object : Object) × Stands value object × (count_of object ≤ 100000) × (answer ≡ done target (layout (json_of object))))
+    ⊎ ((fault : SchemaFault) × IsFirstFault value fault × (answer ≡ refused name (fault_text fault ∷ [])))
+
+-- The answer to a file that is written as an object: that to its value with all old names and versions rewritten, where it is a JSON text, and else its first fault.
+abbrev pub AnswersObjects : List ℕ → Option (List ℕ) → List ℕ → Answer → Type 0
+AnswersObjects name target bytes answer =
+    ((value : Json) × IsJson bytes value × AnswersObject name target (upgraded value) answer)
     ⊎ ((fault : JsonFault) × IsFault fault bytes × (answer ≡ refused name (json_why fault)))
 
 -- the answer to a command on a file, by what the file holds
-abbrev pub AnswersFile : Command → List ℕ → Option (List ℕ) → Answer → Type 0
-AnswersFile command name None answer = answer ≡ absent name
-AnswersFile (ListToList rate drop) name (Some bytes) answer = AnswersList rate drop name bytes answer
-AnswersFile ToJson name (Some bytes) answer = AnswersJson name bytes answer
+abbrev pub AnswersFile : Command → List ℕ → Option (List ℕ) → Option (List ℕ) → Answer → Type 0
+AnswersFile command name target None answer = answer ≡ absent name
+AnswersFile (ListToList rate drop) name target (Some bytes) answer = AnswersList rate drop name target bytes answer
+AnswersFile ToObjects name target (Some bytes) answer = AnswersObjects name target bytes answer
+AnswersFile ToJson name target (Some bytes) answer = AnswersJson name target bytes answer
 
 -- The answer to the words, where each name holds these bytes: that of the command that they ask for, and usage for all other words.
 pub data Answers (words : List (List ℕ)) (held : List ℕ → Option (List ℕ)) (answer : Answer) : Type 0 where
   NoCommand : AskNothing words → answer ≡ usage → Answers words held answer
-  OnFile : (command : Command) (name : List ℕ) → Ask words command name → AnswersFile command name (held name) answer → Answers words held answer
+  OnFile : (command : Command) (name : List ℕ) (target : Option (List ℕ)) → Ask words command name target → AnswersFile command name target (held name) answer → Answers words held answer

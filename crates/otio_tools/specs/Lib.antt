@@ -4,3 +4,4 @@ pub mod Whole
 pub mod Run
 pub mod Told
 pub mod Plan
+pub mod Texts

@@ -1,5 +1,5 @@
 -- What is planned for a file before anything is sent.
-use Rattle.std.specs.Prelude.{◌≡◌, ℕ, Bool, List, [], ◌∷◌, Some, None, Result, Ok, Err, IfSome, MatchOption}
+use Rattle.std.specs.Prelude.{◌≡◌, ℕ, Bool, List, [], Some, None, Result, Ok, Err, IfSome}
 use Rattle.std.specs.declared.option.Option.{Option}
 use Rattle.json_value.specs.declared.Json.{Json}
 use Rattle.json_text.specs.declared.faults.JsonFault.{JsonFault}
@@ -15,16 +15,16 @@ use Rattle.edl_text.specs.declared.faults.EdlFault.TheVariants as edl
 use Rattle.edl_layout.specs.Labelled.{IsFirstPast}
 use Rattle.edl_layout.specs.Spelling.{spelling}
 use Rattle.command_words.specs.declared.requests.Command.{Command}
-use Rattle.dev_io.specs.Calls.{Adds, AddsPrefix}
-use Rattle.otio_tools.specs.Answer.{Answer, AnswersFile, AnswersEvents, CanBeWritten, IsJson, done}
+use Rattle.dev_io.specs.Known.{KnownOut}
+use Rattle.otio_tools.specs.Answer.{Answer, AnswersFile, AnswersEvents, AnswersObject, CanBeWritten, IsJson, done}
 use Rattle.otio_tools.specs.Told.{Told, told, answer_told, status_told, message_told, RaisedBy}
-use Rattle.otio_tools.specs.Run.{Streams, Sends, Message, OutFailed, SendsNothing, output_failed}
+use Rattle.otio_tools.specs.Run.{Streams, Sends, Directs, DirectsPrefix, Message, OutFailed, SendsNothing, output_failed}
 use Rattle.otio_tools.specs.declared.Status.{Status}
 use Rattle.otio_tools.specs.declared.Status.TheVariants as status
 use Rattle.otio_tools.specs.declared.plan.Planned.{Planned}
 use Rattle.otio_tools.specs.declared.plan.Planned.TheVariants.{Events, Value}
 use Rattle.otio_tools.specs.declared.fault.Fault.{Fault}
-use Rattle.otio_tools.specs.declared.fault.Fault.TheVariants.{Absent, ReadFailed, List as OfList, NoTimecode, Events as TooManyEvents, Day, Json as OfJson, Memory}
+use Rattle.otio_tools.specs.declared.fault.Fault.TheVariants.{Absent, ReadFailed, List as OfList, NoTimecode, Events as TooManyEvents, Day, Json as OfJson, Object, Memory}
 
 -- the text of what is to be sent
 abbrev pub text_planned : Planned → List ℕ
@@ -32,17 +32,21 @@ text_planned (Events list drop) = spelling list drop
 text_planned (Value value) = layout value
 
 -- the answer that a plan stands for; a failed read and want of memory are none
-abbrev pub answer_planned : List ℕ → Result Planned Fault → Option Answer
-answer_planned name (Ok planned) = Some (done (text_planned planned))
-answer_planned name (Err fault) = answer_told name (told fault)
+abbrev pub answer_planned : List ℕ → Option (List ℕ) → Result Planned Fault → Option Answer
+answer_planned name target (Ok planned) = Some (done target (text_planned planned))
+answer_planned name target (Err fault) = answer_told name (told fault)
 
--- the plan is right for the bytes that the name holds
+-- the plan is right for the bytes that the name holds, whatever the target
 abbrev pub Plans : Command → List ℕ → Option (List ℕ) → Result Planned Fault → Type 0
-Plans command name held result = IfSome (answer_planned name result) (λ answer. AnswersFile command name held answer)
+Plans command name held result = (target : Option (List ℕ)) → IfSome (answer_planned name target result) (λ answer. AnswersFile command name target held answer)
 
 -- the plan is right for a list of events that is written in this mode
 abbrev pub PlansEvents : List ℕ → EventList → Bool → Result Planned Fault → Type 0
-PlansEvents name list drop result = IfSome (answer_planned name result) (λ answer. AnswersEvents name list drop answer)
+PlansEvents name list drop result = (target : Option (List ℕ)) → IfSome (answer_planned name target result) (λ answer. AnswersEvents name target list drop answer)
+
+-- the plan is right for a value that is written as an object
+abbrev pub PlansObject : List ℕ → Json → Result Planned Fault → Type 0
+PlansObject name value result = (target : Option (List ℕ)) → IfSome (answer_planned name target result) (λ answer. AnswersObject name target value answer)
 
 -- the fault of a JSON text that was read is that of the bytes; want of memory is free
 abbrev pub IsJsonFaultRead : List ℕ → JsonFault → Type 0
@@ -62,6 +66,7 @@ ReadsAs bytes (Err NoTimecode) = ⊥
 ReadsAs bytes (Err TooManyEvents) = ⊥
 ReadsAs bytes (Err (Day line)) = ⊥
 ReadsAs bytes (Err (OfJson fault)) = IsJsonFaultRead bytes fault
+ReadsAs bytes (Err (Object text)) = ⊥
 ReadsAs bytes (Err Memory) = Unit {0}
 
 -- the fault of a list that was read is that of the bytes; want of memory is free
@@ -87,6 +92,7 @@ ReadsAsList rate bytes (Err NoTimecode) = ⊥
 ReadsAsList rate bytes (Err TooManyEvents) = ⊥
 ReadsAsList rate bytes (Err (Day line)) = ⊥
 ReadsAsList rate bytes (Err (OfJson fault)) = ⊥
+ReadsAsList rate bytes (Err (Object text)) = ⊥
 ReadsAsList rate bytes (Err Memory) = Unit {0}
 
 -- a list that can be written in this mode
@@ -105,14 +111,19 @@ abbrev pub Raised : {T : Type 0} → Result T Fault → ℕ → ℕ → Type 0
 Raised (Ok _) before now = now ≡ before
 Raised (Err fault) before now = RaisedBy (told fault) before now
 
--- the text was sent, or a prefix of it and the stream failed
-abbrev pub Writes : List ℕ → Streams → Status → Type 0
-Writes text d status.Done = Sends (Adds text) d × Message [] d
-Writes text d status.Output = OutFailed d × Sends (AddsPrefix text) d × Message output_failed d
-Writes text d status.Usage = ⊥
-Writes text d status.Refused = ⊥
-Writes text d status.Input = ⊥
-Writes text d status.Memory = ⊥
+-- the text was sent to the target, or a prefix of it and the stream failed
+abbrev pub Writes : Option (List ℕ) → List ℕ → Streams → Status → Type 0
+Writes target text d status.Done = Sends (Directs target text) d × Message [] d
+Writes target text d status.Output = OutFailed d × Sends (DirectsPrefix target text) d × Message output_failed d
+Writes target text d status.Usage = ⊥
+Writes target text d status.Refused = ⊥
+Writes target text d status.Input = ⊥
+Writes target text d status.Memory = ⊥
+
+-- all of the text was sent to the target, or a prefix of it
+abbrev pub WritesTo : {T E : Type 0} → Option (List ℕ) → List ℕ → Result T E → KnownOut → KnownOut → Type 0
+WritesTo target text (Ok _) old new = Directs target text old new
+WritesTo target text (Err e) old new = DirectsPrefix target text old new
 
 -- nothing was sent, and the fault was told
 pub record Complains (name : List ℕ) (fault : Told) (d : Streams) (result : Status) : Type 0 where
@@ -121,6 +132,6 @@ pub record Complains (name : List ℕ) (fault : Told) (d : Streams) (result : St
   pub message : Message (message_told name fault) d
 
 -- how a plan is carried out
-abbrev pub Carries : List ℕ → Result Planned Fault → Streams → Status → Type 0
-Carries name (Ok planned) d result = Writes (text_planned planned) d result
-Carries name (Err fault) d result = Complains name (told fault) d result
+abbrev pub Carries : List ℕ → Option (List ℕ) → Result Planned Fault → Streams → Status → Type 0
+Carries name target (Ok planned) d result = Writes target (text_planned planned) d result
+Carries name target (Err fault) d result = Complains name (told fault) d result

@@ -1,13 +1,12 @@
 -- How a run may end.
-use Rattle.std.specs.Prelude.{◌≡◌, ◌⊎◌, ℕ, List, [], ◌∷◌, ◌++◌, codes}
+use Rattle.std.specs.Prelude.{◌≡◌, ◌⊎◌, ℕ, List, codes, Some, None}
 use Rattle.std.specs.declared.option.Option.{Option}
-use Rattle.std.specs.List.{concat}
 use Rattle.dev_io.specs.Known.{KnownFiles, KnownOut}
 use Rattle.dev_io.specs.Calls.{Tells, Adds, AddsPrefix}
 use Rattle.dev_io.specs.Causes.{Rose}
 use Rattle.command_words.specs.Asked.{Ask}
 use Rattle.command_words.specs.declared.requests.Command.{Command}
-use Rattle.otio_tools.specs.Whole.{SameFiles, ReadFails, ReadsToEnd}
+use Rattle.otio_tools.specs.Whole.{ReadFails, ReadsToEnd}
 use Rattle.otio_tools.specs.Answer.{Answer, Answers, read_failed}
 use Rattle.otio_tools.specs.declared.Status.{Status}
 use Rattle.otio_tools.specs.declared.Status.TheVariants.{Done, Usage, Refused, Input, Output, Memory}
@@ -54,6 +53,19 @@ Sends step d = Tells step d.out_old d.out_new
 abbrev pub SendsNothing : KnownOut → KnownOut → Type 0
 SendsNothing old new = new ≡ old
 
+-- where the stream writes once it is directed to the target
+abbrev pub aimed : Option (List ℕ) → KnownOut → KnownOut
+aimed None old = old
+aimed (Some name) old = record old { target = Some name }
+
+-- these bytes were sent to the target
+abbrev pub Directs : Option (List ℕ) → List ℕ → KnownOut → KnownOut → Type 0
+Directs target bytes old new = Adds bytes (aimed target old) new
+
+-- the stream was left as it was, or a prefix of the bytes was sent to the target
+abbrev pub DirectsPrefix : Option (List ℕ) → List ℕ → KnownOut → KnownOut → Type 0
+DirectsPrefix target bytes old new = SendsNothing old new ⊎ AddsPrefix bytes (aimed target old) new
+
 abbrev pub no_memory : List ℕ
 no_memory = codes "otio: no memory\n"
 
@@ -65,7 +77,7 @@ pub record Gives (words : List (List ℕ)) (held : List ℕ → Option (List ℕ
   pub answer : Answer
   pub owed : Answers words held answer
   pub status : answer.status ≡ result
-  pub output : Sends (Adds answer.output) d
+  pub output : Sends (Directs answer.target answer.output) d
   pub message : Message answer.message d
 
 -- The answer was an output, and the stream of output failed: a prefix was sent.
@@ -74,14 +86,15 @@ pub record Stops (words : List (List ℕ)) (held : List ℕ → Option (List ℕ
   pub owed : Answers words held answer
   pub status : answer.status ≡ Done
   pub failed : OutFailed d
-  pub output : Sends (AddsPrefix answer.output) d
+  pub output : Sends (DirectsPrefix answer.target answer.output) d
   pub message : Message output_failed d
 
 -- Opening or reading the file that the words name failed, and nothing was sent.
 pub record FailsToRead (words : List (List ℕ)) (before now : ℕ) (old new : KnownFiles) (d : Streams) : Type 0 where
   pub command : Command
   pub name : List ℕ
-  pub asked : Ask words command name
+  pub target : Option (List ℕ)
+  pub asked : Ask words command name target
   pub failed : Rose before now
   pub last : ReadFails name old new
   pub output : Sends SendsNothing d
@@ -89,7 +102,7 @@ pub record FailsToRead (words : List (List ℕ)) (before now : ℕ) (old new : K
 
 -- each file that the words name was read to its end
 abbrev pub ReadsAll : List (List ℕ) → KnownFiles → KnownFiles → Type 0
-ReadsAll words old new = (command : Command) (name : List ℕ) → Ask words command name → ReadsToEnd name old new
+ReadsAll words old new = (command : Command) (name : List ℕ) (target : Option (List ℕ)) → Ask words command name target → ReadsToEnd name old new
 
 -- How a run over told files may end. `before` and `now` are the files' counts of faults.
 abbrev pub Ends : List (List ℕ) → ℕ → ℕ → Streams → Status → KnownFiles → KnownFiles → Type 0

@@ -1,5 +1,5 @@
 -- How a fault is told: which status and which message it has.
-use Rattle.std.specs.Prelude.{◌≡◌, ℕ, List, [], ◌∷◌, Some, None}
+use Rattle.std.specs.Prelude.{◌≡◌, ℕ, List, [], ◌∷◌, Some, None, string_bytes}
 use Rattle.std.specs.declared.option.Option.{Option}
 use Rattle.json_text.specs.declared.faults.JsonFault.{JsonFault}
 use Rattle.json_text.specs.declared.faults.JsonFault.TheVariants as json
@@ -11,7 +11,7 @@ use Rattle.otio_tools.specs.Run.{no_memory}
 use Rattle.otio_tools.specs.declared.Status.{Status}
 use Rattle.otio_tools.specs.declared.Status.TheVariants as status
 use Rattle.otio_tools.specs.declared.fault.Fault.{Fault}
-use Rattle.otio_tools.specs.declared.fault.Fault.TheVariants.{Absent, ReadFailed, List as OfList, NoTimecode, Events, Day, Json as OfJson, Memory}
+use Rattle.otio_tools.specs.declared.fault.Fault.TheVariants.{Absent, ReadFailed, List as OfList, NoTimecode, Events, Day, Json as OfJson, Object, Memory}
 
 -- a file that isn't there, a failed read, the reason of a refusal behind the file's name, and want of memory
 pub data Told : Type 0 where
@@ -47,6 +47,7 @@ told NoTimecode = Refusal no_timecode_why
 told Events = Refusal events_why
 told (Day line) = Refusal (day_why line)
 told (OfJson fault) = json_told fault
+told (Object text) = Refusal (string_bytes text ∷ [])
 told Memory = Wanting
 
 -- the answer that a fault stands for; a failed read and want of memory are none

@@ -1,11 +1,12 @@
 // The top call.
 ghost use Rattle.std.specs.Prelude.{◌≡◌, ◌≢◌, ◌↔◌, ℕ, [], ◌∷◌, List, codes, decimal, map, string_bytes, IfOk, IfSome};
 ghost use Rattle.otio_tools.specs.Answer.{message_of};
-ghost use Rattle.dev_io.specs.Calls.{Tells, SendsAll};
+ghost use Rattle.dev_io.specs.Calls.{Tells, SendsAll, IsFresh};
+ghost use Rattle.otio_tools.specs.Texts.{text_at};
 ghost use Rattle.dev_io.specs.Causes.{HasCause};
 ghost use Rattle.command_words.specs.Asked.{Ask, AskNothing};
 ghost use Rattle.otio_tools.specs.Run.{Completes, Ends, Says, KeepsStill, no_memory, output_failed, streams};
-ghost use Rattle.otio_tools.specs.Plan.{Carries, Fits, Writes, text_planned};
+ghost use Rattle.otio_tools.specs.Plan.{Carries, Fits, Writes, WritesTo, text_planned};
 ghost use Rattle.otio_tools.specs.Told.{told, list_told, json_told, status_told, message_told};
 
 use crate::Status;
@@ -32,9 +33,10 @@ const USAGE: &[u8] = b"otio: usage
 
 /// Does what the words behind the program's name ask for, and says how it ended.
 ///
-/// `convert --to edl FILE`, where FILE ends with `.edl`, reads a CMX 3600 list, at 24 frames a second or at the rate that `--rate` gives, and sends
-/// its one spelling to `out`, with drop-frame timecode where `--drop` stands or the list has it; `convert --to json FILE`, for any other
-/// FILE, reads a JSON text and sends its layout.
+/// `convert FILE`, where FILE ends with `.edl`, reads a CMX 3600 list, at 24 frames a second or at the rate that `--rate` gives, and with `--to edl` sends
+/// its one spelling, with drop-frame timecode where `--drop` stands or the list has it. For any other FILE, or with `--from otio`, it reads an object of
+/// OpenTimelineIO, old names and versions included, and sends its layout in the current schemas; with `--to json` it sends the layout of the JSON text, and reads no
+/// schema. `-o OUT` aims `out` at that file before anything is sent.
 /// Each status but `Done` sends one message to `err`; where `err` fails, a prefix of it was sent, and the status is the same.
 /// Nothing is sent to `out` before the file is judged. Want of memory alone may come at any time.
 pub fn run<F: Files, W: Out, E: Out>(
@@ -44,6 +46,7 @@ pub fn run<F: Files, W: Out, E: Out>(
     out: &mut W,
     err: &mut E,
 ) -> Status
+    requires { IsFresh (W.known out.old) }
     // Over files that tell what they hold: the status, the output and the message are those of the one answer to the words and the files.
     ensures ends { Tells (Ends (map (λ w. string_bytes w) words.now.items) (F.faults files.old) (F.faults files.new)
         (streams W.faults W.known E.faults E.known out.old out.new err.old err.new) result) (F.known files.old) (F.known files.new) }
@@ -74,38 +77,42 @@ fn convert<F: Files, W: Out, E: Out>(
     out: &mut W,
     err: &mut E,
 ) -> Status
-    ensures ends { (words : List (List ℕ)) → Ask words request.entry.command request.entry.name.now → Tells (Ends words (F.faults files.old) (F.faults files.new)
+    requires { IsFresh (W.known out.old) }
+    ensures ends { (words : List (List ℕ)) → Ask words request.entry.command request.entry.name.now (text_at request.entry.target) → Tells (Ends words (F.faults files.old) (F.faults files.new)
         (streams W.faults W.known E.faults E.known out.old out.new err.old err.new) result) (F.known files.old) (F.known files.new) }
     ensures still { KeepsStill (streams W.faults W.known E.faults E.known out.old out.new err.old err.new) result }
     ensures asked { result ≢ Status.Usage }
     ensures calm { result ≡ Status.Refused → F.faults files.new ≡ F.faults files.old }
 {
     let planned = plan(alloc, request.command, request.name, files);
-    carry_out(request.name, planned, out, err)
+    carry_out(request.name, request.target, planned, out, err)
 }
 
 // Sends what is planned, or the message of the fault.
 fn carry_out<W: Out, E: Out>(
     name: &str,
+    target: Option<&str>,
     planned: Result<Planned, Fault>,
     out: &mut W,
     err: &mut E,
 ) -> Status
-    requires { IfOk planned (λ all. Fits all) }
-    ensures { Carries name.now planned (streams W.faults W.known E.faults E.known out.old out.new err.old err.new) result }
+    requires fits { IfOk planned (λ all. Fits all) }
+    requires fresh { IsFresh (W.known out.old) }
+    ensures { Carries name.now (text_at target.entry) planned (streams W.faults W.known E.faults E.known out.old out.new err.old err.new) result }
 {
     match planned {
-        Ok(planned) => send(&planned, out, err),
+        Ok(planned) => send(target, &planned, out, err),
         Err(fault) => complain(name, fault, err),
     }
 }
 
 // Sends what is planned.
-fn send<W: Out, E: Out>(planned: &Planned, out: &mut W, err: &mut E) -> Status
-    requires { Fits planned.now }
-    ensures { Writes (text_planned planned.now) (streams W.faults W.known E.faults E.known out.old out.new err.old err.new) result }
+fn send<W: Out, E: Out>(target: Option<&str>, planned: &Planned, out: &mut W, err: &mut E) -> Status
+    requires fits { Fits planned.now }
+    requires fresh { IsFresh (W.known out.old) }
+    ensures { Writes (text_at target.entry) (text_planned planned.now) (streams W.faults W.known E.faults E.known out.old out.new err.old err.new) result }
 {
-    match write_planned(planned, out) {
+    match write_to(target, planned, out) {
         Ok(()) => Status::Done,
         Err(_) => {
             complain_of_output(err);
@@ -119,6 +126,22 @@ fn complain_of_output<E: Out>(err: &mut E)
     ensures { Says (E.faults err.old) (E.faults err.new) (E.known err.old) (E.known err.new) output_failed }
 {
     say(err, &[b"otio: output failed\n".as_slice()]);
+}
+
+// Sends what is planned to the target.
+fn write_to<W: Out>(target: Option<&str>, planned: &Planned, out: &mut W) -> Result<(), WriteFault>
+    requires fits { Fits planned.now }
+    requires fresh { IsFresh (W.known out.old) }
+    ensures told { Tells (WritesTo (text_at target.entry) (text_planned planned.now) result) (W.known out.old) (W.known out.new) }
+    ensures cause { HasCause (W.faults out.old) (W.faults out.new) result }
+{
+    match target {
+        None => write_planned(planned, out),
+        Some(name) => match out.aim(name) {
+            Ok(()) => write_planned(planned, out),
+            Err(_) => Err(WriteFault::Sink),
+        },
+    }
 }
 
 fn write_planned<W: Out>(planned: &Planned, out: &mut W) -> Result<(), WriteFault>
@@ -157,6 +180,10 @@ fn complain<E: Out>(name: &str, fault: Fault, err: &mut E) -> Status
         }
         Fault::Day(line) => refuse_at(name, b": L10 Day at ", line, err),
         Fault::Json(fault) => complain_of_json(name, fault, err),
+        Fault::Object(text) => {
+            say_of(err, name, text.as_bytes());
+            Status::Refused
+        }
         Fault::Memory => complain_of_memory(err),
     }
 }

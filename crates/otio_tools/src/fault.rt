@@ -3,7 +3,7 @@ use edl_text::EdlFault;
 use json_text::JsonFault;
 
 /// Why there is nothing to send.
-#[derive(Clone, Copy, Debug, PartialEq, Eq)]
+#[derive(Debug, Drop)]
 pub enum Fault {
     /// There is no file of that name.
     Absent,
@@ -19,6 +19,8 @@ pub enum Fault {
     Day(u32),
     /// The file is no JSON text.
     Json(JsonFault),
+    /// The file stands for no object, or has too many items; what the message tells behind the name of the file.
+    Object(String),
     /// No memory was left.
     Memory,
 }

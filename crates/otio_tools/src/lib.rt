@@ -8,6 +8,7 @@ mod command;
 mod fault;
 mod json;
 mod list;
+mod objects;
 mod plan;
 mod say;
 

@@ -8,6 +8,7 @@ ghost use Rattle.command_words.specs.declared.requests.Command.TheVariants.{List
 use crate::fault::Fault;
 use crate::json::read_json;
 use crate::list::{list_to_write, read_list};
+use crate::objects::object_to_write;
 use command_words::Command;
 use dev_io::{Files, Opened};
 use edl_list::EventList;
@@ -56,6 +57,7 @@ fn judge<F: Files>(alloc: Global, command: Command, files: &mut F) -> Result<Pla
 {
     match command {
         Command::ListToList { rate, drop } => judge_list(alloc, rate, drop, files),
+        Command::ToObjects => judge_objects(alloc, files),
         Command::ToJson => judge_json(alloc, files),
     }
 }
@@ -91,6 +93,21 @@ fn judge_json<F: Files>(alloc: Global, files: &mut F) -> Result<Planned, Fault>
 {
     match read_json(alloc, files) {
         Ok(value) => Ok(Planned::Value(value)),
+        Err(fault) => Err(fault),
+    }
+}
+
+// The object in the file in hand, in the current schemas and the written order.
+fn judge_objects<F: Files>(alloc: Global, files: &mut F) -> Result<Planned, Fault>
+    ensures owed { (name : List ℕ) → IfSome (F.known files.old) (IsLeft (λ left. Plans Command.ToObjects name (Some left) result)) }
+    ensures fits { IfOk result (λ planned. Fits planned) }
+    ensures end { OnOk result (Tells ReadsOn (F.known files.old) (F.known files.new)) }
+    ensures same { Tells SameFiles (F.known files.old) (F.known files.new) }
+    ensures failed { IsErrOf result Fault.ReadFailed → Tells Fails (F.known files.old) (F.known files.new) }
+    ensures cause { Raised result (F.faults files.old) (F.faults files.new) }
+{
+    match read_json(alloc, files) {
+        Ok(value) => object_to_write(alloc, value),
         Err(fault) => Err(fault),
     }
 }

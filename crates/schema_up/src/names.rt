@@ -1,5 +1,5 @@
 // The schemas whose objects hold objects or have an old form, and what stands at their members.
-ghost use Rattle.std.specs.Prelude.{◌≡◌, [], MatchOption};
+ghost use Rattle.std.specs.Prelude.{◌≡◌, if◌then◌else◌, [], MatchOption};
 ghost use Rattle.std.specs.List.{after_first};
 ghost use Rattle.std.specs.Option.{option_copied};
 ghost use Rattle.std.specs.Str.{bytes_eq};
@@ -113,23 +113,22 @@ fn version_of(digits: &[u8]) -> Option<u32>
     Some(version)
 }
 
+// The schema of the first version, or that of the others.
+fn of_version(first: bool, one: Schema, others: Schema) -> Schema
+    ensures { result ≡ (if first then one else others) }
+{
+    if first { one } else { others }
+}
+
 // The schema of a name, in its first version or another.
 fn schema_of_name(name: &str, first: bool) -> Schema
     ensures { result ≡ named name.now first }
 {
     if is(name, "Clip") {
-        return if first {
-            Schema::FirstClip
-        } else {
-            Schema::Clip
-        };
+        return of_version(first, Schema::FirstClip, Schema::Clip);
     }
     if is(name, "Marker") {
-        return if first {
-            Schema::FirstMarker
-        } else {
-            Schema::Other
-        };
+        return of_version(first, Schema::FirstMarker, Schema::Other);
     }
     if is(name, "Gap") {
         return Schema::Gap;

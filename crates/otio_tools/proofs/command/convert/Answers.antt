@@ -1,16 +1,17 @@
 use Rattle.otio_tools.proofs.Ending.{carried, carried_still, refused_calm}
+use Rattle.otio_tools.specs.Texts.{text_at}
 use Rattle.otio_tools.proofs.command.convert.Goals as goal
 
 pub returns-clause-ends : goal.returns-clause-ends
 returns-clause-ends g c = λ words asked.
     let plan = c.plan-planned.ensures in
-    carried words c.args.request.command c.args.request.name.now _ _ _ _ _ c.plan-planned.result c.carry_out.result asked plan.owed plan.same plan.end plan.last plan.cause c.carry_out.ensures
+    carried words c.args.request.command c.args.request.name.now (text_at c.args.request.target) _ _ _ _ _ c.plan-planned.result c.carry_out.result asked plan.owed plan.same plan.end plan.last plan.cause c.carry_out.ensures
 
 pub returns-clause-still : goal.returns-clause-still
-returns-clause-still g c = (carried_still c.args.request.name.now _ c.plan-planned.result c.carry_out.result c.carry_out.ensures).1
+returns-clause-still g c = (carried_still c.args.request.name.now (text_at c.args.request.target) _ c.plan-planned.result c.carry_out.result c.carry_out.ensures).1
 
 pub returns-clause-asked : goal.returns-clause-asked
-returns-clause-asked g c = (carried_still c.args.request.name.now _ c.plan-planned.result c.carry_out.result c.carry_out.ensures).0
+returns-clause-asked g c = (carried_still c.args.request.name.now (text_at c.args.request.target) _ c.plan-planned.result c.carry_out.result c.carry_out.ensures).0
 
 pub returns-clause-calm : goal.returns-clause-calm
-returns-clause-calm g c = refused_calm c.args.request.name.now _ _ _ c.plan-planned.result c.carry_out.result c.plan-planned.ensures.cause c.carry_out.ensures
+returns-clause-calm g c = refused_calm c.args.request.name.now (text_at c.args.request.target) _ _ _ c.plan-planned.result c.carry_out.result c.plan-planned.ensures.cause c.carry_out.ensures

@@ -2,7 +2,7 @@ use Rattle.std.proofs.Common.{◌++◌, Ok, take, arith}
 use Rattle.std.proofs.lemmas.Grind.{common_steps}
 use Rattle.dev_io.specs.declared.files.Failed.{Failed}
 use Rattle.otio_tools.proofs.Taking.{takes_more, takes_all, reads_on, same_more, on_ok}
-use Rattle.otio_tools.proofs.JsonFaults.{fault_left, value_left}
+use Rattle.otio_tools.proofs.JsonFaults.{fault_left, value_left, with_bytes}
 use Rattle.otio_tools.proofs.json.read_json.Goals as goal
 
 pub pieces-preserved : goal.pieces-preserved
@@ -25,6 +25,10 @@ pub returns-in-Ok-eq0-clause-read : goal.returns-in-Ok-eq0-clause-read
 returns-in-Ok-eq0-clause-read g c =
     let i = c.pieces.invariant in
     value_left i.fed.0 _ _ c.value_of.result (takes_all Failed i.fed.0 _ _ _ c.read.new.buf i.fed.3 (rw c.in-Ok-eq0.field-0-test at c.in-Ok-eq0.ensures.told)) (c.value_of.ensures.read i.fed.0 i.fed.1)
+
+pub returns-in-Ok-eq0-clause-text : goal.returns-in-Ok-eq0-clause-text
+returns-in-Ok-eq0-clause-text g c =
+    let i = c.pieces.invariant in with_bytes i.fed.0 c.value_of.result (c.value_of.ensures.text i.fed.0 i.fed.1)
 
 pub returns-in-Ok-eq0-clause-same : goal.returns-in-Ok-eq0-clause-same
 returns-in-Ok-eq0-clause-same g c = same_more Failed _ _ _ (Ok c.in-Ok-eq0.field-0) c.read.new.buf c.pieces.invariant.same c.in-Ok-eq0.ensures.told

@@ -3,4 +3,4 @@ use Rattle.otio_tools.specs.Answer.{PastDay}
 use Rattle.otio_tools.proofs.list.write_in_mode.Goals as goal
 
 pub returns-in-Some-clause-owed : goal.returns-in-Some-clause-owed
-returns-in-Some-clause-owed c = λ name. PastDay (record { timecode = search rules; few = search rules }) c.in-Some.line c.in-Some.ensures refl
+returns-in-Some-clause-owed c = λ name target. PastDay (record { timecode = search rules; few = search rules }) c.in-Some.line c.in-Some.ensures refl

@@ -5,3 +5,6 @@ returns-in-ListToList-clause-owed g c = λ name. rw c.in-ListToList.is (c.judge_
 
 pub returns-in-ToJson-clause-owed : goal.returns-in-ToJson-clause-owed
 returns-in-ToJson-clause-owed g c = λ name. rw c.in-ToJson.is (c.judge_json.ensures.owed name)
+
+pub returns-in-ToObjects-clause-owed : goal.returns-in-ToObjects-clause-owed
+returns-in-ToObjects-clause-owed g c = λ name. rw c.in-ToObjects.is (c.judge_objects.ensures.owed name)

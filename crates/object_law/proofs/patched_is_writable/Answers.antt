@@ -1,0 +1,5 @@
+use Rattle.object_law.proofs.Patched.{patched_is_writable}
+use Rattle.object_law.proofs.patched_is_writable.Goals as goal
+
+pub returns : goal.returns
+returns c = patched_is_writable

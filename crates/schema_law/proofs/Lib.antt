@@ -1,0 +1,16 @@
+pub mod Spellings
+pub mod Values
+pub mod Decimals
+pub mod Seen
+pub mod Given
+pub mod Objects
+pub mod Lists
+pub mod Gifts
+pub mod Levels
+pub mod Once
+pub mod Refused
+pub mod Clashes
+pub mod Apart
+pub mod Faulted
+pub mod Firsts
+pub mod Verdicts

@@ -1,0 +1,3 @@
+-- Measures of the reader.
+pub mod Depths
+pub mod Objects

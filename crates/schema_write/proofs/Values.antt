@@ -1,0 +1,26 @@
+-- Values in the written order, each known.
+use Rattle.std.proofs.Common.{◌≡◌, ℕ, List, [], ◌∷◌, map, IfOk, Result, refl, ap, ap₂, subst, Bool}
+use Rattle.json_value.specs.declared.Json.{Json}
+use Rattle.otio_model.specs.declared.sources.Media.{Media}
+use Rattle.sequences.specs.Pairs.{names_of}
+use Rattle.schema_rows.specs.declared.schemas.Schema.{Schema}
+use Rattle.schema_write.specs.Written.{written}
+use Rattle.schema_write.specs.Objects.{plain_schema, medium_pair}
+
+pub cons : {x y : Json} {xs ys : List Json} → x ≡ y → xs ≡ ys → (x ∷ xs) ≡ (y ∷ ys)
+cons p q = ap₂ (λ v vs. v ∷ vs) p q
+
+-- the same object with equal values
+pub written_as : {E : Type 0} (r : Result Json E) (schema : Schema) (rest : List (List ℕ × Json)) (xs ys : List Json) → xs ≡ ys
+    → IfOk r (λ json. json ≡ written schema xs rest) → IfOk r (λ json. json ≡ written schema ys rest)
+written_as r schema rest xs ys e h = subst (λ (vs : List Json). IfOk r (λ json. json ≡ written schema vs rest)) e h
+
+-- the same effect, by whether it is one of time
+pub plain_as : {E : Type 0} (r : Result Json E) (timed t : Bool) (rest : List (List ℕ × Json)) (values : List Json) → t ≡ timed
+    → IfOk r (λ json. json ≡ written (plain_schema t) values rest) → IfOk r (λ json. json ≡ written (plain_schema timed) values rest)
+plain_as r timed t rest values e h = subst (λ (b : Bool). IfOk r (λ json. json ≡ written (plain_schema b) values rest)) e h
+
+-- keys stay
+pub media_names : (media : List (List ℕ × Media)) → names_of (map medium_pair media) ≡ names_of media
+media_names [] = refl
+media_names (medium ∷ media) = ap (λ names. medium.0 ∷ names) (media_names media)

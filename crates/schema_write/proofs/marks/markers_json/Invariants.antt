@@ -1,0 +1,6 @@
+use Rattle.std.proofs.Common.{◌≡◌, map, take}
+use Rattle.schema_write.specs.Objects.{marker_json}
+use Rattle.schema_write.proofs.marks.markers_json.Given as goal
+
+abbrev pub invariant-markers : goal.invariant-markers
+invariant-markers l = l.values.items ≡ map marker_json (take l.marker-index l.list)

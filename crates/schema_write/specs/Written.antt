@@ -1,0 +1,22 @@
+-- An object of a schema in JSON, in the written order.
+use Rattle.std.specs.Prelude.{ℕ, List, [], ◌∷◌, ◌++◌}
+use Rattle.json_value.specs.declared.Json.{Json, Str, Map}
+use Rattle.schema_rows.specs.declared.rows.Field.{Field}
+use Rattle.schema_rows.specs.Rows.{Row}
+use Rattle.schema_rows.specs.declared.schemas.Schema.{Schema}
+use Rattle.schema_rows.specs.Schemas.{schema_key, text_of, rows_of}
+use Rattle.schema_rows.specs.Families.{others}
+
+-- the name of a row that the code keeps
+abbrev pub name_of : Field → List ℕ
+name_of field = field.name.now
+
+-- values under the names of rows
+abbrev pub named_values : List Row → List Json → List (List ℕ × Json)
+named_values [] values = []
+named_values (row ∷ rows) [] = []
+named_values (row ∷ rows) (value ∷ values) = (row.name, value) ∷ named_values rows values
+
+-- the object's schema, then the values of the schema's rows from left to right, then the other members in their order
+abbrev pub written : Schema → List Json → List (List ℕ × Json) → Json
+written schema values rest = Map ((schema_key, Str (text_of schema)) ∷ (named_values (rows_of schema) values ++ others (rows_of schema) rest))

@@ -1,0 +1,99 @@
+// Items.
+ghost use Rattle.std.specs.Prelude.{◌≡◌, ◌<◌, IfOk, Some, length, slice_get};
+ghost use Rattle.otio_model.specs.Trees.{items_of};
+ghost use Rattle.schema_write.specs.Objects as objects;
+
+use crate::effects::effects_json;
+use crate::leaves::{clip_json, gap_json, transition_json};
+use crate::marks::markers_json;
+use crate::times::span_json;
+use crate::writing::{object, string, written};
+use json_value::{Json, JsonList};
+use otio_model::{Children, Item, ItemOf, Stack, Track};
+use schema_rows::{STACK, Schema, TRACK};
+use sequences::Sequence;
+use std::alloc::{AllocError, Global};
+
+// An item.
+#[cycle(item)]
+pub fn item_json(alloc: Global, item: &Item) -> Result<Json, AllocError>
+    ensures { IfOk result (λ json. json ≡ objects.item_json item.now) }
+{
+    match item {
+        ItemOf::Clip(clip) => clip_json(alloc, clip),
+        ItemOf::Gap(gap) => gap_json(alloc, gap),
+        ItemOf::Transition(transition) => transition_json(alloc, transition),
+        ItemOf::Stack(stack) => {
+            let children = children_json(alloc, &stack.children)?;
+            stack_of(alloc, stack, children)
+        }
+        ItemOf::Track(track) => {
+            let children = children_json(alloc, &track.children)?;
+            track_of(alloc, track, children)
+        }
+    }
+}
+
+// The children of a composition, in order.
+#[cycle(item)]
+fn children_json(alloc: Global, children: &Children) -> Result<JsonList, AllocError>
+    ensures { IfOk result (λ made. made ≡ objects.children_json children.now) }
+{
+    let mut values = Vec::with_capacity(alloc, children.len())?;
+    'items: for index in 0..children.len() {
+        values.push(item_json(alloc, child(children, index))?)?;
+    }
+    Ok(Sequence::of(values))
+}
+
+// The child at an index.
+fn child(children: &Children, index: usize) -> &Item
+    requires { index < length (items_of children.now) }
+    ensures { slice_get (items_of children.now) index ≡ Some result.now }
+{
+    match children.item(index) {
+        Some(item) => item,
+        None => unreachable!(),
+    }
+}
+
+// A timeline's root stack.
+pub fn stack_json(alloc: Global, stack: &Stack) -> Result<Json, AllocError>
+    ensures { IfOk result (λ json. json ≡ objects.stack_by objects.children_json stack.now) }
+{
+    let children = children_json(alloc, &stack.children)?;
+    stack_of(alloc, stack, children)
+}
+
+// A stack whose children are these.
+fn stack_of(alloc: Global, stack: &Stack, children: JsonList) -> Result<Json, AllocError>
+    ensures { IfOk result (λ json. json ≡ objects.stack_by (λ _. children) stack.now) }
+{
+    let metadata = object(alloc, &stack.metadata)?;
+    let name = string(alloc, &stack.name)?;
+    let range = span_json(alloc, stack.source_range)?;
+    let effects = effects_json(alloc, &stack.effects)?;
+    let markers = markers_json(alloc, &stack.markers)?;
+    let enabled = Json::Bool(stack.enabled);
+    let children = Json::List(children);
+    let values = vec![in alloc; metadata, name, range, effects, markers, enabled, children]?;
+    written(alloc, Schema::Stack, &STACK, values, &stack.rest)
+}
+
+// A track whose children are these.
+fn track_of(alloc: Global, track: &Track, children: JsonList) -> Result<Json, AllocError>
+    ensures { IfOk result (λ json. json ≡ objects.track_by (λ _. children) track.now) }
+{
+    let metadata = object(alloc, &track.metadata)?;
+    let name = string(alloc, &track.name)?;
+    let range = span_json(alloc, track.source_range)?;
+    let effects = effects_json(alloc, &track.effects)?;
+    let markers = markers_json(alloc, &track.markers)?;
+    let enabled = Json::Bool(track.enabled);
+    let children = Json::List(children);
+    let kind = string(alloc, &track.kind)?;
+    let values = vec![in alloc;
+        metadata, name, range, effects, markers, enabled, children, kind,
+    ]?;
+    written(alloc, Schema::Track, &TRACK, values, &track.rest)
+}

@@ -1,0 +1,89 @@
+// Media references.
+ghost use Rattle.std.specs.Prelude.{◌≡◌, IfOk, map};
+ghost use Rattle.sequences.specs.Pairs.{names_of, AreDistinct};
+ghost use Rattle.schema_write.specs.Objects as objects;
+
+use crate::times::span_json;
+use crate::writing::{object, string, written};
+use json_value::{Json, copy_json};
+use otio_model::{External, Generator, Media, MediaMap, Missing, Sequence};
+use schema_rows::{EXTERNAL, GENERATOR, IMAGES, MISSING, Schema};
+use sequences::{NamedValues, Text};
+use std::alloc::{AllocError, Global};
+
+// The media references of a clip, under their keys.
+pub fn media_json(alloc: Global, media: &MediaMap) -> Result<Json, AllocError>
+    ensures { IfOk result (λ json. json ≡ objects.media_json media.now) }
+{
+    Ok(Json::Map(NamedValues::of(media_pairs(alloc, media)?)))
+}
+
+fn media_pairs(alloc: Global, media: &MediaMap) -> Result<Vec<(Text, Json)>, AllocError>
+    ensures pairs { IfOk result (λ made. made.items ≡ map objects.medium_pair media.now) }
+    ensures distinct { IfOk result (λ made. AreDistinct (names_of made.items)) }
+{
+    let pairs = media.as_slice();
+    let mut made = Vec::with_capacity(alloc, pairs.len())?;
+    'pairs: for pair in pairs {
+        let key = Text::of(alloc, pair.0.as_str())?;
+        made.push((key, medium_json(alloc, &pair.1)?))?;
+    }
+    Ok(made)
+}
+
+fn medium_json(alloc: Global, medium: &Media) -> Result<Json, AllocError>
+    ensures { IfOk result (λ json. json ≡ objects.medium_json medium.now) }
+{
+    match medium {
+        Media::External(medium) => external_json(alloc, medium),
+        Media::Missing(medium) => missing_json(alloc, medium),
+        Media::Generator(medium) => generator_json(alloc, medium),
+        Media::Sequence(medium) => images_json(alloc, medium),
+        Media::Kept(value) => copy_json(alloc, value),
+    }
+}
+
+fn external_json(alloc: Global, medium: &External) -> Result<Json, AllocError>
+    ensures { IfOk result (λ json. json ≡ objects.external_json medium.now) }
+{
+    let metadata = object(alloc, &medium.metadata)?;
+    let name = string(alloc, &medium.name)?;
+    let range = span_json(alloc, medium.available_range)?;
+    let url = string(alloc, &medium.target_url)?;
+    let values = vec![in alloc; metadata, name, range, url]?;
+    written(alloc, Schema::External, &EXTERNAL, values, &medium.rest)
+}
+
+fn missing_json(alloc: Global, medium: &Missing) -> Result<Json, AllocError>
+    ensures { IfOk result (λ json. json ≡ objects.missing_json medium.now) }
+{
+    let metadata = object(alloc, &medium.metadata)?;
+    let name = string(alloc, &medium.name)?;
+    let range = span_json(alloc, medium.available_range)?;
+    let values = vec![in alloc; metadata, name, range]?;
+    written(alloc, Schema::Missing, &MISSING, values, &medium.rest)
+}
+
+fn generator_json(alloc: Global, medium: &Generator) -> Result<Json, AllocError>
+    ensures { IfOk result (λ json. json ≡ objects.generator_json medium.now) }
+{
+    let metadata = object(alloc, &medium.metadata)?;
+    let name = string(alloc, &medium.name)?;
+    let range = span_json(alloc, medium.available_range)?;
+    let kind = string(alloc, &medium.generator_kind)?;
+    let values = vec![in alloc; metadata, name, range, kind]?;
+    written(alloc, Schema::Generator, &GENERATOR, values, &medium.rest)
+}
+
+fn images_json(alloc: Global, medium: &Sequence) -> Result<Json, AllocError>
+    ensures { IfOk result (λ json. json ≡ objects.images_json medium.now) }
+{
+    let metadata = object(alloc, &medium.metadata)?;
+    let name = string(alloc, &medium.name)?;
+    let range = span_json(alloc, medium.available_range)?;
+    let base = string(alloc, &medium.target_url_base)?;
+    let prefix = string(alloc, &medium.name_prefix)?;
+    let suffix = string(alloc, &medium.name_suffix)?;
+    let values = vec![in alloc; metadata, name, range, base, prefix, suffix]?;
+    written(alloc, Schema::Images, &IMAGES, values, &medium.rest)
+}

@@ -1,0 +1,60 @@
+// Times and ranges of time.
+ghost use Rattle.std.specs.Prelude.{◌≡◌, IfOk};
+ghost use Rattle.schema_write.specs.Objects as objects;
+
+use crate::numerals::{rate_numeral, value_numeral};
+use crate::writing::written;
+use json_value::Json;
+use schema_rows::{RATIONAL_TIME, Schema, TIME_RANGE};
+use sequences::NamedValues;
+use std::alloc::{AllocError, Global};
+use tick_time::{Span, Time};
+
+// A time.
+pub fn time_json(alloc: Global, time: Time) -> Result<Json, AllocError>
+    ensures { IfOk result (λ json. json ≡ objects.time_json time) }
+{
+    let rate = rate_numeral(alloc, time.rate)?;
+    let values = vec![in alloc; rate, value_numeral(alloc, time)?]?;
+    written(
+        alloc,
+        Schema::RationalTime,
+        &RATIONAL_TIME,
+        values,
+        &NamedValues::new(alloc),
+    )
+}
+
+// A time, or null.
+pub fn offset_json(alloc: Global, offset: Option<Time>) -> Result<Json, AllocError>
+    ensures { IfOk result (λ json. json ≡ objects.offset_json offset) }
+{
+    match offset {
+        Some(time) => time_json(alloc, time),
+        None => Ok(Json::Null),
+    }
+}
+
+// A range of time, or null.
+pub fn span_json(alloc: Global, span: Option<Span>) -> Result<Json, AllocError>
+    ensures { IfOk result (λ json. json ≡ objects.span_json span) }
+{
+    match span {
+        Some(span) => range_json(alloc, span),
+        None => Ok(Json::Null),
+    }
+}
+
+fn range_json(alloc: Global, span: Span) -> Result<Json, AllocError>
+    ensures { IfOk result (λ json. json ≡ objects.range_json span) }
+{
+    let duration = time_json(alloc, span.len)?;
+    let values = vec![in alloc; duration, time_json(alloc, span.start)?]?;
+    written(
+        alloc,
+        Schema::TimeRange,
+        &TIME_RANGE,
+        values,
+        &NamedValues::new(alloc),
+    )
+}

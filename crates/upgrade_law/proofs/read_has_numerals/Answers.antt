@@ -1,0 +1,5 @@
+use Rattle.upgrade_law.proofs.Upgraded.{read_numerals, upgraded_numerals}
+use Rattle.upgrade_law.proofs.read_has_numerals.Goals as goal
+
+pub returns : goal.returns
+returns c = record { read = read_numerals; upgraded = upgraded_numerals }
