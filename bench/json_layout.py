@@ -205,9 +205,14 @@ def compare(folder, otio, mega, runs):
         print('\nLeft out: ' + '; '.join(left_out) + '.')
 
 
-def worst(folder, otio, runs):
+def require(otio):
+    """Ends the script where there is no such program."""
     if not os.access(otio, os.X_OK):
-        sys.exit(f'json_layout.py: {otio} is not built')
+        sys.exit(f'{otio} is not built')
+
+
+def worst(folder, otio, runs):
+    require(otio)
     print('| File | MB | status | ms | peak MB |\n|---|---|---|---|---|')
     path, words = os.path.join(folder, 'worst.otio'), [otio, 'convert', '--to', 'json', 'worst.otio']
     for name, text in worst_texts():
@@ -218,7 +223,8 @@ def worst(folder, otio, runs):
         print(f'| {name} | {size / 1e6:.1f} | {status} | {wall:.1f} | {shown(peak)} |', flush=True)
 
 
-def main():
+def measure(compare, worst):
+    """Reads the command line and measures in a fresh folder."""
     words = argparse.ArgumentParser()
     words.add_argument('--mega', type=float, default=MEGA, help='MB of the timeline, at most 33')
     words.add_argument('--runs', type=int, default=3)
@@ -233,4 +239,4 @@ def main():
 
 
 if __name__ == '__main__':
-    main()
+    measure(compare, worst)

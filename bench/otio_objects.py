@@ -6,13 +6,11 @@
 
 Output goes to /dev/null. What is measured and how is that of json_layout.py.
 """
-import argparse
 import os
 import sys
-import tempfile
 
 from json_layout import (
-    CLIPS, LIMIT, MEGA, PROGRAM, megabytes, milliseconds, output_of, rapidjson, ratio, run, shown, write_timeline,
+    CLIPS, LIMIT, MEGA, measure, megabytes, milliseconds, output_of, rapidjson, ratio, require, run, shown, write_timeline,
 )
 
 ITEMS = 100000  # the greatest number of items of an object
@@ -60,6 +58,7 @@ def documents():
 
 
 def compare(folder, otio, mega, runs):
+    require(otio)
     clips = max(1, round(CLIPS * mega / MEGA))
     path = os.path.join(folder, 'timeline.otio')
     write_timeline(path, clips)
@@ -80,6 +79,7 @@ def compare(folder, otio, mega, runs):
 
 
 def worst(folder, otio, runs):
+    require(otio)
     print('| Document | parts | MB | status | ms | peak MB | ms to `--to json` | ms to half of it |\n|---|---|---|---|---|---|---|---|')
     path = os.path.join(folder, 'worst.otio')
     objects, json = [otio, 'convert', 'worst.otio'], [otio, 'convert', '--to', 'json', 'worst.otio']
@@ -96,21 +96,5 @@ def worst(folder, otio, runs):
         print('| ' + ' | '.join(row) + ' |', flush=True)
 
 
-def main():
-    words = argparse.ArgumentParser()
-    words.add_argument('--mega', type=float, default=MEGA, help='MB of the timeline, at most 33')
-    words.add_argument('--runs', type=int, default=3)
-    words.add_argument('--worst', action='store_true')
-    asked = words.parse_args()
-    otio = os.path.abspath(os.environ.get('OTIO', PROGRAM))
-    if not os.access(otio, os.X_OK):
-        sys.exit(f'otio_objects.py: {otio} is not built')
-    with tempfile.TemporaryDirectory() as folder:
-        if asked.worst:
-            worst(folder, otio, asked.runs)
-        else:
-            compare(folder, otio, asked.mega, asked.runs)
-
-
 if __name__ == '__main__':
-    main()
+    measure(compare, worst)
