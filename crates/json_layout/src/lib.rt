@@ -6,7 +6,7 @@ mod quote;
 mod shallow;
 mod value;
 
-pub use quote::put_string;
+pub use quote::{put_escaped, put_string};
 pub use value::write_json;
 
 #[cfg(test)]

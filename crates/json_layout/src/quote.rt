@@ -16,8 +16,9 @@ pub fn put_string<W: Out>(buffer: &mut OutBuffer, out: &mut W, bytes: &[u8])
     buffer.put(out, b"\"");
 }
 
-// Hands these bytes over, each as it stands in a JSON string; bytes that need no escape go in one slice.
-fn put_escaped<W: Out>(buffer: &mut OutBuffer, out: &mut W, bytes: &[u8])
+/// Hands these bytes over as they stand between the quotes of a JSON string (RFC 8259, section 7), so that a string can be put together from
+/// parts. Bytes that need no escape go in one slice.
+pub fn put_escaped<W: Out>(buffer: &mut OutBuffer, out: &mut W, bytes: &[u8])
     ensures { Puts (standing W.known W.faults out.old buffer.old) (standing W.known W.faults out.new buffer.new) (escaped bytes.now) }
 {
     let mut rest = bytes;
