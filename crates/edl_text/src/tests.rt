@@ -171,6 +171,17 @@ fn faults(rt: HostRuntime) -> Result<(), Fail> {
             "1 T1 V C 00:00:00:00 00:00:01:00 00:00:00:00 00:00:01:00\nM2 T1 -10.0 00:00:00:00",
             EdlFault::Reverse(2),
         ),
+    ];
+    for (text, fault) in table {
+        assert!(rt; fault_of(rt.alloc(), rate, text) == Some(fault), "{text}");
+    }
+    Ok(())
+}
+
+#[test]
+fn faults_of_order(rt: HostRuntime) -> Result<(), Fail> {
+    let rate = rate_of("24")?;
+    let table = [
         (
             "1 T1 V C 00:00:01:00 00:00:00:00 00:00:00:00 00:00:01:00",
             EdlFault::Order(1),

@@ -202,6 +202,11 @@ fn strings(rt: HostRuntime) {
         b"\"\xED\x9F\xBF\xEE\x80\x80\xF4\x8F\xBF\xBF\"",
         "\u{d7ff}\u{e000}\u{10ffff}",
     );
+}
+
+#[test]
+fn broken_strings(rt: HostRuntime) {
+    let alloc = rt.alloc();
     refuses(&rt, alloc, b"\"\\u12", JsonFault::Syntax(5));
     refuses(&rt, alloc, b"\"a\nb\"", JsonFault::Syntax(2));
     refuses(&rt, alloc, b"\"\x1F\"", JsonFault::Syntax(1));
