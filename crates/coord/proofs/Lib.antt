@@ -1,0 +1,10 @@
+pub mod Sums
+pub mod Clips
+pub mod Judged
+pub mod Kept
+pub mod Seen
+pub mod Order
+pub mod Agreed
+pub mod Alone
+pub mod Bare
+pub mod Rows

@@ -1,0 +1,5 @@
+use Rattle.coord.proofs.Agreed.{program_agrees}
+use Rattle.coord.proofs.laws.agreement_is_seen.Goals as goal
+
+pub returns : goal.returns
+returns c = program_agrees

@@ -1,0 +1,5 @@
+use Rattle.coord.proofs.Alone.{same_fault}
+use Rattle.coord.proofs.laws.one_fault.Goals as goal
+
+pub returns : goal.returns
+returns c = same_fault

@@ -1,0 +1,10 @@
+-- What timelines show, and which of them are sound.
+pub mod Looks
+pub mod Speeds
+pub mod Keys
+pub mod Sights
+pub mod Programs
+pub mod Soundness
+pub mod Found
+pub mod Agreement
+pub mod Worked

@@ -1,0 +1,106 @@
+//! When items and timelines start, and at which rate a timeline is counted.
+
+ghost use Rattle.std.specs.Prelude.{◌≡◌};
+ghost use Rattle.std.specs.Option.{option_copied};
+ghost use Rattle.coord.specs.Sights as sights;
+ghost use Rattle.coord.specs.Keys.{frame_rate};
+ghost use Rattle.coord.specs.Programs as programs;
+
+use crate::children::child;
+use otio_model::{Children, Clip, Item, ItemOf, Timeline};
+use tick_time::{Rate, Span};
+
+/// The start of a span, else another instant.
+fn start_or(range: Option<Span>, other: i128) -> i128
+    ensures { result ≡ sights.start_or range other }
+{
+    match range {
+        Some(span) => span.start.ticks,
+        None => other,
+    }
+}
+
+/// Where the trimmed range of an item starts, in ticks of its media or its children: with its source_range, else with what is
+/// available.
+pub fn trimmed_start(item: &Item) -> i128
+    ensures { result ≡ sights.trimmed_start item.now }
+{
+    match item {
+        ItemOf::Clip(clip) => start_or(clip.source_range, start_or(clip.available_range(), 0)),
+        ItemOf::Gap(gap) => start_or(gap.source_range, 0),
+        ItemOf::Transition(_) => 0,
+        ItemOf::Stack(stack) => start_or(stack.source_range, 0),
+        ItemOf::Track(track) => start_or(track.source_range, 0),
+    }
+}
+
+/// 24 frames a second.
+fn rate_24() -> Rate
+    ensures { frame_rate result ≡ programs.rate_24 }
+{
+    Rate { num: 24, den: 1 }
+}
+
+/// The rate of a clip's media, or 24 where it has no range.
+fn clip_rate(clip: &Clip) -> Rate
+    ensures { frame_rate result ≡ programs.rate_of_clip clip.now }
+{
+    match clip.available_range() {
+        Some(range) => range.start.rate,
+        None => match clip.source_range {
+            Some(range) => range.start.rate,
+            None => rate_24(),
+        },
+    }
+}
+
+/// The first clip among an item and those below it.
+#[cycle(clip)]
+fn clip_in(item: &Item) -> Option<&Clip>
+    ensures { option_copied result ≡ programs.clip_by programs.first_clip item.now }
+{
+    match item {
+        ItemOf::Clip(clip) => Some(clip),
+        ItemOf::Stack(stack) => first_clip(&stack.children),
+        ItemOf::Track(track) => first_clip(&track.children),
+        _ => None,
+    }
+}
+
+#[tactic(auto, using(crate::proofs::Clips::clip_first, crate::proofs::Clips::clip_next, crate::proofs::Clips::clip_here, crate::proofs::Clips::clip_end))]
+/// The first clip among children and those below them.
+#[cycle(clip)]
+fn first_clip(children: &Children) -> Option<&Clip>
+    ensures { option_copied result ≡ programs.first_clip children.now }
+{
+    'children: for index in 0..children.len() {
+        match clip_in(child(children, index)) {
+            Some(clip) => return Some(clip),
+            None => {}
+        }
+    }
+    None
+}
+
+/// The record rate: that of the start, else of the media of the first clip, else 24.
+pub fn record_rate(timeline: &Timeline) -> Rate
+    ensures { frame_rate result ≡ programs.record_rate timeline.now }
+{
+    match timeline.global_start_time {
+        Some(start) => start.rate,
+        None => match first_clip(&timeline.tracks.children) {
+            Some(clip) => clip_rate(clip),
+            None => rate_24(),
+        },
+    }
+}
+
+/// The number of the first record frame: that of the start, else 0.
+pub fn start_frame(timeline: &Timeline) -> i128
+    ensures { result ≡ programs.start_frame timeline.now }
+{
+    match timeline.global_start_time {
+        Some(start) => start.floor_frame(start.rate),
+        None => 0,
+    }
+}
