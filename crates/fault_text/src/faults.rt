@@ -2,8 +2,10 @@
 
 ghost use Rattle.std.specs.Prelude.{◌≡◌, ◌≢◌, codes, string_bytes, IfOk};
 ghost use Rattle.fault_text.specs.Faults.{fault_text, line_at as line_is, line_of_member as member_line_is};
+ghost use Rattle.fault_text.specs.Shows.{coord_fault_text};
 
 use crate::places::put_place;
+use coord::CoordFault;
 use otio_model::Place;
 use schema_rows::SchemaFault;
 use std::alloc::{AllocError, Global};
@@ -24,6 +26,21 @@ pub fn text_of_fault(alloc: Global, fault: &SchemaFault) -> Result<String, Alloc
         SchemaFault::Transitions(place) => line_at(alloc, ": S7 Transitions at ", place),
         SchemaFault::Items => line(alloc, ": G1 Items\n"),
         SchemaFault::Memory => Err(AllocError),
+    }
+}
+
+/// What a message tells of a timeline that isn't sound behind the name of the file: a code, a word and, but for the start, the place of
+/// the item, up to the end of the line. An error comes for `Memory`, which has a message of its own, and where memory runs out.
+pub fn text_of_coord_fault(alloc: Global, fault: &CoordFault) -> Result<String, AllocError>
+    ensures text { IfOk result (λ text. string_bytes text ≡ coord_fault_text fault.now) }
+    ensures told { IfOk result (λ _. fault.now ≢ CoordFault.Memory) }
+{
+    match fault {
+        CoordFault::StartOffFrame => line(alloc, ": K2 StartOffFrame\n"),
+        CoordFault::NoLength(place) => line_at(alloc, ": K1 NoLength at ", place),
+        CoordFault::Speed(place) => line_at(alloc, ": K5 Speed at ", place),
+        CoordFault::Long(place) => line_at(alloc, ": K4 Long at ", place),
+        CoordFault::Memory => Err(AllocError),
     }
 }
 

@@ -4,7 +4,7 @@
 mod faults;
 mod places;
 
-pub use faults::text_of_fault;
+pub use faults::{text_of_coord_fault, text_of_fault};
 pub use places::put_place;
 
 #[cfg(test)]

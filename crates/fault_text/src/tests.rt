@@ -1,6 +1,7 @@
 //! The texts of messages.
 
-use crate::{put_place, text_of_fault};
+use crate::{put_place, text_of_coord_fault, text_of_fault};
+use coord::CoordFault;
 use otio_model::Place;
 use schema_rows::SchemaFault;
 use sequences::Text;
@@ -33,5 +34,15 @@ fn a_member_stands_behind_the_place(rt: HostRuntime) -> Result<(), Fail> {
     let member = Text::of(rt.alloc(), "kind")?;
     let text = text_of_fault(rt.alloc(), &SchemaFault::Field(place, member))?;
     assert_eq!(rt; text.as_str(), ": S4 Field at . kind\n");
+    Ok(())
+}
+
+#[test]
+fn a_fault_of_what_is_shown_names_its_item(rt: HostRuntime) -> Result<(), Fail> {
+    let mut place = Place::new(rt.alloc());
+    place.push(0)?;
+    place.push(12)?;
+    let text = text_of_coord_fault(rt.alloc(), &CoordFault::Long(place))?;
+    assert_eq!(rt; text.as_str(), ": K4 Long at 0/12\n");
     Ok(())
 }
