@@ -1,0 +1,47 @@
+-- What root children show.
+use Rattle.std.proofs.Common.{◌≡◌, refl, sym, ap, ◌∙◌, ℕ, ℤ, pos, ◌≤ℤ◌, ◌<ℤ◌, false, Some, None, slice_get, arith}
+use Rattle.std.proofs.lemmas.Int.{ints, by_lt_z}
+use Rattle.otio_model.specs.declared.compositions.ItemOf.{ItemOf}
+use Rattle.otio_model.specs.declared.compositions.Listed.{Listed}
+use Rattle.otio_model.specs.declared.timelines.Timeline.{Timeline}
+use Rattle.otio_model.specs.Trees.{items_of}
+use Rattle.otio_model.specs.Lengths.{length_of}
+use Rattle.coord.specs.Looks.{FrameRate, Blank, within}
+use Rattle.coord.specs.Sights.{sight, known}
+use Rattle.coord.specs.Programs.{kind_of, child_shows, shown_by, instant, program}
+use Rattle.coord.specs.Soundness.{fault_of}
+use Rattle.show_prog.specs.Found.{exact}
+use Rattle.show_prog.proofs.Seen.{length_seen}
+use Rattle.show_prog.proofs.Sound.{is_short}
+use Rattle.show_prog.proofs.Steps.{yes, below, above}
+
+abbrev same : FrameRate → FrameRate
+same = λ rate. rate
+
+length_as : (x : ItemOf Listed) → pos (known (sight x).length) ≡ pos (known (length_of x))
+length_as x = ap (λ o. pos (known o)) (length_seen x)
+
+pub child_in : (x : ItemOf Listed) (u : ℤ) → pos 0 ≤ℤ u → u <ℤ pos (known (length_of x)) → (sight x).shows (exact (kind_of x)) u ≡ child_shows same x u
+child_in x u low high = let k = length_as x in rw (yes (pos 0) (pos (known (sight x).length)) u low (omega (arith, ints))) refl
+
+pub child_before : (x : ItemOf Listed) (u : ℤ) → u <ℤ pos 0 → Blank ≡ child_shows same x u
+child_before x u h = rw (below (pos 0) (pos (known (sight x).length)) u h) refl
+
+pub child_behind : (x : ItemOf Listed) (u : ℤ) → pos (known (length_of x)) ≤ℤ u → Blank ≡ child_shows same x u
+child_behind x u h = let k = length_as x in rw (above (pos 0) (pos (known (sight x).length)) u (omega (arith, ints))) refl
+
+pub child_short : (x : ItemOf Listed) → fault_of x ≡ None → pos (known (length_of x)) ≤ℤ pos 705600000000000000000000
+child_short x e = let s = (is_short x e).ticks in omega (arith, ints)
+
+far_end : (u : ℤ) → pos 0 ≤ℤ u → within (pos 0) (pos 705600000000000000000001) u ≡ false → pos 705600000000000000000001 ≤ℤ u
+far_end u low e = by_lt_z u (pos 705600000000000000000001)
+    (λ h. absurd (cc (sym e ∙ yes (pos 0) (pos 705600000000000000000001) u low h)))
+    (λ h. h)
+
+-- what lies outside every sound timeline lies outside a sound child
+pub child_far : (x : ItemOf Listed) (u : ℤ) → fault_of x ≡ None → within (pos 0) (pos 705600000000000000000001) u ≡ false → Blank ≡ child_shows same x u
+child_far x u s e = by_lt_z u (pos 0) (λ h. child_before x u h) (λ h. let f = far_end u h e in let k = child_short x s in child_behind x u (omega (arith, ints)))
+
+-- what a root child shows is what is shown of it at the record frame
+pub program_of : (t : Timeline) (k : ℕ) (n u : ℤ) (x : ItemOf Listed) → slice_get (items_of t.tracks.children) k ≡ Some x → u ≡ instant t n → child_shows same x u ≡ program t k n
+program_of t k n u x e f = ap (child_shows same x) f ∙ ap (λ o. shown_by same o (instant t n)) (sym e)

@@ -1,0 +1,20 @@
+//! What is seen at each record frame of a timeline, and its text.
+//!
+//! A [`Picture`] borrows the texts of the timeline that it was taken from.
+#![tactic(auto)]
+
+mod children;
+mod clips;
+mod items;
+mod lists;
+mod picture;
+mod print;
+mod program;
+mod weights;
+
+pub use picture::{KeyRef, MixKind, Picture};
+pub use print::{print_show, put_show};
+pub use program::show;
+
+#[cfg(test)]
+mod tests;
