@@ -1,0 +1,5 @@
+use Rattle.record_points.proofs.Single.{point_once}
+use Rattle.record_points.proofs.points.one_point.Goals as goal
+
+pub returns : goal.returns
+returns c = point_once

@@ -1,0 +1,11 @@
+//! Points of a record: a frame by its number, or by a timecode label of SMPTE ST 12-1.
+#![tactic(auto)]
+
+mod forms;
+mod numbers;
+mod points;
+#[cfg(test)]
+mod tests;
+
+pub use numbers::whole_number;
+pub use points::{RecordPoint, frame_at, one_point, point_of};
