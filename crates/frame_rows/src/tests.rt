@@ -1,0 +1,224 @@
+//! What is listed of small timelines, and its lines.
+
+ghost use Rattle.std.specs.Prelude.{◌≡◌, ◌+◌, IfOk};
+ghost use Rattle.otio_model.specs.Counts.{count, count_of};
+
+use crate::{Listing, RowFault, listing_of, write_rows};
+use coord::sound;
+use dev_io::MemOut;
+use otio_model::{
+    Children, Clip, Effects, Gap, Item, ItemOf, Items, Markers, MediaMap, Stack, StackOf, Timeline,
+};
+use record_points::RecordPoint;
+use sequences::{NamedValues, Text};
+use std::alloc::{AllocError, Global};
+use std::test::Fail;
+use tick_time::{Decimal, Rate, Span, Time};
+
+fn rate_24() -> Option<Rate> {
+    let decimal = Decimal {
+        neg: false,
+        digits: 24,
+        exp: 0,
+    };
+    Rate::of(&decimal).ok()
+}
+
+fn rate_25() -> Option<Rate> {
+    let decimal = Decimal {
+        neg: false,
+        digits: 25,
+        exp: 0,
+    };
+    Rate::of(&decimal).ok()
+}
+
+fn frames(count: i64, rate: Option<Rate>) -> Option<Time> {
+    Time::frames(count, rate?).ok()
+}
+
+/// So many frames at 24 frames a second, from 0 on.
+fn span(len: i64) -> Option<Span> {
+    let start = frames(0, rate_24())?;
+    let len = frames(len, rate_24())?;
+    if len.ticks < 0 {
+        return None;
+    }
+    Some(Span { start, len })
+}
+
+fn nameless(alloc: Global) -> Text {
+    Text::from_string(String::new(alloc))
+}
+
+/// A clip of this name without media.
+fn clip(alloc: Global, name: Text, source_range: Option<Span>) -> Item
+    ensures { count_of result ≡ 1 }
+{
+    ItemOf::Clip(Clip {
+        metadata: NamedValues::new(alloc),
+        name,
+        source_range,
+        effects: Effects::new(alloc),
+        markers: Markers::new(alloc),
+        enabled: true,
+        media_references: MediaMap::new(alloc),
+        active_media_reference_key: nameless(alloc),
+        rest: NamedValues::new(alloc),
+    })
+}
+
+fn gap(alloc: Global, source_range: Option<Span>) -> Item
+    ensures { count_of result ≡ 1 }
+{
+    ItemOf::Gap(Gap {
+        metadata: NamedValues::new(alloc),
+        name: nameless(alloc),
+        source_range,
+        effects: Effects::new(alloc),
+        markers: Markers::new(alloc),
+        enabled: true,
+        rest: NamedValues::new(alloc),
+    })
+}
+
+#[tactic(auto, using(crate::proofs::Pairs::two_count))]
+fn two(alloc: Global, first: Item, second: Item) -> Result<Children, AllocError>
+    ensures { IfOk result (λ children. count children ≡ count_of first + count_of second) }
+{
+    let mut list = Vec::new(alloc);
+    list.push(first)?;
+    list.push(second)?;
+    Children::of(alloc, Items::of(list))
+}
+
+fn root(alloc: Global, children: Children) -> Stack
+    ensures { result.children ≡ children }
+{
+    StackOf {
+        metadata: NamedValues::new(alloc),
+        name: nameless(alloc),
+        source_range: None,
+        effects: Effects::new(alloc),
+        markers: Markers::new(alloc),
+        enabled: true,
+        children,
+        rest: NamedValues::new(alloc),
+    }
+}
+
+/// A timeline of a clip of so many frames at 24 frames a second, above a gap of one.
+fn timeline(alloc: Global, start: Option<Time>, len: i64) -> Result<Timeline, AllocError>
+    ensures { IfOk result (λ timeline. count timeline.tracks.children ≡ 2) }
+{
+    let name = Text::of(alloc, "c")?;
+    let children = two(alloc, gap(alloc, span(1)), clip(alloc, name, span(len)))?;
+    Ok(Timeline::of(
+        alloc,
+        NamedValues::new(alloc),
+        nameless(alloc),
+        start,
+        root(alloc, children),
+        NamedValues::new(alloc),
+    ))
+}
+
+/// What is listed of a clip of 21 frames at 24 frames a second, that begins at an hour at 25.
+fn listed(
+    alloc: Global,
+    start: Option<RecordPoint>,
+    count: Option<u32>,
+) -> Result<Option<Listing>, AllocError> {
+    let timeline = timeline(alloc, frames(90_000, rate_25()), 21)?;
+    Ok(listing_of(&timeline, Some(1), start, count))
+}
+
+/// Sends what is listed of a clip of two frames at 24 frames a second. `None` where that isn't sound.
+fn written(
+    alloc: Global,
+    listing: &Listing,
+    out: &mut MemOut,
+) -> Result<Option<Result<(), RowFault>>, AllocError> {
+    let timeline = timeline(alloc, None, 2)?;
+    match sound(alloc, &timeline) {
+        Ok(()) => Ok(Some(write_rows(alloc, &timeline, listing, out))),
+        Err(_) => Ok(None),
+    }
+}
+
+#[test]
+fn a_listing_ends_with_the_longest_child(rt: HostRuntime) -> Result<(), Fail> {
+    let want = Listing {
+        child: Some(1),
+        from: 90_000,
+        count: 22,
+    };
+    assert_eq!(rt; listed(rt.alloc(), None, None)?, Some(want));
+    let behind = Some(RecordPoint::Frame(90_022));
+    let want = Listing {
+        child: Some(1),
+        from: 90_022,
+        count: 0,
+    };
+    assert_eq!(rt; listed(rt.alloc(), behind, None)?, Some(want));
+    Ok(())
+}
+
+#[test]
+fn a_label_is_read_at_the_record_rate(rt: HostRuntime) -> Result<(), Fail> {
+    let label = Some(RecordPoint::Label(*b"01:00:00:24"));
+    let want = Listing {
+        child: Some(1),
+        from: 90_024,
+        count: 3,
+    };
+    assert_eq!(rt; listed(rt.alloc(), label, Some(3))?, Some(want));
+    let past = Some(RecordPoint::Label(*b"01:00:00:25"));
+    assert_eq!(rt; listed(rt.alloc(), past, Some(3))?, None);
+    let drop = Some(RecordPoint::Label(*b"01:00:00;24"));
+    assert_eq!(rt; listed(rt.alloc(), drop, Some(3))?, None);
+    Ok(())
+}
+
+#[test]
+fn lines_go_by_frames_and_then_by_children(rt: HostRuntime) -> Result<(), Fail> {
+    let mut out = MemOut::new(rt.alloc(), 200)?;
+    let listing = Listing {
+        child: None,
+        from: -1,
+        count: 3,
+    };
+    assert_eq!(rt; written(rt.alloc(), &listing, &mut out)?, Some(Ok(())));
+    let want = b"-1 0 -\n-1 1 -\n0 0 -\n0 1 name:\"c\"@0\n1 0 -\n1 1 name:\"c\"@1\n";
+    assert_eq!(rt; out.sent(), want.as_slice());
+    Ok(())
+}
+
+#[test]
+fn a_child_that_is_not_there_has_no_lines(rt: HostRuntime) -> Result<(), Fail> {
+    let mut out = MemOut::new(rt.alloc(), 200)?;
+    let listing = Listing {
+        child: Some(2),
+        from: 0,
+        count: 3,
+    };
+    assert_eq!(rt; written(rt.alloc(), &listing, &mut out)?, Some(Ok(())));
+    assert_eq!(rt; out.sent(), b"".as_slice());
+    Ok(())
+}
+
+#[test]
+fn a_stream_that_fails_ends_the_lines(rt: HostRuntime) -> Result<(), Fail> {
+    let mut out = MemOut::new(rt.alloc(), 10_000)?;
+    out.fail_on(2)?;
+    let listing = Listing {
+        child: Some(0),
+        from: 0,
+        count: 1000,
+    };
+    let stopped = Some(Err(RowFault::Sink));
+    assert_eq!(rt; written(rt.alloc(), &listing, &mut out)?, stopped);
+    // the lines of frames 0 to 255, of which the first 10, 90 and 156 have one, two and three digits
+    assert_eq!(rt; out.sent().len(), 10 * 6 + 90 * 7 + 156 * 8);
+    Ok(())
+}
