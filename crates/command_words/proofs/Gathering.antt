@@ -1,38 +1,45 @@
 -- What words spell, and what it gives.
-use Rattle.std.proofs.Common.{◌≡◌, ℕ, Bool, true, false, List, [], ◌∷◌, Option, Some, None, is_some, MatchOption, refl, sym, ◌∙◌, ap, subst, codes, get_or, arith}
-use Rattle.std.proofs.lemmas.Bool.{false≢true}
+use Rattle.std.proofs.Common.{◌≡◌, ℕ, Bool, List, [], ◌∷◌, Option, Some, None, MatchOption, refl, sym, ◌∙◌, ap, subst, get_or, ◌≤◌, arith}
 use Rattle.command_words.specs.declared.requests.Request.{Request}
 use Rattle.std.specs.Option.{option_map, option_and_then}
 use Rattle.tick_time.specs.declared.rates.Rate.{Rate}
 use Rattle.command_words.specs.Parts.{Part, IsPart, AreParts, spelled, spell}
 use Rattle.command_words.specs.Gathered.{Given, nothing_given, add, add_all, given_by}
-use Rattle.command_words.specs.Asked.{IsRate, IsInput, IsDefault, IsOutput, IsAskedOf, IsAskedBy, Ask, AskNothing}
-use Rattle.command_words.specs.declared.requests.Form.{Form}
-use Rattle.command_words.specs.declared.requests.Form.TheVariants as form
+use Rattle.command_words.specs.Asked.{IsRate, IsInput, IsDefault, IsOutput, IsAskedOf, IsConversion, IsValue, IsCount, AreFrames, IsFrameList, IsAskedBy, Ask, AskNothing}
+use Rattle.command_words.specs.declared.conversions.Form.{Form}
+use Rattle.command_words.specs.declared.conversions.Form.TheVariants as form
 use Rattle.command_words.specs.declared.lines.Line.{Line}
 use Rattle.command_words.specs.declared.requests.Command.{Command}
-use Rattle.command_words.specs.declared.requests.Command.TheVariants.{ListToList, ToObjects, ToJson}
+use Rattle.command_words.specs.declared.requests.Command.TheVariants.{ListToList, ToObjects, ToJson, Frames}
+use Rattle.command_words.specs.declared.requests.FramesAsked.{FramesAsked}
+use Rattle.command_words.specs.declared.names.Verb.{Verb}
+use Rattle.command_words.specs.declared.names.Verb.TheVariants as verbs
+use Rattle.record_points.specs.declared.points.RecordPoint.{RecordPoint}
+use Rattle.record_points.specs.Words.{IsWholeNumber, IsPoint}
+use Rattle.record_points.proofs.Single.{number_once, point_once}
+use Rattle.command_words.specs.Names.{word_of}
+use Rattle.command_words.proofs.Naming.{verb_once}
 use Rattle.command_words.proofs.Spelling.{heads, parts_once}
 use Rattle.command_words.proofs.SameRates.{rate_once}
 
 -- where no part begins the words, they spell none
-pub no_parts : (word : List ℕ) (behind : List (List ℕ)) → ((p : Part) (ws : List (List ℕ)) → IsPart p → word ∷ behind ≡ spelled p ws → ⊥)
-    → (parts : List Part) → AreParts parts → word ∷ behind ≡ spell parts → ⊥
-no_parts word behind h [] a e = cc
-no_parts word behind h (p ∷ ps) a e = h p (spell ps) a.0 e
+pub no_parts : (verb : Verb) (word : List ℕ) (behind : List (List ℕ)) → ((p : Part) (ws : List (List ℕ)) → IsPart verb p → word ∷ behind ≡ spelled p ws → ⊥)
+    → (parts : List Part) → AreParts verb parts → word ∷ behind ≡ spell parts → ⊥
+no_parts verb word behind h [] a e = cc
+no_parts verb word behind h (p ∷ ps) a e = h p (spell ps) a.0 e
 
 -- the parts begin with this one, and the rest spells the others
-pub record Follows (found : Part) (rest : List (List ℕ)) (parts : List Part) : Type 0 where
+pub record Follows (verb : Verb) (found : Part) (rest : List (List ℕ)) (parts : List Part) : Type 0 where
   pub more : List Part
   pub are : parts ≡ found ∷ more
-  pub are_parts : AreParts more
+  pub are_parts : AreParts verb more
   pub spelled_by : rest ≡ spell more
 
-pub follow : (found : Part) (word : List ℕ) (behind rest : List (List ℕ)) → IsPart found → word ∷ behind ≡ spelled found rest
-    → (parts : List Part) → AreParts parts → word ∷ behind ≡ spell parts → Follows found rest parts
-follow found word behind rest is e [] a f = absurd (let g = f in cc)
-follow found word behind rest is e (p ∷ ps) a f =
-    let h = heads found p rest (spell ps) is a.0 (sym e ∙ f) in
+pub follow : (verb : Verb) (found : Part) (word : List ℕ) (behind rest : List (List ℕ)) → IsPart verb found → word ∷ behind ≡ spelled found rest
+    → (parts : List Part) → AreParts verb parts → word ∷ behind ≡ spell parts → Follows verb found rest parts
+follow verb found word behind rest is e [] a f = absurd (let g = f in cc)
+follow verb found word behind rest is e (p ∷ ps) a f =
+    let h = heads verb found p rest (spell ps) is a.0 (sym e ∙ f) in
     record { more = ps; are = ap (λ q. q ∷ ps) (sym h.0); are_parts = a.1; spelled_by = h.1 }
 
 -- what is given with the first part, and then with the others
@@ -43,24 +50,24 @@ pub add_twice : (g : Given) (p : Part) (ps : List Part) → add g p ≡ None →
 add_twice g p ps e = ap (option_and_then (λ k. add_all k ps)) e
 
 -- where the first part is given twice, nothing is gathered
-pub twice : (found : Part) (rest : List (List ℕ)) (g : Given) → add g found ≡ None
-    → (parts : List Part) → Follows found rest parts → (given : Given) → add_all g parts ≡ Some given → ⊥
-twice found rest g none parts f given e =
+pub twice : (verb : Verb) (found : Part) (rest : List (List ℕ)) (g : Given) → add g found ≡ None
+    → (parts : List Part) → Follows verb found rest parts → (given : Given) → add_all g parts ≡ Some given → ⊥
+twice verb found rest g none parts f given e =
     let k = ap (add_all g) f.are ∙ add_twice g found f.more none in
     let bad : None ≡ Some given = sym k ∙ e in cc
 
 -- what is gathered of some words
-abbrev pub Gathers : List (List ℕ) → Given → Option Line → Type 0
-Gathers words g result = MatchOption result
-    ((parts : List Part) (given : Given) → AreParts parts → words ≡ spell parts → add_all g parts ≡ Some given → ⊥)
-    (λ all. (parts : List Part) × AreParts parts × (words ≡ spell parts) × (add_all g parts ≡ Some (given_by all)))
+abbrev pub Gathers : Verb → List (List ℕ) → Given → Option Line → Type 0
+Gathers verb words g result = MatchOption result
+    ((parts : List Part) (given : Given) → AreParts verb parts → words ≡ spell parts → add_all g parts ≡ Some given → ⊥)
+    (λ all. (parts : List Part) × AreParts verb parts × (words ≡ spell parts) × (add_all g parts ≡ Some (given_by all)))
 
-pub gathers_more : (found : Part) (word : List ℕ) (behind rest : List (List ℕ)) (g h : Given) (result : Option Line) → IsPart found → word ∷ behind ≡ spelled found rest
-    → add g found ≡ Some h → Gathers rest h result → Gathers (word ∷ behind) g result
-gathers_more found word behind rest g h None is e a m = λ parts given are f all.
-    let k = follow found word behind rest is e parts are f in
+pub gathers_more : (verb : Verb) (found : Part) (word : List ℕ) (behind rest : List (List ℕ)) (g h : Given) (result : Option Line) → IsPart verb found → word ∷ behind ≡ spelled found rest
+    → add g found ≡ Some h → Gathers verb rest h result → Gathers verb (word ∷ behind) g result
+gathers_more verb found word behind rest g h None is e a m = λ parts given are f all.
+    let k = follow verb found word behind rest is e parts are f in
     m k.more given k.are_parts k.spelled_by (sym (add_first g h found k.more a) ∙ ap (add_all g) (sym k.are) ∙ all)
-gathers_more found word behind rest g h (Some line) is e a m = (
+gathers_more verb found word behind rest g h (Some line) is e a m = (
   found ∷ m.0,
   (is, m.1),
   e ∙ ap (spelled found) m.2,
@@ -122,7 +129,7 @@ output_once (Some word) target f g p q = word_once word target f g p q
 -- what is asked with these values
 pub asked_with : (command : Command) (called name : List ℕ) (target : Option (List ℕ)) (input output : Form) (rate : Rate) (given : Given) → given.file ≡ Some name
     → IsInput given.from name input → IsOutput given.to given.target output → IsRate given.rate rate
-    → IsAskedBy command called target given → IsAskedOf command input output rate given.drop × (called ≡ name) × (target ≡ given.target)
+    → IsConversion command called target given → IsAskedOf command input output rate given.drop × (called ≡ name) × (target ≡ given.target)
 asked_with command called name target input output rate given file reads writes is a =
     let same : called ≡ name = let e = sym a.file ∙ file in cc in
     let read : a.input ≡ input = input_once given.from name a.input input (subst (λ n. IsInput given.from n a.input) same a.reads) reads in
@@ -135,71 +142,125 @@ asked_with command called name target input output rate given file reads writes 
     )
 
 -- words ask for what their parts ask for
-pub asks : (words rest : List (List ℕ)) (g given : Given) (parts : List Part) (command : Command) (name : List ℕ) (target : Option (List ℕ)) → words ≡ codes "convert" ∷ rest
-    → AreParts parts → rest ≡ spell parts → g ≡ nothing_given → add_all g parts ≡ Some given → IsAskedBy command name target given → Ask words command name target
-asks words rest g given parts command name target w a s n e is = record {
+pub asks : (verb : Verb) (words rest : List (List ℕ)) (given : Given) (parts : List Part) (command : Command) (name : List ℕ) (target : Option (List ℕ)) → words ≡ word_of verb ∷ rest
+    → AreParts verb parts → rest ≡ spell parts → add_all nothing_given parts ≡ Some given → IsAskedBy verb command name target given → Ask words command name target
+asks verb words rest given parts command name target w a s e is = record {
+  verb = verb;
   parts = parts;
   are_parts = a;
-  words_are = w ∙ ap (λ l. codes "convert" ∷ l) s;
+  words_are = w ∙ ap (λ l. word_of verb ∷ l) s;
   given = given;
-  gathered = subst (λ h. add_all h parts ≡ Some given) n e;
+  gathered = e;
   asked = is;
 }
+
+-- words that begin with the word of a command ask for that command, by one list of parts
+same_line : (words rest : List (List ℕ)) (verb : Verb) (parts : List Part) (g : Given) (other : Verb) (found : List Part) (given : Given) → other ≡ verb
+    → words ≡ word_of verb ∷ rest → AreParts verb parts → rest ≡ spell parts → add_all nothing_given parts ≡ Some g
+    → words ≡ word_of other ∷ spell found → AreParts other found → add_all nothing_given found ≡ Some given → given ≡ g
+same_line words rest verb parts g other found given same w a s e v b f =
+    let k = sym v ∙ w in
+    let spells : spell found ≡ rest = cc in
+    let once = parts_once verb found parts (subst (λ x. AreParts x found) same b) a (spells ∙ s) in
+    let both : Some given ≡ Some g = sym f ∙ ap (add_all nothing_given) once ∙ e in cc
+
+first_words : (a b : List ℕ) (more others : List (List ℕ)) → a ∷ more ≡ b ∷ others → a ≡ b
+first_words a b more others e = cc
 
 -- the characters of the name of an output
 abbrev pub target_of : Request → Option (List ℕ)
 target_of request = option_map (λ s. s.now) request.target
 
+-- what the options and the file of a line ask for
+abbrev pub AsksOf : Verb → Given → Option Request → Type 0
+AsksOf verb given result = MatchOption result ((command : Command) (name : List ℕ) (target : Option (List ℕ)) → IsAskedBy verb command name target given → ⊥)
+    (λ request. IsAskedBy verb request.command request.name.now (target_of request) given)
+
 -- the request of a line is what the words ask for
-pub request_asks : (words rest : List (List ℕ)) (parts : List Part) (g : Given) (result : Option Request) → words ≡ codes "convert" ∷ rest → AreParts parts → rest ≡ spell parts
-    → add_all nothing_given parts ≡ Some g
-    → MatchOption result ((command : Command) (name : List ℕ) (target : Option (List ℕ)) → IsAskedBy command name target g → ⊥)
-    (λ request. IsAskedBy request.command request.name.now (target_of request) g)
-    → MatchOption result (AskNothing words) (λ request. Ask words request.command request.name.now (target_of request))
-request_asks words rest parts g None w a s e m = λ command name target ask.
-    let same : spell ask.parts ≡ spell parts = let k = sym ask.words_are ∙ w ∙ ap (λ l. codes "convert" ∷ l) s in cc in
-    let once : ask.parts ≡ parts = parts_once ask.parts parts ask.are_parts a same in
-    let both : Some ask.given ≡ Some g = sym ask.gathered ∙ ap (add_all nothing_given) once ∙ e in
-    let given : ask.given ≡ g = cc in m command name target (subst (IsAskedBy command name target) given ask.asked)
-request_asks words rest parts g (Some request) w a s e m = asks words rest nothing_given g parts request.command request.name.now (target_of request) w a s refl e m
+pub request_asks : (verb : Verb) (words rest : List (List ℕ)) (parts : List Part) (g : Given) (result : Option Request) → words ≡ word_of verb ∷ rest → AreParts verb parts
+    → rest ≡ spell parts → add_all nothing_given parts ≡ Some g → AsksOf verb g result → MatchOption result (AskNothing words) (λ request. Ask words request.command request.name.now (target_of request))
+request_asks verb words rest parts g None w a s e m = λ command name target ask.
+    let same = verb_once ask.verb verb (first_words (word_of ask.verb) (word_of verb) (spell ask.parts) rest (sym ask.words_are ∙ w)) in
+    let given = same_line words rest verb parts g ask.verb ask.parts ask.given same w a s e ask.words_are ask.are_parts ask.gathered in
+    m command name target (subst (λ v. IsAskedBy v command name target g) same (subst (IsAskedBy ask.verb command name target) given ask.asked))
+request_asks verb words rest parts g (Some request) w a s e m = asks verb words rest g parts request.command request.name.now (target_of request) w a s e m
+
+-- the command for what is read and what is written
+abbrev asked_for : Form → Form → Rate → Bool → Option Command
+asked_for form.List form.List rate drop = Some (ListToList rate drop)
+asked_for form.Objects form.Objects rate drop = Some ToObjects
+asked_for form.Objects form.Json rate drop = Some ToJson
+asked_for input output rate drop = None
+
+asked_is : (command : Command) (input output : Form) (rate : Rate) (drop : Bool) → IsAskedOf command input output rate drop → asked_for input output rate drop ≡ Some command
+asked_is (ListToList r f) form.Objects output rate drop p = absurd p
+asked_is (ListToList r f) form.List form.Objects rate drop p = absurd p
+asked_is (ListToList r f) form.List form.List rate drop p = let e = p.0 in let h = p.1 in cc
+asked_is (ListToList r f) form.List form.Json rate drop p = absurd p
+asked_is (ListToList r f) form.Json output rate drop p = absurd p
+asked_is ToObjects form.Objects form.Objects rate drop p = refl
+asked_is ToObjects form.Objects form.List rate drop p = absurd p
+asked_is ToObjects form.Objects form.Json rate drop p = absurd p
+asked_is ToObjects form.List output rate drop p = absurd p
+asked_is ToObjects form.Json output rate drop p = absurd p
+asked_is ToJson form.Objects form.Objects rate drop p = absurd p
+asked_is ToJson form.Objects form.List rate drop p = absurd p
+asked_is ToJson form.Objects form.Json rate drop p = refl
+asked_is ToJson form.List output rate drop p = absurd p
+asked_is ToJson form.Json output rate drop p = absurd p
+asked_is (Frames asked) input output rate drop p = absurd p
 
 -- one file, one output and one rate make at most one command
 asked_once : (c d : Command) (input output : Form) (rate : Rate) (drop : Bool) → IsAskedOf c input output rate drop → IsAskedOf d input output rate drop → c ≡ d
-asked_once (ListToList r f) (ListToList s g) form.List form.List rate drop p q = let e = p.0 ∙ sym q.0 in let h = p.1 ∙ sym q.1 in cc
-asked_once ToObjects ToObjects input output rate drop p q = refl
-asked_once ToJson ToJson input output rate drop p q = refl
-asked_once (ListToList r f) d form.Objects output rate drop p q = absurd p
-asked_once (ListToList r f) d form.Json output rate drop p q = absurd p
-asked_once (ListToList r f) d form.List form.Objects rate drop p q = absurd p
-asked_once (ListToList r f) d form.List form.Json rate drop p q = absurd p
-asked_once (ListToList r f) ToObjects form.List form.List rate drop p q = absurd q
-asked_once (ListToList r f) ToJson form.List form.List rate drop p q = absurd q
-asked_once ToObjects (ListToList s g) form.Objects output rate drop p q = absurd q
-asked_once ToObjects (ListToList s g) form.List output rate drop p q = absurd p
-asked_once ToObjects (ListToList s g) form.Json output rate drop p q = absurd p
-asked_once ToObjects ToJson form.Objects form.Objects rate drop p q = absurd q
-asked_once ToObjects ToJson form.Objects form.List rate drop p q = absurd p
-asked_once ToObjects ToJson form.Objects form.Json rate drop p q = absurd p
-asked_once ToObjects ToJson form.List output rate drop p q = absurd p
-asked_once ToObjects ToJson form.Json output rate drop p q = absurd p
-asked_once ToJson (ListToList s g) form.Objects output rate drop p q = absurd q
-asked_once ToJson (ListToList s g) form.List output rate drop p q = absurd p
-asked_once ToJson (ListToList s g) form.Json output rate drop p q = absurd p
-asked_once ToJson ToObjects form.Objects form.Objects rate drop p q = absurd p
-asked_once ToJson ToObjects form.Objects form.List rate drop p q = absurd p
-asked_once ToJson ToObjects form.Objects form.Json rate drop p q = absurd q
-asked_once ToJson ToObjects form.List output rate drop p q = absurd p
-asked_once ToJson ToObjects form.Json output rate drop p q = absurd p
+asked_once c d input output rate drop p q = let e : Some c ≡ Some d = sym (asked_is c input output rate drop p) ∙ asked_is d input output rate drop q in cc
 
-by_once : (c d : Command) (a b : List ℕ) (s t : Option (List ℕ)) (given : Given) → IsAskedBy c a s given → IsAskedBy d b t given → (c ≡ d) × (a ≡ b) × (s ≡ t)
-by_once c d a b s t given p q =
+convert_once : (c d : Command) (a b : List ℕ) (s t : Option (List ℕ)) (given : Given) → IsConversion c a s given → IsConversion d b t given → (c ≡ d) × (a ≡ b) × (s ≡ t)
+convert_once c d a b s t given p q =
     let h = asked_with d b a t p.input p.output p.rate given p.file p.reads p.writes p.is_rate q in
     (asked_once c d p.input p.output p.rate given.drop p.means h.0, sym h.1, sym p.target_is ∙ sym h.2)
+
+-- an option asks for at most one value
+value_once : {A : Type 0} (Is : List ℕ → A → Type 0) → ((word : List ℕ) (x y : A) → Is word x → Is word y → x ≡ y) → (given : Option (List ℕ)) (x y : Option A) → IsValue Is given x
+    → IsValue Is given y → x ≡ y
+value_once Is once None None None p q = refl
+value_once Is once None None (Some y) p q = absurd q
+value_once Is once None (Some x) y p q = absurd p
+value_once Is once (Some word) None y p q = absurd p
+value_once Is once (Some word) (Some x) None p q = absurd q
+value_once Is once (Some word) (Some x) (Some y) p q = ap Some (once word x y p q)
+
+pub count_once : (word : List ℕ) (m n : ℕ) → IsCount word m → IsCount word n → m ≡ n
+count_once word m n p q = number_once word m n p.0 q.0
+
+-- a number beyond the limits of a count is none
+pub no_count : (word : List ℕ) (n : ℕ) → IsWholeNumber word n → ((1 ≤ n) × (n ≤ 1000000) → ⊥) → (m : ℕ) → IsCount word m → ⊥
+no_count word n w past m count = let same = number_once word m n count.0 w in past (omega (arith, count.1), omega (arith, count.2))
+
+frames_of : Option ℕ → Option RecordPoint → Option ℕ → FramesAsked
+frames_of child start count = record { child = child; start = start; count = count }
+
+-- options ask for one listing of frames
+listing_once : (given : Given) (a b : FramesAsked) → AreFrames given a → AreFrames given b → a ≡ b
+unfolding frames_of
+listing_once given a b p q =
+    let child = value_once IsWholeNumber number_once given.child a.child b.child p.child q.child in
+    let start = value_once IsPoint point_once given.start a.start b.start p.start q.start in
+    let count = value_once IsCount count_once given.count a.count b.count p.count q.count in
+    ap (λ x. frames_of x a.start a.count) child ∙ ap (λ x. frames_of b.child x a.count) start ∙ ap (frames_of b.child b.start) count
+
+frames_once : (c d : Command) (a b : List ℕ) (s t : Option (List ℕ)) (given : Given) → IsFrameList c a s given → IsFrameList d b t given → (c ≡ d) × (a ≡ b) × (s ≡ t)
+frames_once c d a b s t given p q =
+    let file : Some a ≡ Some b = sym p.file ∙ q.file in
+    let asked = listing_once given p.asked q.asked p.are q.are in
+    (p.means ∙ ap Frames asked ∙ sym q.means, cc, sym p.target_is ∙ q.target_is)
+
+by_once : (verb : Verb) (c d : Command) (a b : List ℕ) (s t : Option (List ℕ)) (given : Given) → IsAskedBy verb c a s given → IsAskedBy verb d b t given → (c ≡ d) × (a ≡ b) × (s ≡ t)
+by_once verbs.Convert c d a b s t given p q = convert_once c d a b s t given p q
+by_once verbs.Frames c d a b s t given p q = frames_once c d a b s t given p q
 
 -- words ask for at most one command on at most one file
 pub ask_once : (words : List (List ℕ)) (c d : Command) (a b : List ℕ) (s t : Option (List ℕ)) → Ask words c a s → Ask words d b t → (c ≡ d) × (a ≡ b) × (s ≡ t)
 ask_once words c d a b s t p q =
-    let same : spell p.parts ≡ spell q.parts = let k = sym p.words_are ∙ q.words_are in cc in
-    let once : p.parts ≡ q.parts = parts_once p.parts q.parts p.are_parts q.are_parts same in
-    let both : Some p.given ≡ Some q.given = sym p.gathered ∙ ap (add_all nothing_given) once ∙ q.gathered in
-    let given : p.given ≡ q.given = cc in by_once c d a b s t q.given (subst (IsAskedBy c a s) given p.asked) q.asked
+    let same = verb_once p.verb q.verb (first_words (word_of p.verb) (word_of q.verb) (spell p.parts) (spell q.parts) (sym p.words_are ∙ q.words_are)) in
+    let given = same_line words (spell q.parts) q.verb q.parts q.given p.verb p.parts p.given same q.words_are q.are_parts refl q.gathered p.words_are p.are_parts p.gathered in
+    by_once q.verb c d a b s t q.given (subst (λ v. IsAskedBy v c a s q.given) same (subst (IsAskedBy p.verb c a s) given p.asked)) q.asked

@@ -1,10 +1,10 @@
 -- Rates of words.
-use Rattle.std.proofs.Common.{◌≡◌, ◌≤◌, ◌≤ℤ◌, ◌*◌, ◌%◌, ◌^◌, ℕ, ℤ, pos, List, Option, Some, None, IsTrue, unsigned_abs, refl, sym, ◌∙◌, ap, subst, arith}
+use Rattle.std.proofs.Common.{◌≡◌, ◌≤ℤ◌, ◌*◌, ◌%◌, ℕ, ℤ, pos, List, Option, Some, None, IsTrue, unsigned_abs, sym, ◌∙◌, ap, subst, arith}
 use Rattle.std.specs.Prelude.{Bool}
 use Rattle.std.proofs.lemmas.Int.{ints}
 use Rattle.std.proofs.Props.{props}
-use Rattle.tick_time.specs.Numerals.{Numeral, Spells, IsSame, fraction}
-use Rattle.tick_time.specs.Decimals.{decimal_value, lowered}
+use Rattle.tick_time.specs.Numerals.{Numeral, IsSame, fraction}
+use Rattle.tick_time.specs.Decimals.{decimal_value}
 use Rattle.tick_time.specs.Rates.{GivesRate, IsLowest, per_millionth, is_rate}
 use Rattle.tick_time.specs.declared.rates.Rate.{Rate}
 use Rattle.tick_time.proofs.Once.{gives_same, gives_once, same_positive}

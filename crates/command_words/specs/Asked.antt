@@ -1,15 +1,19 @@
 -- What a command line asks for.
-use Rattle.std.specs.Prelude.{◌≡◌, ℕ, ℤ, pos, Bool, List, [], ◌∷◌, ◌++◌, Option, Some, None, codes}
+use Rattle.std.specs.Prelude.{◌≡◌, ℕ, ◌≤◌, pos, Bool, List, ◌∷◌, Option, Some, None, codes}
 use Rattle.tick_time.specs.Numerals.{Numeral, Spells, IsNumeral, IsTooLong, fraction}
 use Rattle.tick_time.specs.Rates.{GivesRate}
 use Rattle.tick_time.specs.declared.rates.Rate.{Rate}
-use Rattle.command_words.specs.Names.{IsListName}
+use Rattle.record_points.specs.Words.{IsWholeNumber, IsPoint}
+use Rattle.command_words.specs.Names.{IsListName, word_of}
 use Rattle.command_words.specs.Parts.{Part, AreParts, spell}
 use Rattle.command_words.specs.Gathered.{Given, nothing_given, add_all}
-use Rattle.command_words.specs.declared.requests.Form.{Form}
-use Rattle.command_words.specs.declared.requests.Form.TheVariants as form
+use Rattle.command_words.specs.declared.conversions.Form.{Form}
+use Rattle.command_words.specs.declared.conversions.Form.TheVariants as form
 use Rattle.command_words.specs.declared.requests.Command.{Command}
-use Rattle.command_words.specs.declared.requests.Command.TheVariants.{ListToList, ToObjects, ToJson}
+use Rattle.command_words.specs.declared.requests.Command.TheVariants.{ListToList, ToObjects, ToJson, Frames}
+use Rattle.command_words.specs.declared.requests.FramesAsked.{FramesAsked}
+use Rattle.command_words.specs.declared.names.Verb.{Verb}
+use Rattle.command_words.specs.declared.names.Verb.TheVariants as verbs
 
 -- The word is a rate: a number of JSON (RFC 8259, section 6) that isn't too long and stands for the rate.
 pub record IsRateWord (word : List ℕ) (rate : Rate) : Type 0 where
@@ -54,8 +58,8 @@ IsAskedOf ToObjects form.Objects form.Objects asked flag = Unit {0}
 IsAskedOf ToJson form.Objects form.Json asked flag = Unit {0}
 IsAskedOf command input output asked flag = ⊥
 
--- What the options and the file ask for. Other options have a value that is allowed even where the command doesn't need it.
-pub record IsAskedBy (command : Command) (name : List ℕ) (target : Option (List ℕ)) (given : Given) : Type 0 where
+-- What the options and the file of `convert` ask for. Other options have a value that is allowed even where the command doesn't need it.
+pub record IsConversion (command : Command) (name : List ℕ) (target : Option (List ℕ)) (given : Given) : Type 0 where
   pub file : given.file ≡ Some name
   pub target_is : given.target ≡ target
   pub input : Form
@@ -66,15 +70,47 @@ pub record IsAskedBy (command : Command) (name : List ℕ) (target : Option (Lis
   pub is_rate : IsRate given.rate rate
   pub means : IsAskedOf command input output rate given.drop
 
+-- what an option asks for by its value; nothing where it isn't given
+abbrev pub IsValue : {A : Type 0} → (List ℕ → A → Type 0) → Option (List ℕ) → Option A → Type 0
+IsValue Is None None = Unit {0}
+IsValue Is None (Some value) = ⊥
+IsValue Is (Some word) None = ⊥
+IsValue Is (Some word) (Some value) = Is word value
+
+-- a count of record frames, from 1 to a million
+abbrev pub IsCount : List ℕ → ℕ → Type 0
+IsCount word n = IsWholeNumber word n × (1 ≤ n) × (n ≤ 1000000)
+
+-- which child, from where and how many record frames the options of `frames` ask for
+pub record AreFrames (given : Given) (asked : FramesAsked) : Type 0 where
+  pub child : IsValue IsWholeNumber given.child asked.child
+  pub start : IsValue IsPoint given.start asked.start
+  pub count : IsValue IsCount given.count asked.count
+
+-- what the options and the file of `frames` ask for: the file is no list
+pub record IsFrameList (command : Command) (name : List ℕ) (target : Option (List ℕ)) (given : Given) : Type 0 where
+  pub file : given.file ≡ Some name
+  pub target_is : given.target ≡ target
+  pub no_list : IsListName name → ⊥
+  pub asked : FramesAsked
+  pub are : AreFrames given asked
+  pub means : command ≡ Frames asked
+
+-- what the options and the file of a command ask for
+abbrev pub IsAskedBy : Verb → Command → List ℕ → Option (List ℕ) → Given → Type 0
+IsAskedBy verbs.Convert command name target given = IsConversion command name target given
+IsAskedBy verbs.Frames command name target given = IsFrameList command name target given
+
 -- The words ask for this command on the file of this name, with the output into the file of the target's name, or to the standard output where there is none:
--- `convert`, then the options and the file in any order.
+-- the command's own word, then its options and the file in any order.
 pub record Ask (words : List (List ℕ)) (command : Command) (name : List ℕ) (target : Option (List ℕ)) : Type 0 where
+  pub verb : Verb
   pub parts : List Part
-  pub are_parts : AreParts parts
-  pub words_are : words ≡ codes "convert" ∷ spell parts
+  pub are_parts : AreParts verb parts
+  pub words_are : words ≡ word_of verb ∷ spell parts
   pub given : Given
   pub gathered : add_all nothing_given parts ≡ Some given
-  pub asked : IsAskedBy command name target given
+  pub asked : IsAskedBy verb command name target given
 
 -- the words ask for no command
 abbrev pub AskNothing : List (List ℕ) → Type 0

@@ -1,9 +1,9 @@
 -- What the parts of a command line give together: the value of each option, whether a flag is there, and the file, each at most once.
-use Rattle.std.specs.Prelude.{◌≡◌, ℕ, Bool, true, false, List, [], ◌∷◌, Option, Some, None}
+use Rattle.std.specs.Prelude.{ℕ, Bool, true, false, List, [], ◌∷◌, Option, Some, None}
 use Rattle.std.specs.Option.{option_map, option_and_then}
-use Rattle.command_words.specs.Parts.{Part, Valued, Drop, File}
-use Rattle.command_words.specs.declared.names.Choice.{Choice}
-use Rattle.command_words.specs.declared.names.Choice.TheVariants.{From, To, Rate, Target}
+use Rattle.command_words.specs.Parts.{Part, Valued, Flagged, File}
+use Rattle.command_words.specs.declared.names.Choice.TheVariants.{From, To, Rate, Target, Child, Start, Count}
+use Rattle.command_words.specs.declared.names.Flag.TheVariants.{Drop}
 use Rattle.command_words.specs.declared.lines.Line.{Line}
 
 pub record Given : Type 0 where
@@ -11,11 +11,14 @@ pub record Given : Type 0 where
   pub to : Option (List ℕ)
   pub rate : Option (List ℕ)
   pub target : Option (List ℕ)
+  pub child : Option (List ℕ)
+  pub start : Option (List ℕ)
+  pub count : Option (List ℕ)
   pub drop : Bool
   pub file : Option (List ℕ)
 
 abbrev pub nothing_given : Given
-nothing_given = record { from = None; to = None; rate = None; target = None; drop = false; file = None }
+nothing_given = record { from = None; to = None; rate = None; target = None; child = None; start = None; count = None; drop = false; file = None }
 
 -- the value where none was given before; what is given twice gives nothing
 abbrev pub once : Option (List ℕ) → Given → Option Given
@@ -32,7 +35,10 @@ add g (Valued From name value) = once g.from (record g { from = Some value })
 add g (Valued To name value) = once g.to (record g { to = Some value })
 add g (Valued Rate name value) = once g.rate (record g { rate = Some value })
 add g (Valued Target name value) = once g.target (record g { target = Some value })
-add g (Drop flag) = once_flag g.drop (record g { drop = true })
+add g (Valued Child name value) = once g.child (record g { child = Some value })
+add g (Valued Start name value) = once g.start (record g { start = Some value })
+add g (Valued Count name value) = once g.count (record g { count = Some value })
+add g (Flagged Drop name) = once_flag g.drop (record g { drop = true })
 add g (File name) = once g.file (record g { file = Some name })
 
 -- what is given with more parts, each in its turn
@@ -46,6 +52,9 @@ given_by line = record {
   to = option_map (λ s. s.now) line.to;
   rate = option_map (λ s. s.now) line.rate;
   target = option_map (λ s. s.now) line.target;
+  child = option_map (λ s. s.now) line.child;
+  start = option_map (λ s. s.now) line.start;
+  count = option_map (λ s. s.now) line.count;
   drop = line.drop;
   file = option_map (λ s. s.now) line.file;
 }

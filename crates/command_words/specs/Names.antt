@@ -1,18 +1,38 @@
 -- The words of a command line, one by one.
-use Rattle.std.specs.Prelude.{◌≡◌, ◌≢◌, ◌⊎◌, ℕ, List, [], ◌∷◌, ◌++◌, codes}
-use Rattle.command_words.specs.declared.names.Choice.{Choice}
-use Rattle.command_words.specs.declared.names.Choice.TheVariants.{From, To, Rate, Target}
+use Rattle.std.specs.Prelude.{◌≡◌, ◌≢◌, ℕ, List, [], ◌∷◌, ◌++◌, Option, Some, None, codes, bytes_eq, if◌then◌else◌}
+use Rattle.command_words.specs.declared.names.Verb.{Verb}
+use Rattle.command_words.specs.declared.names.Verb.TheVariants.{Convert, Frames}
+use Rattle.command_words.specs.declared.names.Choice.TheVariants.{From, To, Rate, Target, Child, Start, Count}
+use Rattle.command_words.specs.declared.names.Flag.TheVariants.{Drop}
+use Rattle.command_words.specs.declared.names.Named.{Named}
+use Rattle.command_words.specs.declared.names.Named.TheVariants.{Valued, Flagged}
 
--- the word is a name of the option
-abbrev pub IsChoice : Choice → List ℕ → Type 0
-IsChoice From word = word ≡ codes "--from"
-IsChoice To word = word ≡ codes "--to"
-IsChoice Rate word = word ≡ codes "--rate"
-IsChoice Target word = (word ≡ codes "-o") ⊎ (word ≡ codes "--output")
+-- what a word stands for in a table of words
+abbrev pub meaning : {A : Type 0} → List ℕ → List (List ℕ × A) → Option A
+meaning word [] = None
+meaning word (row ∷ rows) = if bytes_eq word row.0 then Some row.1 else meaning word rows
 
--- the word is the flag that asks for drop-frame timecode
-abbrev pub IsDropFlag : List ℕ → Type 0
-IsDropFlag word = word ≡ codes "--drop"
+-- the word of a command
+abbrev pub word_of : Verb → List ℕ
+word_of Convert = codes "convert"
+word_of Frames = codes "frames"
+
+-- the commands by their words
+abbrev pub verb_words : List (List ℕ × Verb)
+verb_words = (word_of Convert, Convert) ∷ (word_of Frames, Frames) ∷ []
+
+-- the options of each command, by their names
+abbrev pub target_options : List (List ℕ × Named)
+target_options = (codes "-o", Valued Target) ∷ (codes "--output", Valued Target) ∷ []
+
+-- the options that are built for a command, by their names
+abbrev pub options_of : Verb → List (List ℕ × Named)
+options_of Convert = (codes "--from", Valued From) ∷ (codes "--to", Valued To) ∷ (codes "--rate", Valued Rate) ∷ (codes "--drop", Flagged Drop) ∷ target_options
+options_of Frames = (codes "--child", Valued Child) ∷ (codes "--start", Valued Start) ∷ (codes "--count", Valued Count) ∷ target_options
+
+-- the word is the name of this option of the command
+abbrev pub IsNamed : Verb → Named → List ℕ → Type 0
+IsNamed verb named word = meaning word (options_of verb) ≡ Some named
 
 -- A value or the name of a file has a byte, and begins with `-` only where that is all of it, which names the standard input.
 pub record IsName (name : List ℕ) : Type 0 where

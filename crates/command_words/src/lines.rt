@@ -1,19 +1,22 @@
 // What the parts of a command line give together.
 ghost use Rattle.std.specs.Prelude.{◌≡◌, ℕ, List, Some, None, map, string_bytes, MatchOption};
-ghost use Rattle.command_words.specs.Parts.{Part, AreParts, spell, Valued as ValuedPart};
+ghost use Rattle.command_words.specs.Parts.{Part, AreParts, spell, Valued as ValuedPart, Flagged as FlaggedPart};
 ghost use Rattle.command_words.specs.Gathered.{Given, add, add_all, given_by, nothing_given};
 ghost use Rattle.command_words.specs.Found.{part_found};
 
-use crate::names::Choice;
+use crate::names::{Choice, Flag, Verb};
 use crate::parts::{Found, first_part, first_word};
 
-/// The values of the options, whether the flag is there, and the file.
+/// The values of the options, whether each flag is there, and the file.
 #[derive(Clone, Copy)]
 pub struct Line<'a> {
     pub from: Option<&'a str>,
     pub to: Option<&'a str>,
     pub rate: Option<&'a str>,
     pub target: Option<&'a str>,
+    pub child: Option<&'a str>,
+    pub start: Option<&'a str>,
+    pub count: Option<&'a str>,
     pub drop: bool,
     pub file: Option<&'a str>,
 }
@@ -27,6 +30,9 @@ pub fn empty_line<'a>() -> Line<'a>
         to: None,
         rate: None,
         target: None,
+        child: None,
+        start: None,
+        count: None,
         drop: false,
         file: None,
     }
@@ -40,13 +46,7 @@ pub fn with_part<'a>(line: Line<'a>, found: Found<'a>) -> Option<Line<'a>>
 {
     match found {
         Found::Valued(choice, _, value) => with_value(line, choice, value),
-        Found::Drop(_) => {
-            if line.drop {
-                None
-            } else {
-                Some(Line { drop: true, ..line })
-            }
-        }
+        Found::Flagged(flag, _) => with_flag(line, flag),
         Found::File(name) => match line.file {
             Some(_) => None,
             None => Some(Line {
@@ -57,6 +57,24 @@ pub fn with_part<'a>(line: Line<'a>, found: Found<'a>) -> Option<Line<'a>>
     }
 }
 
+// The line with one more flag.
+fn with_flag<'a>(line: Line<'a>, flag: Flag) -> Option<Line<'a>>
+    ensures { (name : List ℕ) → MatchOption result
+        (add (given_by line.entry) (FlaggedPart flag name) ≡ None)
+        (λ more. add (given_by line.entry) (FlaggedPart flag name) ≡ Some (given_by more)) }
+{
+    match flag {
+        Flag::Drop => {
+            if line.drop {
+                None
+            } else {
+                Some(Line { drop: true, ..line })
+            }
+        }
+    }
+}
+
+// The line with one more value.
 fn with_value<'a>(line: Line<'a>, choice: Choice, value: &'a str) -> Option<Line<'a>>
     ensures { (name : List ℕ) → MatchOption result
         (add (given_by line.entry) (ValuedPart choice name value.now) ≡ None)
@@ -77,24 +95,36 @@ fn with_value<'a>(line: Line<'a>, choice: Choice, value: &'a str) -> Option<Line
             target: value,
             ..line
         }),
+        Choice::Child if line.child.is_none() => Some(Line {
+            child: value,
+            ..line
+        }),
+        Choice::Start if line.start.is_none() => Some(Line {
+            start: value,
+            ..line
+        }),
+        Choice::Count if line.count.is_none() => Some(Line {
+            count: value,
+            ..line
+        }),
         _ => None,
     }
 }
 
-/// What a line and the parts that the words spell give together; none where they spell no parts, or something is given twice.
-pub fn gather<'a>(words: &'a [String], line: Line<'a>) -> Option<Line<'a>>
+/// What a line and the parts that the words of a command spell give together; none where they spell no parts, or something is given twice.
+pub fn gather<'a>(verb: Verb, words: &'a [String], line: Line<'a>) -> Option<Line<'a>>
     ensures { let spelled = map (λ w. string_bytes w) words.now in MatchOption result
-        ((parts : List Part) (given : Given) → AreParts parts → spelled ≡ spell parts → add_all (given_by line.entry) parts ≡ Some given → ⊥)
-        (λ all. (parts : List Part) × AreParts parts × (spelled ≡ spell parts) × (add_all (given_by line.entry) parts ≡ Some (given_by all))) }
+        ((parts : List Part) (given : Given) → AreParts verb parts → spelled ≡ spell parts → add_all (given_by line.entry) parts ≡ Some given → ⊥)
+        (λ all. (parts : List Part) × AreParts verb parts × (spelled ≡ spell parts) × (add_all (given_by line.entry) parts ≡ Some (given_by all))) }
 {
     let Some((word, rest)) = first_word(words) else {
         return Some(line);
     };
-    let Some((found, behind)) = first_part(word, rest) else {
+    let Some((found, behind)) = first_part(verb, word, rest) else {
         return None;
     };
     match with_part(line, found) {
-        Some(more) => gather(behind, more),
+        Some(more) => gather(verb, behind, more),
         None => None,
     }
 }

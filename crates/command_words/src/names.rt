@@ -1,8 +1,17 @@
 // The words of a command line, one by one.
-ghost use Rattle.std.specs.Prelude.{◌↔◌, IsTrue, MatchOption};
-ghost use Rattle.command_words.specs.Names.{IsChoice, IsDropFlag, IsName, IsListName};
+ghost use Rattle.std.specs.Prelude.{◌≡◌, ◌↔◌, IsTrue, bytes_eq};
+ghost use Rattle.command_words.specs.Names.{meaning, verb_words, options_of, target_options, IsName, IsListName};
 
-use text_lines::{is_text, strip_back};
+use text_lines::strip_back;
+
+/// A command, by its own word.
+#[derive(Clone, Copy, Debug, PartialEq, Eq)]
+pub enum Verb {
+    /// `convert`.
+    Convert,
+    /// `frames`.
+    Frames,
+}
 
 /// An option that takes a value.
 #[derive(Clone, Copy, Debug, PartialEq, Eq)]
@@ -15,36 +24,106 @@ pub enum Choice {
     Rate,
     /// The name of the output file.
     Target,
+    /// Which root child is listed, counted from 0.
+    Child,
+    /// The record point that the listing begins at.
+    Start,
+    /// How many record frames are listed.
+    Count,
 }
 
-/// The option of that name.
-pub fn choice_of(word: &str) -> Option<Choice>
-    ensures { MatchOption result ((choice : Choice) → IsChoice choice word.now → ⊥) (λ choice. IsChoice choice word.now) }
+/// An option without a value.
+#[derive(Clone, Copy, Debug, PartialEq, Eq)]
+pub enum Flag {
+    /// Lists are written with drop-frame timecode.
+    Drop,
+}
+
+/// What the name of an option stands for.
+#[derive(Clone, Copy, Debug, PartialEq, Eq)]
+pub enum Named {
+    /// An option that takes a value.
+    Valued(Choice),
+    /// An option without a value.
+    Flagged(Flag),
+}
+
+/// The command of that word.
+pub fn verb_of(word: &str) -> Option<Verb>
+    ensures { result ≡ meaning word.now verb_words }
 {
-    let word = word.as_bytes();
-    if is_text(word, b"--from") {
-        return Some(Choice::From);
+    if is_word(word, "convert") {
+        return Some(Verb::Convert);
     }
-    if is_text(word, b"--to") {
-        return Some(Choice::To);
-    }
-    if is_text(word, b"--rate") {
-        return Some(Choice::Rate);
-    }
-    if is_text(word, b"-o") {
-        return Some(Choice::Target);
-    }
-    if is_text(word, b"--output") {
-        return Some(Choice::Target);
+    if is_word(word, "frames") {
+        return Some(Verb::Frames);
     }
     None
 }
 
-/// Whether the word is the flag that asks for drop-frame timecode.
-pub fn is_drop_flag(word: &str) -> bool
-    ensures { IsTrue result ↔ IsDropFlag word.now }
+/// The option of that name, where it is built for the command.
+pub fn option_of(verb: Verb, word: &str) -> Option<Named>
+    ensures { result ≡ meaning word.now (options_of verb) }
 {
-    is_text(word.as_bytes(), b"--drop")
+    match verb {
+        Verb::Convert => convert_option(word),
+        Verb::Frames => frames_option(word),
+    }
+}
+
+// The option of `convert` of that name.
+fn convert_option(word: &str) -> Option<Named>
+    ensures { result ≡ meaning word.now (options_of Verb.Convert) }
+{
+    if is_word(word, "--from") {
+        return Some(Named::Valued(Choice::From));
+    }
+    if is_word(word, "--to") {
+        return Some(Named::Valued(Choice::To));
+    }
+    if is_word(word, "--rate") {
+        return Some(Named::Valued(Choice::Rate));
+    }
+    if is_word(word, "--drop") {
+        return Some(Named::Flagged(Flag::Drop));
+    }
+    target_option(word)
+}
+
+// The option of `frames` of that name.
+fn frames_option(word: &str) -> Option<Named>
+    ensures { result ≡ meaning word.now (options_of Verb.Frames) }
+{
+    if is_word(word, "--child") {
+        return Some(Named::Valued(Choice::Child));
+    }
+    if is_word(word, "--start") {
+        return Some(Named::Valued(Choice::Start));
+    }
+    if is_word(word, "--count") {
+        return Some(Named::Valued(Choice::Count));
+    }
+    target_option(word)
+}
+
+// The option of each command of that name.
+fn target_option(word: &str) -> Option<Named>
+    ensures { result ≡ meaning word.now target_options }
+{
+    if is_word(word, "-o") {
+        return Some(Named::Valued(Choice::Target));
+    }
+    if is_word(word, "--output") {
+        return Some(Named::Valued(Choice::Target));
+    }
+    None
+}
+
+// Whether a word is this one, byte by byte.
+fn is_word(word: &str, text: &str) -> bool
+    ensures { result ≡ bytes_eq word.now text.now }
+{
+    word == text
 }
 
 /// Whether a word has a byte, and begins with `-` only where that is all of it.

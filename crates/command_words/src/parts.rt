@@ -1,18 +1,18 @@
 // The parts of a command line: options with their values, flags and the file.
 ghost use Rattle.std.specs.Prelude.{◌≡◌, ◌<◌, ◌≤◌, [], ◌∷◌, ℕ, List, length, map, string_bytes, IfSome, MatchOption};
-ghost use Rattle.command_words.specs.Names.{IsChoice};
+ghost use Rattle.command_words.specs.Names.{IsNamed};
 ghost use Rattle.command_words.specs.Parts.{Part, IsPart, spelled};
 ghost use Rattle.command_words.specs.Found.{part_found};
 
-use crate::names::{Choice, choice_of, is_drop_flag, is_name};
+use crate::names::{Choice, Flag, Named, Verb, is_name, option_of};
 
 /// A part of a command line.
 #[derive(Clone, Copy)]
 pub enum Found<'a> {
     /// An option, under one of its names, and its value.
     Valued(Choice, &'a str, &'a str),
-    /// The flag that asks for drop-frame timecode.
-    Drop(&'a str),
+    /// An option without a value, under its name.
+    Flagged(Flag, &'a str),
     /// The file.
     File(&'a str),
 }
@@ -28,37 +28,42 @@ pub fn first_word(words: &[String]) -> Option<(&str, &[String])>
     Some((word.as_str(), rest))
 }
 
-/// The first part of some words, and the words behind it; none where no part stands there.
-pub fn first_part<'a>(word: &'a str, rest: &'a [String]) -> Option<(Found<'a>, &'a [String])>
+/// The first part of some words of a command, and the words behind it; none where no part stands there.
+pub fn first_part<'a>(
+    verb: Verb,
+    word: &'a str,
+    rest: &'a [String],
+) -> Option<(Found<'a>, &'a [String])>
     ensures fewer { IfSome result (λ found. length found.1.now ≤ length rest.now) }
     ensures part { let behind = map (λ w. string_bytes w) rest.now in MatchOption result
-        ((part : Part) (words : List (List ℕ)) → IsPart part → word.now ∷ behind ≡ spelled part words → ⊥)
-        (λ found. IsPart (part_found found.0) × (word.now ∷ behind ≡ spelled (part_found found.0) (map (λ w. string_bytes w) found.1.now))) }
+        ((part : Part) (words : List (List ℕ)) → IsPart verb part → word.now ∷ behind ≡ spelled part words → ⊥)
+        (λ found. IsPart verb (part_found found.0) × (word.now ∷ behind ≡ spelled (part_found found.0) (map (λ w. string_bytes w) found.1.now))) }
 {
-    if let Some(choice) = choice_of(word) {
-        return valued_part(choice, word, rest);
+    match option_of(verb, word) {
+        Some(Named::Valued(choice)) => valued_part(verb, choice, word, rest),
+        Some(Named::Flagged(flag)) => Some((Found::Flagged(flag, word), rest)),
+        None => {
+            if is_name(word) {
+                Some((Found::File(word), rest))
+            } else {
+                None
+            }
+        }
     }
-    if is_drop_flag(word) {
-        return Some((Found::Drop(word), rest));
-    }
-    if is_name(word) {
-        return Some((Found::File(word), rest));
-    }
-    None
 }
 
 // An option, where a value follows it.
-
 fn valued_part<'a>(
+    verb: Verb,
     choice: Choice,
     word: &'a str,
     rest: &'a [String],
 ) -> Option<(Found<'a>, &'a [String])>
-    requires { IsChoice choice word.now }
+    requires { IsNamed verb (Named.Valued choice) word.now }
     ensures fewer { IfSome result (λ found. length found.1.now ≤ length rest.now) }
     ensures part { let behind = map (λ w. string_bytes w) rest.now in MatchOption result
-        ((part : Part) (words : List (List ℕ)) → IsPart part → word.now ∷ behind ≡ spelled part words → ⊥)
-        (λ found. IsPart (part_found found.0) × (word.now ∷ behind ≡ spelled (part_found found.0) (map (λ w. string_bytes w) found.1.now))) }
+        ((part : Part) (words : List (List ℕ)) → IsPart verb part → word.now ∷ behind ≡ spelled part words → ⊥)
+        (λ found. IsPart verb (part_found found.0) × (word.now ∷ behind ≡ spelled (part_found found.0) (map (λ w. string_bytes w) found.1.now))) }
 {
     let Some((value, behind)) = first_word(rest) else {
         return None;

@@ -1,6 +1,7 @@
 //! Command lines and what they ask for.
 
-use crate::{Command, request_of};
+use crate::{Command, FramesAsked, request_of};
+use record_points::RecordPoint;
 use std::alloc::{AllocError, Global};
 use std::test::Fail;
 
@@ -121,6 +122,78 @@ fn lines_ask_for_objects_and_outputs(rt: HostRuntime) -> Result<(), Fail> {
     match request_of(words.as_slice()) {
         Some(request) => assert!(rt; matches!(request.command, Command::ListToList { .. })),
         None => assert!(rt; false),
+    }
+    Ok(())
+}
+
+#[test]
+fn lines_ask_for_frames(rt: HostRuntime) -> Result<(), Fail> {
+    for (line, child, start, count) in [
+        ("frames -", None, None, None),
+        ("frames --child 0 x.otio", Some(0), None, None),
+        ("frames x --count 1000000", None, None, Some(1_000_000)),
+        (
+            "frames --start 86442 --count 1 -o y x",
+            None,
+            Some(RecordPoint::Frame(86_442)),
+            Some(1),
+        ),
+        (
+            "frames --output l.edl x --start 99:00:00;00 --child 999999999999999999",
+            Some(999_999_999_999_999_999),
+            Some(RecordPoint::Label(*b"99:00:00;00")),
+            None,
+        ),
+    ] {
+        let words = words_of(rt.alloc(), line)?;
+        let asked = FramesAsked {
+            child,
+            start,
+            count,
+        };
+        match request_of(words.as_slice()) {
+            Some(request) => {
+                assert_eq!(rt; request.command, Command::Frames(asked), "{line}");
+            }
+            None => assert!(rt; false, "{line}"),
+        }
+    }
+    Ok(())
+}
+
+#[test]
+fn other_lines_ask_for_no_frames(rt: HostRuntime) -> Result<(), Fail> {
+    for line in [
+        "frames",
+        "Frames x",
+        "frames x y",
+        "frames a.edl",
+        "frames -x",
+        "frames --count=1 x",
+        "frames x --count",
+        "frames --child 1 --child 1 x",
+        "frames --child 00 x",
+        "frames --child +1 x",
+        "frames --child -1 x",
+        "frames --child 1000000000000000000 x",
+        "frames --count 0 x",
+        "frames --count 05 x",
+        "frames --count 1000001 x",
+        "frames --start 1:00:00:00 x",
+        "frames --start 01:00:00.00 x",
+        "frames --start 01;00;00;00 x",
+        "frames --start 01 x",
+        "frames --rate 24 x",
+        "frames --media m x",
+        "frames --from otio x",
+        "frames --to json x",
+        "frames --drop x",
+        "convert --child 0 x",
+        "convert --start 0 x",
+        "convert --count 1 x",
+    ] {
+        let words = words_of(rt.alloc(), line)?;
+        assert!(rt; request_of(words.as_slice()).is_none(), "{line}");
     }
     Ok(())
 }

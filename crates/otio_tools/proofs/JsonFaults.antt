@@ -102,7 +102,9 @@ plans_fault name left faults.NoTimecode h = absurd h
 plans_fault name left faults.Events h = absurd h
 plans_fault name left (faults.Day line) h = absurd h
 plans_fault name left (faults.Json fault) h = plans_json name left fault h
-plans_fault name left (faults.Object text) h = absurd h
+plans_fault name left (faults.Reason text) h = absurd h
+plans_fault name left faults.NotTimeline h = absurd h
+plans_fault name left faults.NoLabel h = absurd h
 plans_fault name left faults.Memory h = λ target. tt
 
 fault_at : (name : List ℕ) (hand : Option (List ℕ × List ℕ)) (fault : Fault) → MatchOption hand (Unit {0}) (λ (h : List ℕ × List ℕ). ReadsAs h.1 (Err fault))

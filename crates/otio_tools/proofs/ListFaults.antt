@@ -14,7 +14,8 @@ use Rattle.edl_text.specs.Lists.{IsList, IsEarlyFault, IsFault, most_bytes}
 use Rattle.edl_text.specs.declared.faults.EdlFault.{EdlFault}
 use Rattle.edl_text.specs.declared.faults.EdlFault.TheVariants.{Form, Timecode, Order, Unequal, Key, Split, Overlap, Reverse, Large, Memory}
 use Rattle.command_words.specs.declared.requests.Command.TheVariants.{ListToList}
-use Rattle.otio_tools.specs.Answer.{Answer, AnswersFile, AnswersEvents}
+use Rattle.otio_tools.specs.Forms.{Answer}
+use Rattle.otio_tools.specs.Answer.{AnswersFile, AnswersEvents}
 use Rattle.otio_tools.specs.Whole.{Takes, TakesFrom, TakesAll, EndsFrom, IsLeft}
 use Rattle.otio_tools.specs.Plan.{Plans, PlansEvents, ReadsAsList, IsFaultRead, answer_planned}
 use Rattle.otio_tools.specs.declared.plan.Planned.{Planned}
@@ -109,7 +110,9 @@ plans_fault rate drop name left faults.NoTimecode h = absurd h
 plans_fault rate drop name left faults.Events h = absurd h
 plans_fault rate drop name left (faults.Day line) h = absurd h
 plans_fault rate drop name left (faults.Json fault) h = absurd h
-plans_fault rate drop name left (faults.Object text) h = absurd h
+plans_fault rate drop name left (faults.Reason text) h = absurd h
+plans_fault rate drop name left faults.NotTimeline h = absurd h
+plans_fault rate drop name left faults.NoLabel h = absurd h
 plans_fault rate drop name left faults.Memory h = λ target. tt
 
 fault_at : (rate : Rate) (drop : Bool) (name : List ℕ) (hand : Option (List ℕ × List ℕ)) (fault : Fault)

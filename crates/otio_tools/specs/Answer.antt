@@ -1,14 +1,13 @@
--- The answer to words and files: a status, a target, an output and a message.
+-- The answer to words and files, by the command that the words ask for: lists, JSON texts and objects that are written, and the frames of a timeline.
 use Rattle.std.specs.Prelude.{◌≡◌, ◌≤◌, ◌<◌, ◌⊎◌, ◌||◌, Bool, IsSome, ℕ, List, [], ◌∷◌, Some, None, codes, decimal, length}
 use Rattle.std.specs.declared.option.Option.{Option}
-use Rattle.std.specs.List.{concat}
 use Rattle.json_value.specs.declared.Json.{Json}
 use Rattle.json_text.specs.Grammar.{text_of}
 use Rattle.json_text.specs.Faults.{IsFault}
 use Rattle.json_text.specs.declared.faults.JsonFault.{JsonFault}
 use Rattle.json_text.specs.declared.faults.JsonFault.TheVariants.{Syntax, Utf8, Depth, Large, Memory as JsonMemory}
 use Rattle.json_layout.specs.Layout.{layout}
-use Rattle.otio_model.specs.declared.roots.Object.{Object}
+use Rattle.otio_model.specs.declared.roots.Object.{Object, out-Object}
 use Rattle.schema_up.specs.Upgrades.{upgraded}
 use Rattle.schema_rows.specs.Counts.{count_of}
 use Rattle.schema_rows.specs.Stands.{Stands}
@@ -26,47 +25,10 @@ use Rattle.edl_layout.specs.Labelled.{IsFirstPast}
 use Rattle.edl_layout.specs.Spelling.{spelling}
 use Rattle.command_words.specs.Asked.{Ask, AskNothing}
 use Rattle.command_words.specs.declared.requests.Command.{Command}
-use Rattle.command_words.specs.declared.requests.Command.TheVariants.{ListToList, ToObjects, ToJson}
-use Rattle.otio_tools.specs.declared.Status.{Status}
-use Rattle.otio_tools.specs.declared.Status.TheVariants.{Done, Refused, Usage, Input}
-
--- A status, the file that the output goes to (none: the standard output), the output and the message.
-pub record Answer : Type 0 where
-  pub status : Status
-  pub target : Option (List ℕ)
-  pub output : List ℕ
-  pub message : List ℕ
-
-abbrev pub done : Option (List ℕ) → List ℕ → Answer
-done target output = record { status = Done; target = target; output = output; message = [] }
-
--- a message about a file, in parts
-abbrev pub message_of : List ℕ → List (List ℕ) → List ℕ
-message_of name why = concat (codes "otio: " ∷ name ∷ why)
-
-abbrev pub refused : List ℕ → List (List ℕ) → Answer
-refused name why = record { status = Refused; target = None; output = []; message = message_of name why }
-
-abbrev pub absent : List ℕ → Answer
-absent name = record { status = Input; target = None; output = []; message = message_of name (codes ": absent\n" ∷ []) }
-
-abbrev pub read_failed : List ℕ → List ℕ
-read_failed name = message_of name (codes ": read failed\n" ∷ [])
-
-abbrev pub usage_text : List ℕ
-usage_text = concat (
-    codes "otio: usage\n"
-    ∷ codes "  otio convert [--from F] [--to T] [--rate R] [--drop] [--media LIST] [-o OUT] FILE\n"
-    ∷ codes "  otio cat [--rate R] [--media LIST] [-o OUT] FILE...\n"
-    ∷ codes "  otio stat [--rate R] [--media LIST] [-o OUT] FILE\n"
-    ∷ codes "  otio tool [OPTIONS] [--rate R] [--media LIST] [-o OUT] FILE...\n"
-    ∷ codes "  otio frames [--child K] [--start P] [--count N] [--rate R] [--media LIST] [-o OUT] FILE\n"
-    ∷ codes "  otio edit --script S [--rate R] [--media LIST] [-o OUT] FILE\n"
-    ∷ codes "  otio drill [-o OUT] SEED COUNT\n"
-    ∷ [])
-
-abbrev pub usage : Answer
-usage = record { status = Usage; target = None; output = []; message = usage_text }
+use Rattle.command_words.specs.declared.requests.Command.TheVariants.{ListToList, ToObjects, ToJson, Frames}
+use Rattle.command_words.specs.declared.requests.FramesAsked.{FramesAsked}
+use Rattle.otio_tools.specs.Forms.{Answer, done, refused, absent, usage}
+use Rattle.otio_tools.specs.Frames.{AnswersRoot}
 
 -- how the fault of a list is told
 abbrev pub list_why : EdlFault → List (List ℕ)
@@ -131,18 +93,30 @@ AnswersJson name target bytes answer =
     ((value : Json) × IsJson bytes value × (answer ≡ done target (layout value)))
     ⊎ ((fault : JsonFault) × IsFault fault bytes × (answer ≡ refused name (json_why fault)))
 
--- The answer to a value that is written as an object: the layout of the object that it stands for by the tables of the schemas, in the current schemas and the
--- written order, and else the value's first fault.
-abbrev pub AnswersObject : List ℕ → Option (List ℕ) → Json → Answer → Type 0
-AnswersObject name target value answer =
-    ((object : Object) × Stands value object × (count_of object ≤ 100000) × (answer ≡ done target (layout (json_of object))))
-    ⊎ ((fault : SchemaFault) × IsFirstFault value fault × (answer ≡ refused name (fault_text fault ∷ [])))
+-- the bytes of a file are a text of an object of at most 100 000 items, by the tables of the schemas, with all old names and versions rewritten
+pub record IsObject (bytes : List ℕ) (object : Object) : Type 0 where
+  pub value : Json
+  pub text : IsJson bytes value
+  pub stands : Stands (upgraded value) object
+  pub few : count_of object ≤ 100000
 
--- The answer to a file that is written as an object: that to its value with all old names and versions rewritten, where it is a JSON text, and else its first fault.
+-- The answer to a file that holds no object: the first fault of its text, else that of its value.
+abbrev pub AnswersNoObject : List ℕ → List ℕ → Answer → Type 0
+AnswersNoObject name bytes answer =
+    ((value : Json) × IsJson bytes value × (fault : SchemaFault) × IsFirstFault (upgraded value) fault × (answer ≡ refused name (fault_text fault ∷ [])))
+    ⊎ ((fault : JsonFault) × IsFault fault bytes × (answer ≡ refused name (json_why fault)))
+
+-- The answer to a file that is written as an object: the layout of the object in the current schemas and the written order.
 abbrev pub AnswersObjects : List ℕ → Option (List ℕ) → List ℕ → Answer → Type 0
 AnswersObjects name target bytes answer =
-    ((value : Json) × IsJson bytes value × AnswersObject name target (upgraded value) answer)
-    ⊎ ((fault : JsonFault) × IsFault fault bytes × (answer ≡ refused name (json_why fault)))
+    ((object : Object) × IsObject bytes object × (answer ≡ done target (layout (json_of object))))
+    ⊎ AnswersNoObject name bytes answer
+
+-- The answer to a file whose frames are asked for: that to the object that it holds.
+abbrev pub AnswersFrames : FramesAsked → List ℕ → Option (List ℕ) → List ℕ → Answer → Type 0
+AnswersFrames asked name target bytes answer =
+    ((object : Object) × IsObject bytes object × AnswersRoot asked name target (out-Object object) answer)
+    ⊎ AnswersNoObject name bytes answer
 
 -- the answer to a command on a file, by what the file holds
 abbrev pub AnswersFile : Command → List ℕ → Option (List ℕ) → Option (List ℕ) → Answer → Type 0
@@ -150,6 +124,7 @@ AnswersFile command name target None answer = answer ≡ absent name
 AnswersFile (ListToList rate drop) name target (Some bytes) answer = AnswersList rate drop name target bytes answer
 AnswersFile ToObjects name target (Some bytes) answer = AnswersObjects name target bytes answer
 AnswersFile ToJson name target (Some bytes) answer = AnswersJson name target bytes answer
+AnswersFile (Frames asked) name target (Some bytes) answer = AnswersFrames asked name target bytes answer
 
 -- The answer to the words, where each name holds these bytes: that of the command that they ask for, and usage for all other words.
 pub data Answers (words : List (List ℕ)) (held : List ℕ → Option (List ℕ)) (answer : Answer) : Type 0 where

@@ -1,4 +1,6 @@
 pub mod Status
+pub mod Forms
+pub mod Frames
 pub mod Answer
 pub mod Whole
 pub mod Run

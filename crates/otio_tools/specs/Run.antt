@@ -6,8 +6,11 @@ use Rattle.dev_io.specs.Calls.{Tells, Adds, AddsPrefix}
 use Rattle.dev_io.specs.Causes.{Rose}
 use Rattle.command_words.specs.Asked.{Ask}
 use Rattle.command_words.specs.declared.requests.Command.{Command}
+use Rattle.command_words.specs.declared.requests.Command.TheVariants.{Frames}
+use Rattle.command_words.specs.declared.requests.FramesAsked.{FramesAsked}
 use Rattle.otio_tools.specs.Whole.{ReadFails, ReadsToEnd}
-use Rattle.otio_tools.specs.Answer.{Answer, Answers, read_failed}
+use Rattle.otio_tools.specs.Forms.{Answer, read_failed}
+use Rattle.otio_tools.specs.Answer.{Answers}
 use Rattle.otio_tools.specs.declared.Status.{Status}
 use Rattle.otio_tools.specs.declared.Status.TheVariants.{Done, Usage, Refused, Input, Output, Memory}
 
@@ -62,9 +65,13 @@ aimed (Some name) old = record old { target = Some name }
 abbrev pub Directs : Option (List ℕ) → List ℕ → KnownOut → KnownOut → Type 0
 Directs target bytes old new = Adds bytes (aimed target old) new
 
+-- a prefix of the bytes was sent to the target
+abbrev pub DirectsFront : Option (List ℕ) → List ℕ → KnownOut → KnownOut → Type 0
+DirectsFront target bytes old new = AddsPrefix bytes (aimed target old) new
+
 -- the stream was left as it was, or a prefix of the bytes was sent to the target
 abbrev pub DirectsPrefix : Option (List ℕ) → List ℕ → KnownOut → KnownOut → Type 0
-DirectsPrefix target bytes old new = SendsNothing old new ⊎ AddsPrefix bytes (aimed target old) new
+DirectsPrefix target bytes old new = SendsNothing old new ⊎ DirectsFront target bytes old new
 
 abbrev pub no_memory : List ℕ
 no_memory = codes "otio: no memory\n"
@@ -89,6 +96,21 @@ pub record Stops (words : List (List ℕ)) (held : List ℕ → Option (List ℕ
   pub output : Sends (DirectsPrefix answer.target answer.output) d
   pub message : Message output_failed d
 
+-- the words ask for frames
+pub record AsksFrames (words : List (List ℕ)) : Type 0 where
+  pub asked : FramesAsked
+  pub name : List ℕ
+  pub target : Option (List ℕ)
+  pub ask : Ask words (Frames asked) name target
+
+-- The answer was an output, the rows of frames, and memory ran out over them: a prefix was sent.
+pub record Breaks (words : List (List ℕ)) (held : List ℕ → Option (List ℕ)) (d : Streams) : Type 0 where
+  pub frames : AsksFrames words
+  pub answer : Answer
+  pub owed : Answers words held answer
+  pub status : answer.status ≡ Done
+  pub output : Sends (DirectsFront answer.target answer.output) d
+
 -- Opening or reading the file that the words name failed, and nothing was sent.
 pub record FailsToRead (words : List (List ℕ)) (before now : ℕ) (old new : KnownFiles) (d : Streams) : Type 0 where
   pub command : Command
@@ -111,18 +133,18 @@ Ends words before now d Usage old new = Gives words old.held d Usage
 Ends words before now d Refused old new = Gives words old.held d Refused × (now ≡ before)
 Ends words before now d Input old new = Gives words old.held d Input ⊎ FailsToRead words before now old new d
 Ends words before now d Output old new = Stops words old.held d
-Ends words before now d Memory old new = Sends SendsNothing d × Message no_memory d
+Ends words before now d Memory old new = (Sends SendsNothing d ⊎ Breaks words old.held d) × Message no_memory d
 
 -- Where no count of faults rose, the status is that of the answer, or there was no memory.
 abbrev pub Completes : List (List ℕ) → ℕ → ℕ → Streams → Status → KnownFiles → Type 0
 Completes words before now d result old = (answer : Answer) → Answers words old.held answer → (Rose before now → ⊥) → (OutFailed d → ⊥)
     → (result ≡ answer.status) ⊎ (result ≡ Memory)
 
--- What is known whatever the files tell: under every status but Done and Output nothing is sent.
-abbrev pub KeepsStill : Streams → Status → Type 0
-KeepsStill d Done = Unit {0}
-KeepsStill d Output = OutFailed d
-KeepsStill d Usage = Sends SendsNothing d
-KeepsStill d Refused = Sends SendsNothing d
-KeepsStill d Input = Sends SendsNothing d
-KeepsStill d Memory = Sends SendsNothing d
+-- What is known whatever the files tell: under every status but Done and Output nothing is sent, but where memory runs out over the rows of frames.
+abbrev pub KeepsStill : List (List ℕ) → Streams → Status → Type 0
+KeepsStill words d Done = Unit {0}
+KeepsStill words d Output = OutFailed d
+KeepsStill words d Usage = Sends SendsNothing d
+KeepsStill words d Refused = Sends SendsNothing d
+KeepsStill words d Input = Sends SendsNothing d
+KeepsStill words d Memory = Sends SendsNothing d ⊎ AsksFrames words

@@ -6,12 +6,16 @@ use Rattle.json_text.specs.declared.faults.JsonFault.TheVariants as json
 use Rattle.edl_text.specs.declared.faults.EdlFault.{EdlFault}
 use Rattle.edl_text.specs.declared.faults.EdlFault.TheVariants as edl
 use Rattle.dev_io.specs.Causes.{Rose}
-use Rattle.otio_tools.specs.Answer.{Answer, absent, refused, message_of, read_failed, json_why, list_why, no_timecode_why, events_why, day_why}
-use Rattle.otio_tools.specs.Run.{no_memory}
+use Rattle.otio_tools.specs.Forms.{Answer, absent, refused, message_of, read_failed}
+use Rattle.otio_tools.specs.Frames.{not_timeline_why, no_label_why}
+use Rattle.otio_tools.specs.Answer.{json_why, list_why, no_timecode_why, events_why, day_why}
+use Rattle.otio_tools.specs.Run.{no_memory, output_failed}
 use Rattle.otio_tools.specs.declared.Status.{Status}
 use Rattle.otio_tools.specs.declared.Status.TheVariants as status
+use Rattle.otio_tools.specs.declared.fault.SendFault.{SendFault}
+use Rattle.otio_tools.specs.declared.fault.SendFault.TheVariants.{Sink, Memory as NoMemory}
 use Rattle.otio_tools.specs.declared.fault.Fault.{Fault}
-use Rattle.otio_tools.specs.declared.fault.Fault.TheVariants.{Absent, ReadFailed, List as OfList, NoTimecode, Events, Day, Json as OfJson, Object, Memory}
+use Rattle.otio_tools.specs.declared.fault.Fault.TheVariants.{Absent, ReadFailed, List as OfList, NoTimecode, Events, Day, Json as OfJson, Reason, NotTimeline, NoLabel, Memory}
 
 -- a file that isn't there, a failed read, the reason of a refusal behind the file's name, and want of memory
 pub data Told : Type 0 where
@@ -47,7 +51,9 @@ told NoTimecode = Refusal no_timecode_why
 told Events = Refusal events_why
 told (Day line) = Refusal (day_why line)
 told (OfJson fault) = json_told fault
-told (Object text) = Refusal (string_bytes text ∷ [])
+told (Reason text) = Refusal (string_bytes text ∷ [])
+told NotTimeline = Refusal not_timeline_why
+told NoLabel = Refusal no_label_why
 told Memory = Wanting
 
 -- the answer that a fault stands for; a failed read and want of memory are none
@@ -68,6 +74,14 @@ message_told name Missing = (absent name).message
 message_told name Unread = read_failed name
 message_told name (Refusal why) = message_of name why
 message_told name Wanting = no_memory
+
+abbrev pub status_unsent : SendFault → Status
+status_unsent Sink = status.Output
+status_unsent NoMemory = status.Memory
+
+abbrev pub message_unsent : SendFault → List ℕ
+message_unsent Sink = output_failed
+message_unsent NoMemory = no_memory
 
 -- the count of the files rose where reading failed, and stands otherwise
 abbrev pub RaisedBy : Told → ℕ → ℕ → Type 0

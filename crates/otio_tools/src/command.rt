@@ -1,24 +1,30 @@
 // The top call.
 ghost use Rattle.std.specs.Prelude.{◌≡◌, ◌≢◌, ◌↔◌, ℕ, [], ◌∷◌, List, codes, decimal, map, string_bytes, IfOk, IfSome};
-ghost use Rattle.otio_tools.specs.Answer.{message_of};
+ghost use Rattle.otio_tools.specs.Forms.{message_of};
 ghost use Rattle.dev_io.specs.Calls.{Tells, SendsAll, IsFresh};
 ghost use Rattle.otio_tools.specs.Texts.{text_at};
-ghost use Rattle.dev_io.specs.Causes.{HasCause};
 ghost use Rattle.command_words.specs.Asked.{Ask, AskNothing};
-ghost use Rattle.otio_tools.specs.Run.{Completes, Ends, Says, KeepsStill, no_memory, output_failed, streams};
-ghost use Rattle.otio_tools.specs.Plan.{Carries, Fits, Writes, WritesTo, text_planned};
-ghost use Rattle.otio_tools.specs.Told.{told, list_told, json_told, status_told, message_told};
+ghost use Rattle.otio_tools.specs.Run.{Completes, Ends, Says, KeepsStill, no_memory, streams};
+ghost use Rattle.otio_tools.specs.Plan.{AreRows, CanBeShown, Carries, Fits, HasSendCause, IsFor, IsWritable, Writes, WritesTo, text_planned};
+ghost use Rattle.edl_layout.specs.Spelling.{spelling};
+ghost use Rattle.json_layout.specs.Layout.{layout};
+ghost use Rattle.frame_rows.specs.Rows.{listing_text};
+ghost use Rattle.otio_tools.specs.Told.{told, list_told, json_told, status_told, message_told, status_unsent, message_unsent};
 
 use crate::Status;
-use crate::fault::Fault;
+use crate::fault::{Fault, SendFault};
 use crate::plan::{Planned, plan};
 use crate::say::{say, say_at, say_of};
 use command_words::{Request, request_of};
 use dev_io::{Files, Out, WriteFault};
 use edl_layout::write_list;
+use edl_list::EventList;
 use edl_text::EdlFault;
+use frame_rows::{Listing, RowFault, write_rows};
 use json_layout::write_json;
 use json_text::JsonFault;
+use json_value::Json;
+use otio_model::Timeline;
 use std::alloc::Global;
 
 const USAGE: &[u8] = b"otio: usage
@@ -36,9 +42,16 @@ const USAGE: &[u8] = b"otio: usage
 /// `convert FILE`, where FILE ends with `.edl`, reads a CMX 3600 list, at 24 frames a second or at the rate that `--rate` gives, and with `--to edl` sends
 /// its one spelling, with drop-frame timecode where `--drop` stands or the list has it. For any other FILE, or with `--from otio`, it reads an object of
 /// OpenTimelineIO, old names and versions included, and sends its layout in the current schemas; with `--to json` it sends the layout of the JSON text, and reads no
-/// schema. `-o OUT` aims `out` at that file before anything is sent.
+/// schema.
+///
+/// `frames FILE` reads an object too, and sends a row for each record frame and root child of a sound timeline: the frame's number, the child's index and what it shows. `--child`
+/// asks for one child alone, and where there is none of that index no row is sent. `--start` is the first frame, by its number or by a timecode label at the record rate, else that of the
+/// timeline. `--count` is how many frames, else all up to the end of the longest child, at most 100 000. Refused are an object that is no timeline, a timeline that isn't sound, and then a
+/// label that is none at the record rate.
+///
+/// `-o OUT` aims `out` at that file before anything is sent.
 /// Each status but `Done` sends one message to `err`; where `err` fails, a prefix of it was sent, and the status is the same.
-/// Nothing is sent to `out` before the file is judged. Want of memory alone may come at any time.
+/// Nothing is sent to `out` before the file is judged. Want of memory alone may come at any time: behind a prefix of the rows of `frames`, and else before anything is sent.
 pub fn run<F: Files, W: Out, E: Out>(
     alloc: Global,
     words: &Vec<String>,
@@ -55,9 +68,10 @@ pub fn run<F: Files, W: Out, E: Out>(
     ensures complete { IfSome (F.known files.old) (Completes (map (λ w. string_bytes w) words.now.items) (F.faults files.old) (F.faults files.new)
         (streams W.faults W.known E.faults E.known out.old out.new err.old err.new) result) }
 
-    // Over all files: usage exactly for other words; nothing sent but under Done and Output, which has its cause; no refusal behind a failed call.
+    // Over all files: usage exactly for other words; nothing sent but under Done, under Output, which has its cause, and where memory runs out over frames; no refusal behind a failed
+    // call.
     ensures usage { (result ≡ Status.Usage) ↔ AskNothing (map (λ w. string_bytes w) words.now.items) }
-    ensures still { KeepsStill (streams W.faults W.known E.faults E.known out.old out.new err.old err.new) result }
+    ensures still { KeepsStill (map (λ w. string_bytes w) words.now.items) (streams W.faults W.known E.faults E.known out.old out.new err.old err.new) result }
     ensures calm { result ≡ Status.Refused → F.faults files.new ≡ F.faults files.old }
 {
     match request_of(words.as_slice()) {
@@ -69,7 +83,7 @@ pub fn run<F: Files, W: Out, E: Out>(
     }
 }
 
-// `convert` of the file of that name.
+// Does what is asked for with the file of that name.
 fn convert<F: Files, W: Out, E: Out>(
     alloc: Global,
     request: Request<'_>,
@@ -80,16 +94,18 @@ fn convert<F: Files, W: Out, E: Out>(
     requires { IsFresh (W.known out.old) }
     ensures ends { (words : List (List ℕ)) → Ask words request.entry.command request.entry.name.now (text_at request.entry.target) → Tells (Ends words (F.faults files.old) (F.faults files.new)
         (streams W.faults W.known E.faults E.known out.old out.new err.old err.new) result) (F.known files.old) (F.known files.new) }
-    ensures still { KeepsStill (streams W.faults W.known E.faults E.known out.old out.new err.old err.new) result }
+    ensures still { (words : List (List ℕ)) → Ask words request.entry.command request.entry.name.now (text_at request.entry.target) → KeepsStill words
+        (streams W.faults W.known E.faults E.known out.old out.new err.old err.new) result }
     ensures asked { result ≢ Status.Usage }
     ensures calm { result ≡ Status.Refused → F.faults files.new ≡ F.faults files.old }
 {
     let planned = plan(alloc, request.command, request.name, files);
-    carry_out(request.name, request.target, planned, out, err)
+    carry_out(alloc, request.name, request.target, planned, out, err)
 }
 
 // Sends what is planned, or the message of the fault.
 fn carry_out<W: Out, E: Out>(
+    alloc: Global,
     name: &str,
     target: Option<&str>,
     planned: Result<Planned, Fault>,
@@ -101,57 +117,114 @@ fn carry_out<W: Out, E: Out>(
     ensures { Carries name.now (text_at target.entry) planned (streams W.faults W.known E.faults E.known out.old out.new err.old err.new) result }
 {
     match planned {
-        Ok(planned) => send(target, &planned, out, err),
+        Ok(planned) => send(alloc, target, &planned, out, err),
         Err(fault) => complain(name, fault, err),
     }
 }
 
 // Sends what is planned.
-fn send<W: Out, E: Out>(target: Option<&str>, planned: &Planned, out: &mut W, err: &mut E) -> Status
+fn send<W: Out, E: Out>(
+    alloc: Global,
+    target: Option<&str>,
+    planned: &Planned,
+    out: &mut W,
+    err: &mut E,
+) -> Status
     requires fits { Fits planned.now }
     requires fresh { IsFresh (W.known out.old) }
-    ensures { Writes (text_at target.entry) (text_planned planned.now) (streams W.faults W.known E.faults E.known out.old out.new err.old err.new) result }
+    ensures { Writes (text_at target.entry) planned.now (streams W.faults W.known E.faults E.known out.old out.new err.old err.new) result }
 {
-    match write_to(target, planned, out) {
+    match write_to(alloc, target, planned, out) {
         Ok(()) => Status::Done,
-        Err(_) => {
-            complain_of_output(err);
-            Status::Output
-        }
+        Err(fault) => complain_of_output(fault, err),
     }
 }
 
-// Sends the message of a failed output.
-fn complain_of_output<E: Out>(err: &mut E)
-    ensures { Says (E.faults err.old) (E.faults err.new) (E.known err.old) (E.known err.new) output_failed }
+// Sends the message of an output that isn't whole.
+fn complain_of_output<E: Out>(fault: SendFault, err: &mut E) -> Status
+    ensures status { result ≡ status_unsent fault }
+    ensures message { Says (E.faults err.old) (E.faults err.new) (E.known err.old) (E.known err.new) (message_unsent fault) }
 {
-    say(err, &[b"otio: output failed\n".as_slice()]);
+    match fault {
+        SendFault::Sink => {
+            say(err, &[b"otio: output failed\n".as_slice()]);
+            Status::Output
+        }
+        SendFault::Memory => complain_of_memory(err),
+    }
 }
 
 // Sends what is planned to the target.
-fn write_to<W: Out>(target: Option<&str>, planned: &Planned, out: &mut W) -> Result<(), WriteFault>
+fn write_to<W: Out>(
+    alloc: Global,
+    target: Option<&str>,
+    planned: &Planned,
+    out: &mut W,
+) -> Result<(), SendFault>
     requires fits { Fits planned.now }
     requires fresh { IsFresh (W.known out.old) }
     ensures told { Tells (WritesTo (text_at target.entry) (text_planned planned.now) result) (W.known out.old) (W.known out.new) }
-    ensures cause { HasCause (W.faults out.old) (W.faults out.new) result }
+    ensures cause { HasSendCause (AreRows planned.now) (W.faults out.old) (W.faults out.new) result }
 {
     match target {
-        None => write_planned(planned, out),
+        None => write_planned(alloc, planned, out),
         Some(name) => match out.aim(name) {
-            Ok(()) => write_planned(planned, out),
-            Err(_) => Err(WriteFault::Sink),
+            Ok(()) => write_planned(alloc, planned, out),
+            Err(_) => Err(SendFault::Sink),
         },
     }
 }
 
-fn write_planned<W: Out>(planned: &Planned, out: &mut W) -> Result<(), WriteFault>
+fn write_planned<W: Out>(alloc: Global, planned: &Planned, out: &mut W) -> Result<(), SendFault>
     requires { Fits planned.now }
     ensures told { Tells (SendsAll (text_planned planned.now) result) (W.known out.old) (W.known out.new) }
-    ensures cause { HasCause (W.faults out.old) (W.faults out.new) result }
+    ensures cause { HasSendCause (AreRows planned.now) (W.faults out.old) (W.faults out.new) result }
 {
     match planned {
-        Planned::Events(list, drop) => write_list(list, *drop, out),
-        Planned::Value(value) => write_json(value, out),
+        Planned::Events(list, drop) => write_events(list, *drop, out),
+        Planned::Value(value) => write_value(value, out),
+        Planned::Rows(timeline, listing) => write_frames(alloc, timeline, listing, out),
+    }
+}
+
+// Sends a list.
+fn write_events<W: Out>(list: &EventList, drop: bool, out: &mut W) -> Result<(), SendFault>
+    requires { IsWritable list.now drop }
+    ensures told { Tells (SendsAll (spelling list.now drop) result) (W.known out.old) (W.known out.new) }
+    ensures cause { HasSendCause ⊥ (W.faults out.old) (W.faults out.new) result }
+{
+    match write_list(list, drop, out) {
+        Ok(()) => Ok(()),
+        Err(_) => Err(SendFault::Sink),
+    }
+}
+
+// Sends a value.
+fn write_value<W: Out>(value: &Json, out: &mut W) -> Result<(), SendFault>
+    ensures told { Tells (SendsAll (layout value.now) result) (W.known out.old) (W.known out.new) }
+    ensures cause { HasSendCause ⊥ (W.faults out.old) (W.faults out.new) result }
+{
+    match write_json(value, out) {
+        Ok(()) => Ok(()),
+        Err(_) => Err(SendFault::Sink),
+    }
+}
+
+// Sends rows.
+fn write_frames<W: Out>(
+    alloc: Global,
+    timeline: &Timeline,
+    listing: &Listing,
+    out: &mut W,
+) -> Result<(), SendFault>
+    requires { CanBeShown timeline.now }
+    ensures told { Tells (SendsAll (listing_text timeline.now listing.now) result) (W.known out.old) (W.known out.new) }
+    ensures cause { HasSendCause (Unit {0}) (W.faults out.old) (W.faults out.new) result }
+{
+    match write_rows(alloc, timeline, listing, out) {
+        Ok(()) => Ok(()),
+        Err(RowFault::Sink) => Err(SendFault::Sink),
+        Err(RowFault::Memory) => Err(SendFault::Memory),
     }
 }
 
@@ -180,8 +253,16 @@ fn complain<E: Out>(name: &str, fault: Fault, err: &mut E) -> Status
         }
         Fault::Day(line) => refuse_at(name, b": L10 Day at ", line, err),
         Fault::Json(fault) => complain_of_json(name, fault, err),
-        Fault::Object(text) => {
+        Fault::Reason(text) => {
             say_of(err, name, text.as_bytes());
+            Status::Refused
+        }
+        Fault::NotTimeline => {
+            say_of(err, name, b": G3 NotTimeline\n");
+            Status::Refused
+        }
+        Fault::NoLabel => {
+            say_of(err, name, b": X4 Range\n");
             Status::Refused
         }
         Fault::Memory => complain_of_memory(err),

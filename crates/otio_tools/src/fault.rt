@@ -19,8 +19,21 @@ pub enum Fault {
     Day(u32),
     /// The file is no JSON text.
     Json(JsonFault),
-    /// The file stands for no object, or has too many items; what the message tells behind the name of the file.
-    Object(String),
+    /// The file stands for no object, has too many items, or is no sound timeline; what the message tells behind the name of the file.
+    Reason(String),
+    /// The file is a collection or an item, where a timeline is asked for.
+    NotTimeline,
+    /// The rows start at a label that is none at the record rate.
+    NoLabel,
+    /// No memory was left.
+    Memory,
+}
+
+/// Why not all of the output was sent.
+#[derive(Clone, Copy, Debug, PartialEq, Eq)]
+pub enum SendFault {
+    /// The stream of output failed.
+    Sink,
     /// No memory was left.
     Memory,
 }

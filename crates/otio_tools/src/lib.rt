@@ -2,10 +2,12 @@
 #![tactic(auto)]
 
 ghost use Rattle.std.specs.Prelude.{◌≡◌, ℕ, List, Option};
-ghost use Rattle.otio_tools.specs.Answer.{Answer, Answers};
+ghost use Rattle.otio_tools.specs.Answer.{Answers};
+ghost use Rattle.otio_tools.specs.Forms.{Answer};
 
 mod command;
 mod fault;
+mod frames;
 mod json;
 mod list;
 mod objects;
@@ -57,5 +59,7 @@ impl Status {
     }
 }
 
+#[cfg(test)]
+mod frame_tests;
 #[cfg(test)]
 mod tests;

@@ -5,7 +5,7 @@ ghost use Rattle.smpte_tc.specs.Modes.{mode_of};
 ghost use Rattle.edl_list.specs.Formed.{IsWellFormed};
 ghost use Rattle.edl_text.specs.Reader.{HasRead};
 ghost use Rattle.otio_tools.specs.Whole.{IsLeft, SameFiles, Fails, ReadsOn};
-ghost use Rattle.otio_tools.specs.Plan.{ReadsAsList, Raised, PlansEvents, Fits};
+ghost use Rattle.otio_tools.specs.Plan.{ReadsAsList, Raised, PlansEvents, Fits, AreRows};
 
 use crate::FILE_LIMIT;
 use crate::fault::Fault;
@@ -86,6 +86,7 @@ pub fn list_to_write(list: EventList, asked: bool) -> Result<Planned, Fault>
     requires { IsWellFormed list }
     ensures owed { (name : List ℕ) → PlansEvents name list (asked || list.drop) result }
     ensures fits { IfOk result (λ planned. Fits planned) }
+    ensures kind { IfOk result (λ planned. AreRows planned → ⊥) }
     ensures failed { IsErrOf result Fault.ReadFailed → ⊥ }
     ensures calm { (n : ℕ) → Raised result n n }
 {
@@ -98,6 +99,7 @@ fn write_in_mode(list: EventList, drop: bool) -> Result<Planned, Fault>
     requires { IsWellFormed list }
     ensures owed { (name : List ℕ) → PlansEvents name list drop result }
     ensures fits { IfOk result (λ planned. Fits planned) }
+    ensures kind { IfOk result (λ planned. AreRows planned → ⊥) }
     ensures failed { IsErrOf result Fault.ReadFailed → ⊥ }
     ensures calm { (n : ℕ) → Raised result n n }
 {

@@ -25,7 +25,7 @@ const SOUND_SPELLED: &[u8] = b"FCM: NON-DROP FRAME
 
 const USAGE_LINES: usize = 8;
 
-fn words_of(alloc: Global, line: &str) -> Result<Vec<String>, AllocError> {
+pub fn words_of(alloc: Global, line: &str) -> Result<Vec<String>, AllocError> {
     let mut words = Vec::new(alloc);
     for word in line.split_whitespace() {
         words.push(String::from_str(alloc, word)?)?;

@@ -1,17 +1,18 @@
-use Rattle.otio_tools.proofs.Ending.{carried, carried_still, refused_calm}
+use Rattle.otio_tools.proofs.Ending.{carried, carried_still, never_usage, refused_calm}
 use Rattle.otio_tools.specs.Texts.{text_at}
 use Rattle.otio_tools.proofs.command.convert.Goals as goal
 
 pub returns-clause-ends : goal.returns-clause-ends
 returns-clause-ends g c = λ words asked.
     let plan = c.plan-planned.ensures in
-    carried words c.args.request.command c.args.request.name.now (text_at c.args.request.target) _ _ _ _ _ c.plan-planned.result c.carry_out.result asked plan.owed plan.same plan.end plan.last plan.cause c.carry_out.ensures
+    carried words c.args.request.command c.args.request.name.now (text_at c.args.request.target) _ _ _ _ _ c.plan-planned.result c.carry_out.result asked plan.owed plan.kind plan.same plan.end plan.last plan.cause c.carry_out.ensures
 
 pub returns-clause-still : goal.returns-clause-still
-returns-clause-still g c = (carried_still c.args.request.name.now (text_at c.args.request.target) _ c.plan-planned.result c.carry_out.result c.carry_out.ensures).1
+returns-clause-still g c = λ words asked.
+    carried_still words c.args.request.command c.args.request.name.now (text_at c.args.request.target) _ c.plan-planned.result c.carry_out.result asked c.plan-planned.ensures.kind c.carry_out.ensures
 
 pub returns-clause-asked : goal.returns-clause-asked
-returns-clause-asked g c = (carried_still c.args.request.name.now (text_at c.args.request.target) _ c.plan-planned.result c.carry_out.result c.carry_out.ensures).0
+returns-clause-asked g c = never_usage c.args.request.name.now (text_at c.args.request.target) _ c.plan-planned.result c.carry_out.result c.carry_out.ensures
 
 pub returns-clause-calm : goal.returns-clause-calm
 returns-clause-calm g c = refused_calm c.args.request.name.now (text_at c.args.request.target) _ _ _ c.plan-planned.result c.carry_out.result c.plan-planned.ensures.cause c.carry_out.ensures

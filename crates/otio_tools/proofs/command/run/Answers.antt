@@ -25,6 +25,11 @@ returns-in-Some-clause-complete g c =
     let words = map (λ w. string_bytes w) c.args.words.now.items in
     completes words _ _ _ _ _ c.convert.result (c.convert.ensures.ends words (rw c.as_slice.ensures.value at c.in-Some.ensures))
 
+pub returns-in-Some-clause-still : goal.returns-in-Some-clause-still
+returns-in-Some-clause-still g c =
+    let words = map (λ w. string_bytes w) c.args.words.now.items in
+    c.convert.ensures.still words (rw c.as_slice.ensures.value at c.in-Some.ensures)
+
 pub returns-in-None-clause-complete : goal.returns-in-None-clause-complete
 returns-in-None-clause-complete g c =
     let words = map (λ w. string_bytes w) c.args.words.now.items in

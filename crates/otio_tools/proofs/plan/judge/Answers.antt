@@ -8,3 +8,6 @@ returns-in-ToJson-clause-owed g c = λ name. rw c.in-ToJson.is (c.judge_json.ens
 
 pub returns-in-ToObjects-clause-owed : goal.returns-in-ToObjects-clause-owed
 returns-in-ToObjects-clause-owed g c = λ name. rw c.in-ToObjects.is (c.judge_objects.ensures.owed name)
+
+pub returns-in-Frames-clause-owed : goal.returns-in-Frames-clause-owed
+returns-in-Frames-clause-owed g c = λ name. rw c.in-Frames.is (c.judge_frames.ensures.owed name)

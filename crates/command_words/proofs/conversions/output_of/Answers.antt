@@ -1,7 +1,7 @@
 use Rattle.std.proofs.Common.{List, ℕ}
 use Rattle.std.specs.Option.{option_map}
 use denote.Ref.{Bor}
-use Rattle.command_words.proofs.requests.output_of.Goals as goal
+use Rattle.command_words.proofs.conversions.output_of.Goals as goal
 
 abbrev now : Bor (List ℕ) → List ℕ
 now s = s.now

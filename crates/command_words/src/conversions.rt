@@ -1,0 +1,150 @@
+// What a command line of `convert` asks for.
+ghost use Rattle.std.specs.Prelude.{◌≡◌, ℕ, Bool, List, Option, Some, None, MatchOption};
+ghost use Rattle.std.specs.Option.{option_map};
+ghost use Rattle.command_words.specs.Asked.{IsConversion, IsAskedOf, IsInput, IsOutput};
+ghost use Rattle.command_words.specs.Gathered.{given_by};
+
+use crate::lines::Line;
+use crate::names::is_list_name;
+use crate::rates::rate_asked;
+use crate::requests::{Command, Request};
+use text_lines::is_text;
+use tick_time::Rate;
+
+/// What a file is read as, or what is written.
+#[derive(Clone, Copy, Debug, PartialEq, Eq)]
+pub enum Form {
+    /// An object of OpenTimelineIO.
+    Objects,
+    /// A CMX 3600 list.
+    List,
+    /// A JSON text.
+    Json,
+}
+
+/// What the options and the file of `convert` ask for.
+pub fn conversion_of<'a>(line: &Line<'a>) -> Option<Request<'a>>
+    ensures { let given = given_by line.now in MatchOption result
+        ((command : Command) (name : List ℕ) (target : Option (List ℕ)) → IsConversion command name target given → ⊥)
+        (λ request. IsConversion request.command request.name.now (option_map (λ s. s.now) request.target) given) }
+{
+    let Some(name) = line.file else {
+        return None;
+    };
+    let Some(input) = input_of(line.from, name) else {
+        return None;
+    };
+    let Some(output) = output_of(line.to, line.target) else {
+        return None;
+    };
+    let Some(rate) = rate_asked(line.rate) else {
+        return None;
+    };
+    match command_in(input, output, rate, line.drop) {
+        Some(command) => Some(Request {
+            command,
+            name,
+            target: line.target,
+        }),
+        None => None,
+    }
+}
+
+// What the file is read as.
+fn input_of(from: Option<&str>, name: &str) -> Option<Form>
+    ensures { let asked = option_map (λ s. s.now) from.entry in MatchOption result
+        ((form : Form) → IsInput asked name.now form → ⊥)
+        (λ form. IsInput asked name.now form) }
+{
+    match from {
+        Some(word) => {
+            if is_text(word.as_bytes(), b"otio") {
+                Some(Form::Objects)
+            } else {
+                None
+            }
+        }
+        None => Some(form_of_name(name)),
+    }
+}
+
+// What a file of that name is where nothing else says so.
+fn form_of_name(name: &str) -> Form
+    ensures { IsInput None name.now result }
+{
+    if is_list_name(name) {
+        Form::List
+    } else {
+        Form::Objects
+    }
+}
+
+// What is written.
+fn output_of(to: Option<&str>, target: Option<&str>) -> Option<Form>
+    ensures { let asked = option_map (λ s. s.now) to.entry in let named = option_map (λ s. s.now) target.entry in MatchOption result
+        ((form : Form) → IsOutput asked named form → ⊥)
+        (λ form. IsOutput asked named form) }
+{
+    match to {
+        Some(word) => form_of_word(word),
+        None => Some(default_output(target)),
+    }
+}
+
+// What a word asks to be written.
+fn form_of_word(word: &str) -> Option<Form>
+    ensures { (target : Option (List ℕ)) → MatchOption result
+        ((form : Form) → IsOutput (Some word.now) target form → ⊥)
+        (λ form. IsOutput (Some word.now) target form) }
+{
+    let word = word.as_bytes();
+    if is_text(word, b"otio") {
+        return Some(Form::Objects);
+    }
+    if is_text(word, b"edl") {
+        return Some(Form::List);
+    }
+    if is_text(word, b"json") {
+        return Some(Form::Json);
+    }
+    None
+}
+
+// What is written into a file of that name, or to the standard output, where no option says so.
+fn default_output(target: Option<&str>) -> Form
+    ensures { IsOutput None (option_map (λ s. s.now) target.entry) result }
+{
+    match target {
+        Some(name) => form_of_name(name),
+        None => Form::Objects,
+    }
+}
+
+// The command by what is read and what is written.
+fn command_in(input: Form, output: Form, rate: Rate, drop: bool) -> Option<Command>
+    ensures { MatchOption result
+        ((command : Command) → IsAskedOf command input output rate drop → ⊥)
+        (λ command. IsAskedOf command input output rate drop) }
+{
+    match input {
+        Form::Objects => object_command(output),
+        Form::List => match output {
+            Form::List => Some(Command::ListToList { rate, drop }),
+            _ => None,
+        },
+        Form::Json => None,
+    }
+}
+
+// The command for objects.
+fn object_command(output: Form) -> Option<Command>
+    ensures { (rate : Rate) (drop : Bool) → MatchOption result
+        ((command : Command) → IsAskedOf command Form.Objects output rate drop → ⊥)
+        (λ command. IsAskedOf command Form.Objects output rate drop) }
+{
+    match output {
+        Form::Objects => Some(Command::ToObjects),
+        Form::Json => Some(Command::ToJson),
+        Form::List => None,
+    }
+}
