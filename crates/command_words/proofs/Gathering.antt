@@ -23,27 +23,32 @@ use Rattle.command_words.proofs.Spelling.{heads, parts_once}
 use Rattle.command_words.proofs.SameRates.{rate_once}
 
 -- where no part begins the words, they spell none
-pub no_parts : (verb : Verb) (word : List ℕ) (behind : List (List ℕ)) → ((p : Part) (ws : List (List ℕ)) → IsPart verb p → word ∷ behind ≡ spelled p ws → ⊥)
+pub no_parts : (verb : Verb) (word : List ℕ) (behind : List (List ℕ))
+    → ((p : Part) (ws : List (List ℕ)) → IsPart verb p → word ∷ behind ≡ spelled p ws → ⊥)
     → (parts : List Part) → AreParts verb parts → word ∷ behind ≡ spell parts → ⊥
 no_parts verb word behind h [] a e = cc
 no_parts verb word behind h (p ∷ ps) a e = h p (spell ps) a.0 e
 
 -- the parts begin with this one, and the rest spells the others
-pub record Follows (verb : Verb) (found : Part) (rest : List (List ℕ)) (parts : List Part) : Type 0 where
+pub record Follows (verb : Verb) (found : Part) (rest : List (List ℕ))
+    (parts : List Part) : Type 0 where
   pub more : List Part
   pub are : parts ≡ found ∷ more
   pub are_parts : AreParts verb more
   pub spelled_by : rest ≡ spell more
 
-pub follow : (verb : Verb) (found : Part) (word : List ℕ) (behind rest : List (List ℕ)) → IsPart verb found → word ∷ behind ≡ spelled found rest
-    → (parts : List Part) → AreParts verb parts → word ∷ behind ≡ spell parts → Follows verb found rest parts
+pub follow : (verb : Verb) (found : Part) (word : List ℕ) (behind rest : List (List ℕ))
+    → IsPart verb found → word ∷ behind ≡ spelled found rest
+    → (parts : List Part) → AreParts verb parts → word ∷ behind ≡ spell parts
+    → Follows verb found rest parts
 follow verb found word behind rest is e [] a f = absurd (let g = f in cc)
 follow verb found word behind rest is e (p ∷ ps) a f =
     let h = heads verb found p rest (spell ps) is a.0 (sym e ∙ f) in
     record { more = ps; are = ap (λ q. q ∷ ps) (sym h.0); are_parts = a.1; spelled_by = h.1 }
 
 -- what is given with the first part, and then with the others
-pub add_first : (g h : Given) (p : Part) (ps : List Part) → add g p ≡ Some h → add_all g (p ∷ ps) ≡ add_all h ps
+pub add_first : (g h : Given) (p : Part) (ps : List Part) → add g p ≡ Some h
+    → add_all g (p ∷ ps) ≡ add_all h ps
 add_first g h p ps e = ap (option_and_then (λ k. add_all k ps)) e
 
 pub add_twice : (g : Given) (p : Part) (ps : List Part) → add g p ≡ None → add_all g (p ∷ ps) ≡ None
@@ -51,7 +56,8 @@ add_twice g p ps e = ap (option_and_then (λ k. add_all k ps)) e
 
 -- where the first part is given twice, nothing is gathered
 pub twice : (verb : Verb) (found : Part) (rest : List (List ℕ)) (g : Given) → add g found ≡ None
-    → (parts : List Part) → Follows verb found rest parts → (given : Given) → add_all g parts ≡ Some given → ⊥
+    → (parts : List Part) → Follows verb found rest parts → (given : Given)
+    → add_all g parts ≡ Some given → ⊥
 twice verb found rest g none parts f given e =
     let k = ap (add_all g) f.are ∙ add_twice g found f.more none in
     let bad : None ≡ Some given = sym k ∙ e in cc
@@ -59,14 +65,18 @@ twice verb found rest g none parts f given e =
 -- what is gathered of some words
 abbrev pub Gathers : Verb → List (List ℕ) → Given → Option Line → Type 0
 Gathers verb words g result = MatchOption result
-    ((parts : List Part) (given : Given) → AreParts verb parts → words ≡ spell parts → add_all g parts ≡ Some given → ⊥)
-    (λ all. (parts : List Part) × AreParts verb parts × (words ≡ spell parts) × (add_all g parts ≡ Some (given_by all)))
+    ((parts : List Part) (given : Given) → AreParts verb parts → words ≡ spell parts
+    → add_all g parts ≡ Some given → ⊥)
+    (λ all. (parts : List Part) × AreParts verb parts × (words ≡ spell parts)
+    × (add_all g parts ≡ Some (given_by all)))
 
-pub gathers_more : (verb : Verb) (found : Part) (word : List ℕ) (behind rest : List (List ℕ)) (g h : Given) (result : Option Line) → IsPart verb found → word ∷ behind ≡ spelled found rest
+pub gathers_more : (verb : Verb) (found : Part) (word : List ℕ) (behind rest : List (List ℕ))
+    (g h : Given) (result : Option Line) → IsPart verb found → word ∷ behind ≡ spelled found rest
     → add g found ≡ Some h → Gathers verb rest h result → Gathers verb (word ∷ behind) g result
 gathers_more verb found word behind rest g h None is e a m = λ parts given are f all.
     let k = follow verb found word behind rest is e parts are f in
-    m k.more given k.are_parts k.spelled_by (sym (add_first g h found k.more a) ∙ ap (add_all g) (sym k.are) ∙ all)
+    m k.more given k.are_parts k.spelled_by (sym (add_first g h found k.more a)
+    ∙ ap (add_all g) (sym k.are) ∙ all)
 gathers_more verb found word behind rest g h (Some line) is e a m = (
   found ∷ m.0,
   (is, m.1),
@@ -84,7 +94,8 @@ list_not name form.List form.Json p q = absurd q
 list_not name form.Json g p q = absurd p
 
 -- a file is read as at most one form
-pub input_once : (from : Option (List ℕ)) (name : List ℕ) (f g : Form) → IsInput from name f → IsInput from name g → f ≡ g
+pub input_once : (from : Option (List ℕ)) (name : List ℕ) (f g : Form) → IsInput from name f
+    → IsInput from name g → f ≡ g
 input_once None name f g p q = list_not name f g p q
 input_once (Some word) name form.Objects form.Objects p q = refl
 input_once (Some word) name form.Objects form.List p q = absurd q
@@ -92,7 +103,8 @@ input_once (Some word) name form.Objects form.Json p q = absurd q
 input_once (Some word) name form.List g p q = absurd p
 input_once (Some word) name form.Json g p q = absurd p
 
-default_once : (target : Option (List ℕ)) (f g : Form) → IsDefault target f → IsDefault target g → f ≡ g
+default_once : (target : Option (List ℕ)) (f g : Form) → IsDefault target f → IsDefault target g
+    → f ≡ g
 default_once None form.Objects form.Objects p q = refl
 default_once None form.Objects form.List p q = absurd q
 default_once None form.Objects form.Json p q = absurd q
@@ -110,7 +122,8 @@ default_once (Some t) form.Json g p q = absurd p
 abbrev first : List ℕ → ℕ
 first word = get_or word 0 0
 
-word_once : (word : List ℕ) (target : Option (List ℕ)) (f g : Form) → IsOutput (Some word) target f → IsOutput (Some word) target g → f ≡ g
+word_once : (word : List ℕ) (target : Option (List ℕ)) (f g : Form) → IsOutput (Some word) target f
+    → IsOutput (Some word) target g → f ≡ g
 word_once word target form.Objects form.Objects p q = refl
 word_once word target form.Objects form.List p q = absurd (omega (arith, ap first p, ap first q))
 word_once word target form.Objects form.Json p q = absurd (omega (arith, ap first p, ap first q))
@@ -122,28 +135,36 @@ word_once word target form.Json form.List p q = absurd (omega (arith, ap first p
 word_once word target form.Json form.Json p q = refl
 
 -- at most one form is written
-pub output_once : (to target : Option (List ℕ)) (f g : Form) → IsOutput to target f → IsOutput to target g → f ≡ g
+pub output_once : (to target : Option (List ℕ)) (f g : Form) → IsOutput to target f
+    → IsOutput to target g → f ≡ g
 output_once None target f g p q = default_once target f g p q
 output_once (Some word) target f g p q = word_once word target f g p q
 
 -- what is asked with these values
-pub asked_with : (command : Command) (called name : List ℕ) (target : Option (List ℕ)) (input output : Form) (rate : Rate) (given : Given) → given.file ≡ Some name
+pub asked_with : (command : Command) (called name : List ℕ) (target : Option (List ℕ))
+    (input output : Form) (rate : Rate) (given : Given) → given.file ≡ Some name
     → IsInput given.from name input → IsOutput given.to given.target output → IsRate given.rate rate
-    → IsConversion command called target given → IsAskedOf command input output rate given.drop × (called ≡ name) × (target ≡ given.target)
+    → IsConversion command called target given
+    → IsAskedOf command input output rate given.drop × (called ≡ name) × (target ≡ given.target)
 asked_with command called name target input output rate given file reads writes is a =
     let same : called ≡ name = let e = sym a.file ∙ file in cc in
-    let read : a.input ≡ input = input_once given.from name a.input input (subst (λ n. IsInput given.from n a.input) same a.reads) reads in
-    let wrote : a.output ≡ output = output_once given.to given.target a.output output a.writes writes in
+    let read : a.input ≡ input = input_once given.from name a.input input
+    (subst (λ n. IsInput given.from n a.input) same a.reads) reads in
+    let wrote : a.output ≡ output =
+    output_once given.to given.target a.output output a.writes writes in
     let once = rate_once given.rate a.rate rate a.is_rate is in (
-      subst (λ i. IsAskedOf command i output rate given.drop) read (subst (λ o. IsAskedOf command a.input o rate given.drop) wrote
+      subst (λ i. IsAskedOf command i output rate given.drop) read
+          (subst (λ o. IsAskedOf command a.input o rate given.drop) wrote
           (subst (λ r. IsAskedOf command a.input a.output r given.drop) once a.means)),
       same,
       sym a.target_is,
     )
 
 -- words ask for what their parts ask for
-pub asks : (verb : Verb) (words rest : List (List ℕ)) (given : Given) (parts : List Part) (command : Command) (name : List ℕ) (target : Option (List ℕ)) → words ≡ word_of verb ∷ rest
-    → AreParts verb parts → rest ≡ spell parts → add_all nothing_given parts ≡ Some given → IsAskedBy verb command name target given → Ask words command name target
+pub asks : (verb : Verb) (words rest : List (List ℕ)) (given : Given) (parts : List Part)
+    (command : Command) (name : List ℕ) (target : Option (List ℕ)) → words ≡ word_of verb ∷ rest
+    → AreParts verb parts → rest ≡ spell parts → add_all nothing_given parts ≡ Some given
+    → IsAskedBy verb command name target given → Ask words command name target
 asks verb words rest given parts command name target w a s e is = record {
   verb = verb;
   parts = parts;
@@ -155,9 +176,12 @@ asks verb words rest given parts command name target w a s e is = record {
 }
 
 -- words that begin with the word of a command ask for that command, by one list of parts
-same_line : (words rest : List (List ℕ)) (verb : Verb) (parts : List Part) (g : Given) (other : Verb) (found : List Part) (given : Given) → other ≡ verb
-    → words ≡ word_of verb ∷ rest → AreParts verb parts → rest ≡ spell parts → add_all nothing_given parts ≡ Some g
-    → words ≡ word_of other ∷ spell found → AreParts other found → add_all nothing_given found ≡ Some given → given ≡ g
+same_line : (words rest : List (List ℕ)) (verb : Verb) (parts : List Part) (g : Given)
+    (other : Verb) (found : List Part) (given : Given) → other ≡ verb
+    → words ≡ word_of verb ∷ rest → AreParts verb parts → rest ≡ spell parts
+    → add_all nothing_given parts ≡ Some g
+    → words ≡ word_of other ∷ spell found → AreParts other found
+    → add_all nothing_given found ≡ Some given → given ≡ g
 same_line words rest verb parts g other found given same w a s e v b f =
     let k = sym v ∙ w in
     let spells : spell found ≡ rest = cc in
@@ -173,17 +197,28 @@ target_of request = option_map (λ s. s.now) request.target
 
 -- what the options and the file of a line ask for
 abbrev pub AsksOf : Verb → Given → Option Request → Type 0
-AsksOf verb given result = MatchOption result ((command : Command) (name : List ℕ) (target : Option (List ℕ)) → IsAskedBy verb command name target given → ⊥)
+AsksOf verb given result = MatchOption result
+    ((command : Command) (name : List ℕ) (target : Option (List ℕ))
+    → IsAskedBy verb command name target given → ⊥)
     (λ request. IsAskedBy verb request.command request.name.now (target_of request) given)
 
 -- the request of a line is what the words ask for
-pub request_asks : (verb : Verb) (words rest : List (List ℕ)) (parts : List Part) (g : Given) (result : Option Request) → words ≡ word_of verb ∷ rest → AreParts verb parts
-    → rest ≡ spell parts → add_all nothing_given parts ≡ Some g → AsksOf verb g result → MatchOption result (AskNothing words) (λ request. Ask words request.command request.name.now (target_of request))
+pub request_asks : (verb : Verb) (words rest : List (List ℕ)) (parts : List Part) (g : Given)
+    (result : Option Request) → words ≡ word_of verb ∷ rest → AreParts verb parts
+    → rest ≡ spell parts → add_all nothing_given parts ≡ Some g → AsksOf verb g result
+    → MatchOption result (AskNothing words)
+    (λ request. Ask words request.command request.name.now (target_of request))
 request_asks verb words rest parts g None w a s e m = λ command name target ask.
-    let same = verb_once ask.verb verb (first_words (word_of ask.verb) (word_of verb) (spell ask.parts) rest (sym ask.words_are ∙ w)) in
-    let given = same_line words rest verb parts g ask.verb ask.parts ask.given same w a s e ask.words_are ask.are_parts ask.gathered in
-    m command name target (subst (λ v. IsAskedBy v command name target g) same (subst (IsAskedBy ask.verb command name target) given ask.asked))
-request_asks verb words rest parts g (Some request) w a s e m = asks verb words rest g parts request.command request.name.now (target_of request) w a s e m
+    let same = verb_once ask.verb verb
+    (first_words (word_of ask.verb) (word_of verb) (spell ask.parts) rest (sym ask.words_are
+    ∙ w)) in
+    let given =
+    same_line words rest verb parts g ask.verb ask.parts ask.given same w a s e ask.words_are
+    ask.are_parts ask.gathered in
+    m command name target (subst (λ v. IsAskedBy v command name target g) same
+    (subst (IsAskedBy ask.verb command name target) given ask.asked))
+request_asks verb words rest parts g (Some request) w a s e m =
+    asks verb words rest g parts request.command request.name.now (target_of request) w a s e m
 
 -- the command for what is read and what is written
 abbrev asked_for : Form → Form → Rate → Bool → Option Command
@@ -192,7 +227,8 @@ asked_for form.Objects form.Objects rate drop = Some ToObjects
 asked_for form.Objects form.Json rate drop = Some ToJson
 asked_for input output rate drop = None
 
-asked_is : (command : Command) (input output : Form) (rate : Rate) (drop : Bool) → IsAskedOf command input output rate drop → asked_for input output rate drop ≡ Some command
+asked_is : (command : Command) (input output : Form) (rate : Rate) (drop : Bool)
+    → IsAskedOf command input output rate drop → asked_for input output rate drop ≡ Some command
 asked_is (ListToList r f) form.Objects output rate drop p = absurd p
 asked_is (ListToList r f) form.List form.Objects rate drop p = absurd p
 asked_is (ListToList r f) form.List form.List rate drop p = let e = p.0 in let h = p.1 in cc
@@ -211,16 +247,25 @@ asked_is ToJson form.Json output rate drop p = absurd p
 asked_is (Frames asked) input output rate drop p = absurd p
 
 -- one file, one output and one rate make at most one command
-asked_once : (c d : Command) (input output : Form) (rate : Rate) (drop : Bool) → IsAskedOf c input output rate drop → IsAskedOf d input output rate drop → c ≡ d
-asked_once c d input output rate drop p q = let e : Some c ≡ Some d = sym (asked_is c input output rate drop p) ∙ asked_is d input output rate drop q in cc
+asked_once : (c d : Command) (input output : Form) (rate : Rate) (drop : Bool)
+    → IsAskedOf c input output rate drop → IsAskedOf d input output rate drop → c ≡ d
+asked_once c d input output rate drop p q = let e : Some c ≡ Some d =
+    sym (asked_is c input output rate drop p) ∙ asked_is d input output rate drop q in cc
 
-convert_once : (c d : Command) (a b : List ℕ) (s t : Option (List ℕ)) (given : Given) → IsConversion c a s given → IsConversion d b t given → (c ≡ d) × (a ≡ b) × (s ≡ t)
+convert_once : (c d : Command) (a b : List ℕ) (s t : Option (List ℕ)) (given : Given)
+    → IsConversion c a s given → IsConversion d b t given → (c ≡ d) × (a ≡ b) × (s ≡ t)
 convert_once c d a b s t given p q =
-    let h = asked_with d b a t p.input p.output p.rate given p.file p.reads p.writes p.is_rate q in
-    (asked_once c d p.input p.output p.rate given.drop p.means h.0, sym h.1, sym p.target_is ∙ sym h.2)
+    let h = asked_with d b a t p.input p.output p.rate given p.file p.reads p.writes p.is_rate q in (
+      asked_once c d p.input p.output p.rate given.drop p.means h.0,
+      sym h.1,
+      sym p.target_is
+          ∙ sym h.2,
+    )
 
 -- an option asks for at most one value
-value_once : {A : Type 0} (Is : List ℕ → A → Type 0) → ((word : List ℕ) (x y : A) → Is word x → Is word y → x ≡ y) → (given : Option (List ℕ)) (x y : Option A) → IsValue Is given x
+value_once : {A : Type 0} (Is : List ℕ → A → Type 0)
+    → ((word : List ℕ) (x y : A) → Is word x → Is word y → x ≡ y)
+    → (given : Option (List ℕ)) (x y : Option A) → IsValue Is given x
     → IsValue Is given y → x ≡ y
 value_once Is once None None None p q = refl
 value_once Is once None None (Some y) p q = absurd q
@@ -233,8 +278,10 @@ pub count_once : (word : List ℕ) (m n : ℕ) → IsCount word m → IsCount wo
 count_once word m n p q = number_once word m n p.0 q.0
 
 -- a number beyond the limits of a count is none
-pub no_count : (word : List ℕ) (n : ℕ) → IsWholeNumber word n → ((1 ≤ n) × (n ≤ 1000000) → ⊥) → (m : ℕ) → IsCount word m → ⊥
-no_count word n w past m count = let same = number_once word m n count.0 w in past (omega (arith, count.1), omega (arith, count.2))
+pub no_count : (word : List ℕ) (n : ℕ) → IsWholeNumber word n → ((1 ≤ n) × (n ≤ 1000000) → ⊥)
+    → (m : ℕ) → IsCount word m → ⊥
+no_count word n w past m count = let same =
+    number_once word m n count.0 w in past (omega (arith, count.1), omega (arith, count.2))
 
 frames_of : Option ℕ → Option RecordPoint → Option ℕ → FramesAsked
 frames_of child start count = record { child = child; start = start; count = count }
@@ -246,21 +293,31 @@ listing_once given a b p q =
     let child = value_once IsWholeNumber number_once given.child a.child b.child p.child q.child in
     let start = value_once IsPoint point_once given.start a.start b.start p.start q.start in
     let count = value_once IsCount count_once given.count a.count b.count p.count q.count in
-    ap (λ x. frames_of x a.start a.count) child ∙ ap (λ x. frames_of b.child x a.count) start ∙ ap (frames_of b.child b.start) count
+    ap (λ x. frames_of x a.start a.count) child ∙ ap (λ x. frames_of b.child x a.count) start
+    ∙ ap (frames_of b.child b.start) count
 
-frames_once : (c d : Command) (a b : List ℕ) (s t : Option (List ℕ)) (given : Given) → IsFrameList c a s given → IsFrameList d b t given → (c ≡ d) × (a ≡ b) × (s ≡ t)
+frames_once : (c d : Command) (a b : List ℕ) (s t : Option (List ℕ)) (given : Given)
+    → IsFrameList c a s given → IsFrameList d b t given → (c ≡ d) × (a ≡ b) × (s ≡ t)
 frames_once c d a b s t given p q =
     let file : Some a ≡ Some b = sym p.file ∙ q.file in
     let asked = listing_once given p.asked q.asked p.are q.are in
     (p.means ∙ ap Frames asked ∙ sym q.means, cc, sym p.target_is ∙ q.target_is)
 
-by_once : (verb : Verb) (c d : Command) (a b : List ℕ) (s t : Option (List ℕ)) (given : Given) → IsAskedBy verb c a s given → IsAskedBy verb d b t given → (c ≡ d) × (a ≡ b) × (s ≡ t)
+by_once : (verb : Verb) (c d : Command) (a b : List ℕ) (s t : Option (List ℕ)) (given : Given)
+    → IsAskedBy verb c a s given → IsAskedBy verb d b t given → (c ≡ d) × (a ≡ b) × (s ≡ t)
 by_once verbs.Convert c d a b s t given p q = convert_once c d a b s t given p q
 by_once verbs.Frames c d a b s t given p q = frames_once c d a b s t given p q
 
 -- words ask for at most one command on at most one file
-pub ask_once : (words : List (List ℕ)) (c d : Command) (a b : List ℕ) (s t : Option (List ℕ)) → Ask words c a s → Ask words d b t → (c ≡ d) × (a ≡ b) × (s ≡ t)
+pub ask_once : (words : List (List ℕ)) (c d : Command) (a b : List ℕ) (s t : Option (List ℕ))
+    → Ask words c a s → Ask words d b t → (c ≡ d) × (a ≡ b) × (s ≡ t)
 ask_once words c d a b s t p q =
-    let same = verb_once p.verb q.verb (first_words (word_of p.verb) (word_of q.verb) (spell p.parts) (spell q.parts) (sym p.words_are ∙ q.words_are)) in
-    let given = same_line words (spell q.parts) q.verb q.parts q.given p.verb p.parts p.given same q.words_are q.are_parts refl q.gathered p.words_are p.are_parts p.gathered in
-    by_once q.verb c d a b s t q.given (subst (λ v. IsAskedBy v c a s q.given) same (subst (IsAskedBy p.verb c a s) given p.asked)) q.asked
+    let same = verb_once p.verb q.verb
+    (first_words (word_of p.verb) (word_of q.verb) (spell p.parts) (spell q.parts)
+    (sym p.words_are ∙ q.words_are)) in
+    let given =
+    same_line words (spell q.parts) q.verb q.parts q.given p.verb p.parts p.given same
+    q.words_are q.are_parts refl q.gathered p.words_are p.are_parts p.gathered in
+    by_once q.verb c d a b s t q.given
+    (subst (λ v. IsAskedBy v c a s q.given) same (subst (IsAskedBy p.verb c a s) given p.asked))
+    q.asked

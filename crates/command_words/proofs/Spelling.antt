@@ -7,23 +7,36 @@ use Rattle.command_words.specs.declared.names.Named.TheVariants as named
 use Rattle.command_words.proofs.Naming.{option_no_name, named_once}
 
 -- words begin with at most one part
-pub heads : (verb : Verb) (p q : Part) (ws vs : List (List ℕ)) → IsPart verb p → IsPart verb q → spelled p ws ≡ spelled q vs → (p ≡ q) × (ws ≡ vs)
+pub heads : (verb : Verb) (p q : Part) (ws vs : List (List ℕ)) → IsPart verb p → IsPart verb q
+    → spelled p ws ≡ spelled q vs → (p ≡ q) × (ws ≡ vs)
 heads verb (Valued c n v) (Valued d m u) ws vs p q e =
     let same : n ≡ m = cc in
-    let k = named_once verb (named.Valued c) (named.Valued d) m (subst (IsNamed verb (named.Valued c)) same p.0) q.0 in (cc, cc)
+    let k = named_once verb (named.Valued c) (named.Valued d) m
+    (subst (IsNamed verb (named.Valued c)) same p.0) q.0 in (cc, cc)
 heads verb (Valued c n v) (Flagged f m) ws vs p q e =
     let same : n ≡ m = cc in
-    let k = named_once verb (named.Valued c) (named.Flagged f) m (subst (IsNamed verb (named.Valued c)) same p.0) q in cc
-heads verb (Valued c n v) (File m) ws vs p q e = let same : n ≡ m = cc in absurd (option_no_name verb (named.Valued c) m (subst (IsNamed verb (named.Valued c)) same p.0) q)
+    let k = named_once verb (named.Valued c) (named.Flagged f) m
+    (subst (IsNamed verb (named.Valued c)) same p.0) q in cc
+heads verb (Valued c n v) (File m) ws vs p q e = let same : n ≡ m =
+    cc in absurd (option_no_name verb (named.Valued c) m
+    (subst (IsNamed verb (named.Valued c)) same p.0) q)
 heads verb (Flagged f n) (Valued d m u) ws vs p q e =
     let same : n ≡ m = cc in
-    let k = named_once verb (named.Flagged f) (named.Valued d) m (subst (IsNamed verb (named.Flagged f)) same p) q.0 in cc
+    let k = named_once verb (named.Flagged f) (named.Valued d) m
+    (subst (IsNamed verb (named.Flagged f)) same p) q.0 in cc
 heads verb (Flagged f n) (Flagged g m) ws vs p q e =
     let same : n ≡ m = cc in
-    let k = named_once verb (named.Flagged f) (named.Flagged g) m (subst (IsNamed verb (named.Flagged f)) same p) q in (cc, cc)
-heads verb (Flagged f n) (File m) ws vs p q e = let same : n ≡ m = cc in absurd (option_no_name verb (named.Flagged f) m (subst (IsNamed verb (named.Flagged f)) same p) q)
-heads verb (File n) (Valued d m u) ws vs p q e = let same : m ≡ n = cc in absurd (option_no_name verb (named.Valued d) n (subst (IsNamed verb (named.Valued d)) same q.0) p)
-heads verb (File n) (Flagged g m) ws vs p q e = let same : m ≡ n = cc in absurd (option_no_name verb (named.Flagged g) n (subst (IsNamed verb (named.Flagged g)) same q) p)
+    let k = named_once verb (named.Flagged f) (named.Flagged g) m
+    (subst (IsNamed verb (named.Flagged f)) same p) q in (cc, cc)
+heads verb (Flagged f n) (File m) ws vs p q e = let same : n ≡ m =
+    cc in absurd (option_no_name verb (named.Flagged f) m
+    (subst (IsNamed verb (named.Flagged f)) same p) q)
+heads verb (File n) (Valued d m u) ws vs p q e = let same : m ≡ n =
+    cc in absurd (option_no_name verb (named.Valued d) n
+    (subst (IsNamed verb (named.Valued d)) same q.0) p)
+heads verb (File n) (Flagged g m) ws vs p q e = let same : m ≡ n =
+    cc in absurd (option_no_name verb (named.Flagged g) n
+    (subst (IsNamed verb (named.Flagged g)) same q) p)
 heads verb (File n) (File m) ws vs p q e = (cc, cc)
 
 part_some : (p : Part) (ws : List (List ℕ)) → [] ≡ spelled p ws → ⊥
@@ -32,7 +45,8 @@ part_some (Flagged f n) ws e = cc
 part_some (File n) ws e = cc
 
 -- words spell at most one list of parts
-pub parts_once : (verb : Verb) (ps qs : List Part) → AreParts verb ps → AreParts verb qs → spell ps ≡ spell qs → ps ≡ qs
+pub parts_once : (verb : Verb) (ps qs : List Part) → AreParts verb ps → AreParts verb qs
+    → spell ps ≡ spell qs → ps ≡ qs
 parts_once verb [] [] a b e = refl
 parts_once verb [] (q ∷ qs) a b e = absurd (part_some q (spell qs) e)
 parts_once verb (p ∷ ps) [] a b e = absurd (part_some p (spell ps) (sym e))

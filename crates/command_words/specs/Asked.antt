@@ -15,18 +15,21 @@ use Rattle.command_words.specs.declared.requests.FramesAsked.{FramesAsked}
 use Rattle.command_words.specs.declared.names.Verb.{Verb}
 use Rattle.command_words.specs.declared.names.Verb.TheVariants as verbs
 
--- The word is a rate: a number of JSON (RFC 8259, section 6) that isn't too long and stands for the rate.
+-- The word is a rate: a number of JSON (RFC 8259, section 6) that isn't too long and stands for the
+-- rate.
 pub record IsRateWord (word : List ℕ) (rate : Rate) : Type 0 where
   pub numeral : IsNumeral word
   pub short : (number : Numeral) → Spells word number → IsTooLong number → ⊥
-  pub gives : (number : Numeral) → Spells word number → GivesRate (fraction number) rate.num rate.den
+  pub gives : (number : Numeral) → Spells word number
+      → GivesRate (fraction number) rate.num rate.den
 
 -- the rate of lists: the one that is asked for, else 24 frames a second
 abbrev pub IsRate : Option (List ℕ) → Rate → Type 0
 IsRate None rate = (rate.num ≡ pos 24) × (rate.den ≡ pos 1)
 IsRate (Some word) rate = IsRateWord word rate
 
--- what the file is read as: as the option says, else as a list where its name is that of a list, and as objects where it isn't
+-- what the file is read as: as the option says, else as a list where its name is that of a list,
+-- and as objects where it isn't
 abbrev pub IsInput : Option (List ℕ) → List ℕ → Form → Type 0
 IsInput None name form.Objects = IsListName name → ⊥
 IsInput None name form.List = IsListName name
@@ -35,7 +38,8 @@ IsInput (Some word) name form.Objects = word ≡ codes "otio"
 IsInput (Some word) name form.List = ⊥
 IsInput (Some word) name form.Json = ⊥
 
--- what an output of that name is written as where no option says so: a list where the name is that of a list, else objects
+-- what an output of that name is written as where no option says so: a list where the name is that
+-- of a list, else objects
 abbrev pub IsDefault : Option (List ℕ) → Form → Type 0
 IsDefault None form.Objects = Unit {0}
 IsDefault None form.List = ⊥
@@ -51,15 +55,18 @@ IsOutput (Some word) target form.Objects = word ≡ codes "otio"
 IsOutput (Some word) target form.List = word ≡ codes "edl"
 IsOutput (Some word) target form.Json = word ≡ codes "json"
 
--- The command: a list is written as a list at this rate, with drop-frame timecode where the flag is there; objects as objects or as JSON.
+-- The command: a list is written as a list at this rate, with drop-frame timecode where the flag is
+-- there; objects as objects or as JSON.
 abbrev pub IsAskedOf : Command → Form → Form → Rate → Bool → Type 0
 IsAskedOf (ListToList rate drop) form.List form.List asked flag = (rate ≡ asked) × (drop ≡ flag)
 IsAskedOf ToObjects form.Objects form.Objects asked flag = Unit {0}
 IsAskedOf ToJson form.Objects form.Json asked flag = Unit {0}
 IsAskedOf command input output asked flag = ⊥
 
--- What the options and the file of `convert` ask for. Other options have a value that is allowed even where the command doesn't need it.
-pub record IsConversion (command : Command) (name : List ℕ) (target : Option (List ℕ)) (given : Given) : Type 0 where
+-- What the options and the file of `convert` ask for. Other options have a value that is allowed
+-- even where the command doesn't need it.
+pub record IsConversion (command : Command) (name : List ℕ) (target : Option (List ℕ))
+    (given : Given) : Type 0 where
   pub file : given.file ≡ Some name
   pub target_is : given.target ≡ target
   pub input : Form
@@ -88,7 +95,8 @@ pub record AreFrames (given : Given) (asked : FramesAsked) : Type 0 where
   pub count : IsValue IsCount given.count asked.count
 
 -- what the options and the file of `frames` ask for: the file is no list
-pub record IsFrameList (command : Command) (name : List ℕ) (target : Option (List ℕ)) (given : Given) : Type 0 where
+pub record IsFrameList (command : Command) (name : List ℕ) (target : Option (List ℕ))
+    (given : Given) : Type 0 where
   pub file : given.file ≡ Some name
   pub target_is : given.target ≡ target
   pub no_list : IsListName name → ⊥
@@ -101,9 +109,11 @@ abbrev pub IsAskedBy : Verb → Command → List ℕ → Option (List ℕ) → G
 IsAskedBy verbs.Convert command name target given = IsConversion command name target given
 IsAskedBy verbs.Frames command name target given = IsFrameList command name target given
 
--- The words ask for this command on the file of this name, with the output into the file of the target's name, or to the standard output where there is none:
--- the command's own word, then its options and the file in any order.
-pub record Ask (words : List (List ℕ)) (command : Command) (name : List ℕ) (target : Option (List ℕ)) : Type 0 where
+-- The words ask for this command on the file of this name, with the output into the file of the
+-- target's name, or to the standard output where there is none: the command's own word, then its
+-- options and the file in any order.
+pub record Ask (words : List (List ℕ)) (command : Command) (name : List ℕ)
+    (target : Option (List ℕ)) : Type 0 where
   pub verb : Verb
   pub parts : List Part
   pub are_parts : AreParts verb parts
@@ -114,4 +124,5 @@ pub record Ask (words : List (List ℕ)) (command : Command) (name : List ℕ) (
 
 -- the words ask for no command
 abbrev pub AskNothing : List (List ℕ) → Type 0
-AskNothing words = (command : Command) (name : List ℕ) (target : Option (List ℕ)) → Ask words command name target → ⊥
+AskNothing words = (command : Command) (name : List ℕ) (target : Option (List ℕ))
+    → Ask words command name target → ⊥

@@ -1,4 +1,5 @@
--- What the parts of a command line give together: the value of each option, whether a flag is there, and the file, each at most once.
+-- What the parts of a command line give together: the value of each option, whether a flag is
+-- there, and the file, each at most once.
 use Rattle.std.specs.Prelude.{ℕ, Bool, true, false, List, [], ◌∷◌, Option, Some, None}
 use Rattle.std.specs.Option.{option_map, option_and_then}
 use Rattle.command_words.specs.Parts.{Part, Valued, Flagged, File}
@@ -18,7 +19,18 @@ pub record Given : Type 0 where
   pub file : Option (List ℕ)
 
 abbrev pub nothing_given : Given
-nothing_given = record { from = None; to = None; rate = None; target = None; child = None; start = None; count = None; drop = false; file = None }
+nothing_given = record {
+  from = None;
+  to = None;
+  rate = None;
+  target = None;
+  child = None;
+  start =
+      None;
+  count = None;
+  drop = false;
+  file = None;
+}
 
 -- the value where none was given before; what is given twice gives nothing
 abbrev pub once : Option (List ℕ) → Given → Option Given

@@ -27,14 +27,17 @@ target_options = (codes "-o", Valued Target) ∷ (codes "--output", Valued Targe
 
 -- the options that are built for a command, by their names
 abbrev pub options_of : Verb → List (List ℕ × Named)
-options_of Convert = (codes "--from", Valued From) ∷ (codes "--to", Valued To) ∷ (codes "--rate", Valued Rate) ∷ (codes "--drop", Flagged Drop) ∷ target_options
-options_of Frames = (codes "--child", Valued Child) ∷ (codes "--start", Valued Start) ∷ (codes "--count", Valued Count) ∷ target_options
+options_of Convert = (codes "--from", Valued From) ∷ (codes "--to", Valued To) ∷
+    (codes "--rate", Valued Rate) ∷ (codes "--drop", Flagged Drop) ∷ target_options
+options_of Frames = (codes "--child", Valued Child) ∷ (codes "--start", Valued Start) ∷
+    (codes "--count", Valued Count) ∷ target_options
 
 -- the word is the name of this option of the command
 abbrev pub IsNamed : Verb → Named → List ℕ → Type 0
 IsNamed verb named word = meaning word (options_of verb) ≡ Some named
 
--- A value or the name of a file has a byte, and begins with `-` only where that is all of it, which names the standard input.
+-- A value or the name of a file has a byte, and begins with `-` only where that is all of it, which
+-- names the standard input.
 pub record IsName (name : List ℕ) : Type 0 where
   pub some : name ≢ []
   pub plain : (rest : List ℕ) → name ≡ 45 ∷ rest → rest ≡ []

@@ -25,8 +25,10 @@ pub enum Form {
 /// What the options and the file of `convert` ask for.
 pub fn conversion_of<'a>(line: &Line<'a>) -> Option<Request<'a>>
     ensures { let given = given_by line.now in MatchOption result
-        ((command : Command) (name : List ℕ) (target : Option (List ℕ)) → IsConversion command name target given → ⊥)
-        (λ request. IsConversion request.command request.name.now (option_map (λ s. s.now) request.target) given) }
+        ((command : Command) (name : List ℕ) (target : Option (List ℕ)) →
+        IsConversion command name target given → ⊥)
+        (λ request. IsConversion request.command request.name.now
+        (option_map (λ s. s.now) request.target) given) }
 {
     let Some(name) = line.file else {
         return None;
@@ -81,7 +83,8 @@ fn form_of_name(name: &str) -> Form
 
 // What is written.
 fn output_of(to: Option<&str>, target: Option<&str>) -> Option<Form>
-    ensures { let asked = option_map (λ s. s.now) to.entry in let named = option_map (λ s. s.now) target.entry in MatchOption result
+    ensures { let asked = option_map (λ s. s.now) to.entry in let named = option_map
+        (λ s. s.now) target.entry in MatchOption result
         ((form : Form) → IsOutput asked named form → ⊥)
         (λ form. IsOutput asked named form) }
 {

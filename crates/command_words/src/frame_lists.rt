@@ -19,8 +19,10 @@ const MOST_FRAMES: u64 = 1_000_000;
 /// What the options and the file of `frames` ask for.
 pub fn frame_list_of<'a>(line: &Line<'a>) -> Option<Request<'a>>
     ensures { let given = given_by line.now in MatchOption result
-        ((command : Command) (name : List ℕ) (target : Option (List ℕ)) → IsFrameList command name target given → ⊥)
-        (λ request. IsFrameList request.command request.name.now (option_map (λ s. s.now) request.target) given) }
+        ((command : Command) (name : List ℕ) (target : Option (List ℕ)) →
+        IsFrameList command name target given → ⊥)
+        (λ request. IsFrameList request.command request.name.now
+        (option_map (λ s. s.now) request.target) given) }
 {
     let Some(name) = line.file else {
         return None;
@@ -40,7 +42,8 @@ pub fn frame_list_of<'a>(line: &Line<'a>) -> Option<Request<'a>>
 
 // Which frames the options ask for.
 fn frames_asked(line: &Line<'_>) -> Option<FramesAsked>
-    ensures { MatchOption result ((asked : FramesAsked) → AreFrames (given_by line.now) asked → ⊥) (AreFrames (given_by line.now)) }
+    ensures { MatchOption result ((asked : FramesAsked) → AreFrames (given_by line.now) asked →
+        ⊥) (AreFrames (given_by line.now)) }
 {
     let Some(child) = child_asked(line.child) else {
         return None;
@@ -61,7 +64,8 @@ fn frames_asked(line: &Line<'_>) -> Option<FramesAsked>
 // The child that an option asks for.
 fn child_asked(word: Option<&str>) -> Option<Option<u64>>
     ensures { let given = option_map (λ s. s.now) word.entry in MatchOption result
-        ((child : Option ℕ) → IsValue IsWholeNumber given child → ⊥) (λ child. IsValue IsWholeNumber given child) }
+        ((child : Option ℕ) → IsValue IsWholeNumber given child →
+        ⊥) (λ child. IsValue IsWholeNumber given child) }
 {
     match word {
         Some(word) => match whole_number(word) {
@@ -75,7 +79,8 @@ fn child_asked(word: Option<&str>) -> Option<Option<u64>>
 // The record point that an option asks for.
 fn start_asked(word: Option<&str>) -> Option<Option<RecordPoint>>
     ensures { let given = option_map (λ s. s.now) word.entry in MatchOption result
-        ((start : Option RecordPoint) → IsValue IsPoint given start → ⊥) (λ start. IsValue IsPoint given start) }
+        ((start : Option RecordPoint) → IsValue IsPoint given start →
+        ⊥) (λ start. IsValue IsPoint given start) }
 {
     match word {
         Some(word) => match point_of(word) {
@@ -89,7 +94,8 @@ fn start_asked(word: Option<&str>) -> Option<Option<RecordPoint>>
 // The count that an option asks for.
 fn count_asked(word: Option<&str>) -> Option<Option<u32>>
     ensures { let given = option_map (λ s. s.now) word.entry in MatchOption result
-        ((count : Option ℕ) → IsValue IsCount given count → ⊥) (λ count. IsValue IsCount given count) }
+        ((count : Option ℕ) → IsValue IsCount given count →
+        ⊥) (λ count. IsValue IsCount given count) }
 {
     match word {
         Some(word) => match count_of(word) {

@@ -1,8 +1,9 @@
 //! The words of a command line of `otio`: what they ask for.
 //!
-//! The first word is the command, `convert` or `frames`. Each option is a word of its own, its value is the next word, and options
-//! may stand in any order before or behind the file. An option that is given twice or isn't built for the command, an empty word,
-//! and a value or a file that begins with `-` and is longer than one byte ask for nothing.
+//! The first word is the command, `convert` or `frames`. Each option is a word of its own, its
+//! value is the next word, and options may stand in any order before or behind the file. An option
+//! that is given twice or isn't built for the command, an empty word, and a value or a file that
+//! begins with `-` and is longer than one byte ask for nothing.
 #![tactic(auto)]
 
 mod conversions;

@@ -78,7 +78,8 @@ fn with_flag<'a>(line: Line<'a>, flag: Flag) -> Option<Line<'a>>
 fn with_value<'a>(line: Line<'a>, choice: Choice, value: &'a str) -> Option<Line<'a>>
     ensures { (name : List ℕ) → MatchOption result
         (add (given_by line.entry) (ValuedPart choice name value.now) ≡ None)
-        (λ more. add (given_by line.entry) (ValuedPart choice name value.now) ≡ Some (given_by more)) }
+        (λ more. add (given_by line.entry) (ValuedPart choice name value.now) ≡
+        Some (given_by more)) }
 {
     let value = Some(value);
     match choice {
@@ -111,11 +112,14 @@ fn with_value<'a>(line: Line<'a>, choice: Choice, value: &'a str) -> Option<Line
     }
 }
 
-/// What a line and the parts that the words of a command spell give together; none where they spell no parts, or something is given twice.
+/// What a line and the parts that the words of a command spell give together; none where they spell
+/// no parts, or something is given twice.
 pub fn gather<'a>(verb: Verb, words: &'a [String], line: Line<'a>) -> Option<Line<'a>>
     ensures { let spelled = map (λ w. string_bytes w) words.now in MatchOption result
-        ((parts : List Part) (given : Given) → AreParts verb parts → spelled ≡ spell parts → add_all (given_by line.entry) parts ≡ Some given → ⊥)
-        (λ all. (parts : List Part) × AreParts verb parts × (spelled ≡ spell parts) × (add_all (given_by line.entry) parts ≡ Some (given_by all))) }
+        ((parts : List Part) (given : Given) → AreParts verb parts → spelled ≡ spell parts →
+        add_all (given_by line.entry) parts ≡ Some given → ⊥)
+        (λ all. (parts : List Part) × AreParts verb parts × (spelled ≡ spell parts) ×
+        (add_all (given_by line.entry) parts ≡ Some (given_by all))) }
 {
     let Some((word, rest)) = first_word(words) else {
         return Some(line);

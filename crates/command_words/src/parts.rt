@@ -21,14 +21,16 @@ pub enum Found<'a> {
 pub fn first_word(words: &[String]) -> Option<(&str, &[String])>
     ensures words { MatchOption result
         (map (λ w. string_bytes w) words.now ≡ [])
-        (λ first. map (λ w. string_bytes w) words.now ≡ first.0.now ∷ map (λ w. string_bytes w) first.1.now) }
+        (λ first. map (λ w. string_bytes w) words.now ≡
+        first.0.now ∷ map (λ w. string_bytes w) first.1.now) }
     ensures fewer { IfSome result (λ first. length first.1.now < length words.now) }
 {
     let (word, rest) = words.split_first()?;
     Some((word.as_str(), rest))
 }
 
-/// The first part of some words of a command, and the words behind it; none where no part stands there.
+/// The first part of some words of a command, and the words behind it; none where no part stands
+/// there.
 pub fn first_part<'a>(
     verb: Verb,
     word: &'a str,
@@ -36,8 +38,11 @@ pub fn first_part<'a>(
 ) -> Option<(Found<'a>, &'a [String])>
     ensures fewer { IfSome result (λ found. length found.1.now ≤ length rest.now) }
     ensures part { let behind = map (λ w. string_bytes w) rest.now in MatchOption result
-        ((part : Part) (words : List (List ℕ)) → IsPart verb part → word.now ∷ behind ≡ spelled part words → ⊥)
-        (λ found. IsPart verb (part_found found.0) × (word.now ∷ behind ≡ spelled (part_found found.0) (map (λ w. string_bytes w) found.1.now))) }
+        ((part : Part) (words : List (List ℕ)) → IsPart verb part →
+        word.now ∷ behind ≡ spelled part words → ⊥)
+        (λ found. IsPart verb (part_found found.0) ×
+        (word.now ∷ behind ≡ spelled (part_found found.0)
+        (map (λ w. string_bytes w) found.1.now))) }
 {
     match option_of(verb, word) {
         Some(Named::Valued(choice)) => valued_part(verb, choice, word, rest),
@@ -62,8 +67,11 @@ fn valued_part<'a>(
     requires { IsNamed verb (Named.Valued choice) word.now }
     ensures fewer { IfSome result (λ found. length found.1.now ≤ length rest.now) }
     ensures part { let behind = map (λ w. string_bytes w) rest.now in MatchOption result
-        ((part : Part) (words : List (List ℕ)) → IsPart verb part → word.now ∷ behind ≡ spelled part words → ⊥)
-        (λ found. IsPart verb (part_found found.0) × (word.now ∷ behind ≡ spelled (part_found found.0) (map (λ w. string_bytes w) found.1.now))) }
+        ((part : Part) (words : List (List ℕ)) → IsPart verb part →
+        word.now ∷ behind ≡ spelled part words → ⊥)
+        (λ found. IsPart verb (part_found found.0) ×
+        (word.now ∷ behind ≡ spelled (part_found found.0)
+        (map (λ w. string_bytes w) found.1.now))) }
 {
     let Some((value, behind)) = first_word(rest) else {
         return None;

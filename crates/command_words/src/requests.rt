@@ -37,7 +37,8 @@ pub struct FramesAsked {
     pub child: Option<u64>,
     /// The record point of the first frame; none for the timeline's first.
     pub start: Option<RecordPoint>,
-    /// How many frames, from 1 to 1 000 000; none for all up to the end, within the limit of a listing.
+    /// How many frames, from 1 to 1 000 000; none for all up to the end, within the limit of a
+    /// listing.
     pub count: Option<u32>,
 }
 
@@ -55,7 +56,8 @@ pub struct Request<'a> {
 /// What the words behind the program's name ask for; none exactly where they ask for nothing.
 pub fn request_of(words: &[String]) -> Option<Request<'_>>
     ensures { let said = map (λ w. string_bytes w) words.now in MatchOption result (AskNothing said)
-        (λ request. Ask said request.command request.name.now (option_map (λ s. s.now) request.target)) }
+        (λ request. Ask said request.command request.name.now
+        (option_map (λ s. s.now) request.target)) }
 {
     let Some((word, rest)) = first_word(words) else {
         return None;
@@ -72,8 +74,10 @@ pub fn request_of(words: &[String]) -> Option<Request<'_>>
 // What the options and the file of a line ask of a command.
 fn request_in<'a>(verb: Verb, line: &Line<'a>) -> Option<Request<'a>>
     ensures { let given = given_by line.now in MatchOption result
-        ((command : Command) (name : List ℕ) (target : Option (List ℕ)) → IsAskedBy verb command name target given → ⊥)
-        (λ request. IsAskedBy verb request.command request.name.now (option_map (λ s. s.now) request.target) given) }
+        ((command : Command) (name : List ℕ) (target : Option (List ℕ)) →
+        IsAskedBy verb command name target given → ⊥)
+        (λ request. IsAskedBy verb request.command request.name.now
+        (option_map (λ s. s.now) request.target) given) }
 {
     match verb {
         Verb::Convert => conversion_of(line),
@@ -81,8 +85,10 @@ fn request_in<'a>(verb: Verb, line: &Line<'a>) -> Option<Request<'a>>
     }
 }
 
-/// Law: words ask for at most one command on at most one file, with at most one output. It does nothing.
+/// Law: words ask for at most one command on at most one file, with at most one output. It does
+/// nothing.
 pub fn one_request()
-    ensures { (words : List (List ℕ)) (one other : Command) (a b : List ℕ) (p q : Option (List ℕ)) → Ask words one a p → Ask words other b q
+    ensures { (words : List (List ℕ)) (one other : Command) (a b : List ℕ) (p q : Option (List ℕ)) →
+        Ask words one a p → Ask words other b q
         → (one ≡ other) × (a ≡ b) × (p ≡ q) }
 {}

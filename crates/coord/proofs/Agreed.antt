@@ -12,19 +12,18 @@ use Rattle.otio_model.specs.declared.compositions.Listed.{Listed}
 use Rattle.otio_model.specs.declared.compositions.Listed.TheFolds.{map-Listed, ind-Listed}
 use Rattle.otio_model.specs.declared.timelines.Timeline.{Timeline}
 use Rattle.otio_model.specs.Trees.{items_of}
-use Rattle.coord.specs.Looks.{Key, Show, Blank, Frame, Mix, FrameRate, Overlap, Look, is_blank, within, mixed, weight, total, item_shows, next_shows, from_end, mix_shows, blank, list_shows, stack_shows, track_shows}
+use Rattle.otio_model.specs.Overlaps.{within}
+use Rattle.otio_model.specs.Lengths.{trimmed_start, or_zero}
+use Rattle.coord.specs.Looks.{Key, Show, Blank, Frame, Mix, FrameRate, Overlap, Look, is_blank, mixed, weight, total, item_shows, next_shows, from_end, mix_shows, blank, list_shows, stack_shows, track_shows}
 use Rattle.coord.specs.Speeds.{speed_of, media_at}
 use Rattle.coord.specs.Keys.{key_of, media_rate}
-use Rattle.coord.specs.Sights.{View, Sight, seen, framed, sights, sight, trimmed_start, known}
+use Rattle.coord.specs.Sights.{View, Sight, viewer, exact, seen, framed, sights, sight}
 use Rattle.coord.specs.Programs.{rate_24, kind_of, child_shows, shown_by, at, at_by}
 use Rattle.coord.specs.Agreement.{unrated}
 use Rattle.coord.proofs.Seen.{sights-listed}
 
-abbrev exact : List ℕ → View
-exact kind = record { kind = kind; mark = λ rate. rate }
-
 abbrev plain : List ℕ → View
-plain kind = record { kind = kind; mark = λ rate. rate_24 }
+plain = viewer (λ rate. rate_24)
 
 -- the look with 24 in place of each rate
 abbrev faded : Look → Look
@@ -128,7 +127,7 @@ look_of n o f = record { length = n; shows = f; overlap = o }
 looks_same : (l : List Sight) (kind : List ℕ) → AllAgree l → map (seen (plain kind)) l ≡ map faded (map (seen (exact kind)) l)
 looks_same [] kind a = refl
 looks_same (x ∷ l) kind a =
-    ap (λ (f : ℤ → Show). look_of (pos (known x.length)) x.overlap f ∷ map (seen (plain kind)) l) (fun_ext (a.0 kind))
+    ap (λ (f : ℤ → Show). look_of (pos (or_zero x.length)) x.overlap f ∷ map (seen (plain kind)) l) (fun_ext (a.0 kind))
     ∙ ap (λ m. faded (seen (exact kind) x) ∷ m) (looks_same l kind a.1)
 
 clip_same : (b : Bool) (o : Option FrameRate) (key : Key) (m : ℤ) (kind : List ℕ) → cond b (framed (plain kind) key m o) Blank ≡ unrated (cond b (framed (exact kind) key m o) Blank)
@@ -196,8 +195,8 @@ item_agrees (Track t) = track_item t (children_agree t.children)
 
 child_agrees : (x : ItemOf Listed) (u : ℤ) → unrated (child_shows (λ rate. rate) x u) ≡ child_shows (λ rate. rate_24) x u
 child_agrees x u =
-    sym (cond_same (within (pos 0) (pos (known (sight x).length)) u) ((sight x).shows (exact (kind_of x)) u) Blank)
-    ∙ ap (λ s. cond (within (pos 0) (pos (known (sight x).length)) u) s Blank) (sym (item_agrees x (kind_of x) u))
+    sym (cond_same (within (pos 0) (pos (or_zero (sight x).length)) u) ((sight x).shows (exact (kind_of x)) u) Blank)
+    ∙ ap (λ s. cond (within (pos 0) (pos (or_zero (sight x).length)) u) s Blank) (sym (item_agrees x (kind_of x) u))
 
 found_agrees : (o : Option (ItemOf Listed)) (u : ℤ) → unrated (shown_by (λ rate. rate) o u) ≡ shown_by (λ rate. rate_24) o u
 found_agrees None u = refl

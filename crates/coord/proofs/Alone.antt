@@ -6,14 +6,14 @@ use Rattle.coord.specs.declared.faults.ItemFault.{ItemFault}
 use Rattle.coord.specs.declared.faults.ItemFault.TheVariants.{NoLength, Speed, Long}
 use Rattle.coord.specs.declared.faults.CoordFault.{CoordFault}
 use Rattle.coord.specs.declared.faults.CoordFault.TheVariants as F
-use Rattle.coord.specs.Soundness.{IsSound, IsFaultOf, HasFirst, told}
+use Rattle.coord.specs.Soundness.{IsFaultless, IsFaultOf, HasFirst, fault_at}
 use Rattle.coord.proofs.Order.{one_first}
 
 -- two first faults of items are one
-both : (t : Timeline) (p q : List ℕ) (f g : ItemFault) → HasFirst t p f → HasFirst t q g → told p f ≡ told q g
+both : (t : Timeline) (p q : List ℕ) (f g : ItemFault) → HasFirst t p f → HasFirst t q g → fault_at p f ≡ fault_at q g
 both t p q f g a b =
     let e = one_first t.tracks.children p q f g a.1 b.1 in
-    ap (λ (r : List ℕ). told r f) e.0 ∙ ap (told q) e.1
+    ap (λ (r : List ℕ). fault_at r f) e.0 ∙ ap (fault_at q) e.1
 
 -- two faults of a timeline that aren't want of memory are one
 pub same_fault : (t : Timeline) (f g : CoordFault) → f ≢ F.Memory → g ≢ F.Memory → IsFaultOf t f → IsFaultOf t g → f ≡ g
@@ -40,11 +40,11 @@ same_fault t (F.Speed p) F.Memory n m a b = absurd (m refl)
 same_fault t (F.Long p) F.Memory n m a b = absurd (m refl)
 
 -- no item of a sound timeline has a fault
-no_first : (t : Timeline) (p : List ℕ) (f : ItemFault) → IsSound t → HasFirst t p f → ⊥
+no_first : (t : Timeline) (p : List ℕ) (f : ItemFault) → IsFaultless t → HasFirst t p f → ⊥
 no_first t p f s a = cc (a.1.has, s.items p a.1.item a.1.there)
 
 -- a sound timeline has no fault
-pub no_fault_of : (t : Timeline) (f : CoordFault) → IsSound t → IsFaultOf t f → ⊥
+pub no_fault_of : (t : Timeline) (f : CoordFault) → IsFaultless t → IsFaultOf t f → ⊥
 no_fault_of t F.StartOffFrame s a = a s.start
 no_fault_of t (F.NoLength p) s a = no_first t p NoLength s a
 no_fault_of t (F.Speed p) s a = no_first t p Speed s a

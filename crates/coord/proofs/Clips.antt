@@ -8,7 +8,7 @@ use Rattle.otio_model.specs.declared.compositions.Listed.TheFolds.{fold-roll-Lis
 use Rattle.otio_model.specs.declared.compositions.Listed.TheViews.{roll-out-Listed}
 use Rattle.otio_model.specs.Trees.{items_of}
 use Rattle.coord.specs.Programs.{first_of, clip_by, clip_step, first_clip}
-use Rattle.coord.proofs.Sums.{next, none_left}
+use Rattle.coord.proofs.Members.{next, none_left}
 
 same_clips : (xs : List (ItemOf Listed)) → map (clip_by (λ c. c)) (map-Listed Listed (Option ClipRow) first_clip (record { list = xs })).list ≡ map (clip_by first_clip) xs
 same_clips [] = refl

@@ -7,9 +7,9 @@ use Rattle.otio_model.specs.Trees.{items_of, children_of, below, item_at}
 use Rattle.coord.specs.declared.faults.ItemFault.{ItemFault}
 use Rattle.coord.specs.declared.judging.Found.{Found}
 use Rattle.coord.specs.declared.judging.Found.TheVariants.{At, Memory}
-use Rattle.coord.specs.Soundness.{fault_of, AreSound, Precedes, IsFirstFault}
-use Rattle.coord.specs.Found.{IsSoundItem, AreSoundTo, IsFirstBelow, IsFoundIn, IsFoundAt, IsUnder}
-use Rattle.coord.proofs.Sums.{got_below}
+use Rattle.coord.specs.Soundness.{fault_of, AreFaultless, Precedes, IsFirstFault, IsFaultlessItem}
+use Rattle.coord.specs.Walk.{AreFaultlessTo, IsFirstBelow, IsFoundIn, IsFoundAt, IsUnder}
+use Rattle.coord.proofs.Members.{got_below}
 
 split_last : (i j : ℕ) → j < suc i → (j < i) ⊎ (j ≡ i)
 split_last zero zero h = inr refl
@@ -22,33 +22,33 @@ then_some : {A B : Type 0} (f : A → Option B) (o : Option A) (y : B) → optio
 then_some f None y e = absurd (cc e)
 then_some f (Some x) y e = (x, refl, e)
 
-in_list : (l : Listed) (i : ℕ) (x : ItemOf Listed) (place : List ℕ) → slice_get (items_of l) i ≡ Some x → item_at (i ∷ place) l ≡ below place x
+pub in_list : (l : Listed) (i : ℕ) (x : ItemOf Listed) (place : List ℕ) → slice_get (items_of l) i ≡ Some x → item_at (i ∷ place) l ≡ below place x
 in_list l i x place e = ap (option_and_then (below place)) e
 
-in_item : (x : ItemOf Listed) (l : Listed) (i : ℕ) (place : List ℕ) → children_of x ≡ Some l → below (i ∷ place) x ≡ item_at (i ∷ place) l
+pub in_item : (x : ItemOf Listed) (l : Listed) (i : ℕ) (place : List ℕ) → children_of x ≡ Some l → below (i ∷ place) x ≡ item_at (i ∷ place) l
 in_item x l i place e = ap (option_and_then (λ m. option_and_then (below place) (slice_get (items_of m) i))) e
 
 no_fault : (x : ItemOf Listed) (f : ItemFault) {P : Type 0} → fault_of x ≡ Some f → fault_of x ≡ None → P
 no_fault x f e n = absurd (cc (e, n))
 
 -- one more child without a fault
-pub sound_next : (l : Listed) (i : ℕ) (x : ItemOf Listed) → slice_get (items_of l) i ≡ Some x → IsSoundItem x → AreSoundTo i l → AreSoundTo (i + 1) l
+pub sound_next : (l : Listed) (i : ℕ) (x : ItemOf Listed) → slice_get (items_of l) i ≡ Some x → IsFaultlessItem x → AreFaultlessTo i l → AreFaultlessTo (i + 1) l
 sound_next l i x e s all = λ j y lt got. elim (split_last i j (omega (arith, lt))) [
   | inl k ↦ all j y k got
-  | inr k ↦ let g : slice_get (items_of l) i ≡ Some y = rw k at got in let same : x ≡ y = cc (e, g) in subst IsSoundItem same s
+  | inr k ↦ let g : slice_get (items_of l) i ≡ Some y = rw k at got in let same : x ≡ y = cc (e, g) in subst IsFaultlessItem same s
 ]
 
 -- all children without a fault
-pub sound_all : (l : Listed) (i : ℕ) → length (items_of l) ≤ i → AreSoundTo i l → AreSound l
+pub sound_all : (l : Listed) (i : ℕ) → length (items_of l) ≤ i → AreFaultlessTo i l → AreFaultless l
 sound_all l i h all [] x e = absurd (cc e)
 sound_all l i h all (j ∷ place) x e =
     let t = then_some (below place) (slice_get (items_of l) j) x e in
     all j t.0 (omega (arith, h, got_below (items_of l) j t.0 t.1)) t.1 place x t.2
 
-sound_child : (l : Listed) (i : ℕ) (x : ItemOf Listed) → slice_get (items_of l) i ≡ Some x → AreSound l → IsSoundItem x
+pub sound_child : (l : Listed) (i : ℕ) (x : ItemOf Listed) → slice_get (items_of l) i ≡ Some x → AreFaultless l → IsFaultlessItem x
 sound_child l i x e s = λ place y b. s (i ∷ place) y (in_list l i x place e ∙ b)
 
-under_first : (l : Listed) (i : ℕ) (x : ItemOf Listed) (place : List ℕ) (fault : ItemFault) → slice_get (items_of l) i ≡ Some x → AreSoundTo i l → IsFirstBelow x place fault
+under_first : (l : Listed) (i : ℕ) (x : ItemOf Listed) (place : List ℕ) (fault : ItemFault) → slice_get (items_of l) i ≡ Some x → AreFaultlessTo i l → IsFirstBelow x place fault
     → (before : List ℕ) (y : ItemOf Listed) → Precedes before (i ∷ place) → item_at before l ≡ Some y → fault_of y ≡ None
 under_first l i x place fault e all f [] y p g = absurd (cc g)
 under_first l i x place fault e all f (j ∷ q) y (inl k) g =
@@ -57,7 +57,7 @@ under_first l i x place fault e all f (j ∷ q) y (inr k) g =
     let h : item_at (i ∷ q) l ≡ Some y = rw k.0 at g in f.first q y k.1 (sym (in_list l i x q e) ∙ h)
 
 -- what was found in a child is what is found in the list
-pub found_under : (l : Listed) (i : ℕ) (x : ItemOf Listed) (found there : Found) → slice_get (items_of l) i ≡ Some x → AreSoundTo i l
+pub found_under : (l : Listed) (i : ℕ) (x : ItemOf Listed) (found there : Found) → slice_get (items_of l) i ≡ Some x → AreFaultlessTo i l
     → IsFoundAt x found → IsUnder i found there → IsFoundIn l there
 found_under l i x Memory Memory e all f u = λ s. f (sound_child l i x e s)
 found_under l i x (At rest cause) Memory e all f u = λ s. no_fault f.item cause f.has (sound_child l i x e s rest.items f.item f.there)
@@ -72,12 +72,12 @@ found_under l i x (At rest cause) (At way fault) e all f u =
     })
 
 -- an item with children that have no fault
-pub sound_with : (x : ItemOf Listed) (l : Listed) → children_of x ≡ Some l → fault_of x ≡ None → AreSound l → IsSoundItem x
+pub sound_with : (x : ItemOf Listed) (l : Listed) → children_of x ≡ Some l → fault_of x ≡ None → AreFaultless l → IsFaultlessItem x
 sound_with x l e n s [] y b = let same : x ≡ y = cc b in subst (λ z. fault_of z ≡ None) same n
 sound_with x l e n s (i ∷ place) y b = s (i ∷ place) y (sym (in_item x l i place e) ∙ b)
 
 -- an item without children
-pub sound_alone : (x : ItemOf Listed) → children_of x ≡ None → fault_of x ≡ None → IsSoundItem x
+pub sound_alone : (x : ItemOf Listed) → children_of x ≡ None → fault_of x ≡ None → IsFaultlessItem x
 sound_alone x e n [] y b = let same : x ≡ y = cc b in subst (λ z. fault_of z ≡ None) same n
 sound_alone x e n (i ∷ place) y b =
     absurd (cc (sym (ap (option_and_then (λ m. option_and_then (below place) (slice_get (items_of m) i))) e) ∙ b))
@@ -96,7 +96,7 @@ deeper x l (i ∷ place) fault e n f = record {
   first = deeper_first x l (i ∷ place) fault e n f;
 }
 
-children_sound : (x : ItemOf Listed) (l : Listed) → children_of x ≡ Some l → IsSoundItem x → AreSound l
+pub children_sound : (x : ItemOf Listed) (l : Listed) → children_of x ≡ Some l → IsFaultlessItem x → AreFaultless l
 children_sound x l e s [] y b = absurd (cc b)
 children_sound x l e s (i ∷ place) y b = s (i ∷ place) y (in_item x l i place e ∙ b)
 

@@ -1,10 +1,12 @@
-pub mod Sums
+pub mod Members
 pub mod Clips
 pub mod Judged
 pub mod Kept
 pub mod Seen
+pub mod Starts
+pub mod Divisors
 pub mod Order
 pub mod Agreed
 pub mod Alone
 pub mod Bare
-pub mod Rows
+pub mod Clocks

@@ -1,5 +1,5 @@
 -- How children look is how their items look.
-use Rattle.std.proofs.Common.{◌≡◌, refl, sym, ap, subst, ◌∙◌, ℕ, List, [], ◌∷◌, map, Option}
+use Rattle.std.proofs.Common.{◌≡◌, refl, sym, ap, subst, ◌∙◌, ℕ, pos, List, [], ◌∷◌, map, Option}
 use Rattle.std.specs.Prelude.{option_map}
 use Rattle.std.specs.Option.{option_or}
 use Rattle.tick_time.specs.declared.spans.Span.{Span}
@@ -9,8 +9,8 @@ use Rattle.otio_model.specs.declared.compositions.Listed.{Listed}
 use Rattle.otio_model.specs.declared.compositions.Listed.TheViews.{roll-out-Listed}
 use Rattle.otio_model.specs.declared.compositions.Listed.TheFolds.{fold-roll-Listed, map-Listed, ind-Listed}
 use Rattle.otio_model.specs.Trees.{listed, items_of}
-use Rattle.otio_model.specs.Lengths.{Range, range_of, from_zero, sum_of, longest_of, lengths, lengths_step, length_by, length_of}
-use Rattle.coord.specs.Sights.{Sight, sight, sights, sights_step, sight_by, lengths_seen}
+use Rattle.otio_model.specs.Lengths.{Range, range_of, from_zero, sum_of, longest_of, lengths, lengths_step, length_by, length_of, or_zero}
+use Rattle.coord.specs.Sights.{View, Sight, sight, sights, sights_step, sight_by, lengths_seen, seen, looks}
 
 stepped : (xs : List (ItemOf Listed)) → map (sight_by (λ x. x)) (map-Listed Listed (List Sight) sights (record { list = xs })).list ≡ map sight xs
 stepped [] = refl
@@ -38,6 +38,11 @@ same_lengths ((Track c) ∷ xs) = ap (λ l. length_of (Track c) ∷ l) (same_len
 pub lengths-listed : (xs : List (ItemOf Listed)) → lengths (listed xs) ≡ map length_of xs
 lengths-listed xs = fold-roll-Listed (List (Option ℕ)) lengths_step (record { list = xs }) ∙ same_lengths xs
 
+-- the length of a composition by that of its children
+abbrev by_length : Option Span → Option ℕ → Option ℕ
+by_length s n = option_map (λ (r : Range). r.len)
+    (option_or (option_map range_of s) (option_map from_zero n))
+
 abbrev IsSeen : Listed → Type 0
 IsSeen l = lengths_seen (sights l) ≡ lengths l
 
@@ -47,10 +52,6 @@ Known = (l : Listed) × IsSeen l
 
 abbrev forgotten : List (ItemOf Known) → List (ItemOf Listed)
 forgotten ys = (map-Listed Known Listed (λ e. e.0) (record { list = ys })).list
-
--- the length of a composition by that of its children
-abbrev by_length : Option Span → Option ℕ → Option ℕ
-by_length s n = option_map (λ (r : Range). r.len) (option_or (option_map range_of s) (option_map from_zero n))
 
 all_seen : (ys : List (ItemOf Known)) → lengths_seen (map sight (forgotten ys)) ≡ map length_of (forgotten ys)
 all_seen [] = refl
@@ -69,3 +70,27 @@ pub seen_lengths : (l : Listed) → lengths_seen (sights l) ≡ lengths l
 seen_lengths = ind-Listed IsSeen (λ x y is.
     let list : lengths_seen (map sight x.list) ≡ map length_of x.list = subst (λ z. lengths_seen (map sight z.list) ≡ map length_of z.list) is (all_seen y.list) in
     ap lengths_seen (sights-listed x.list) ∙ list ∙ sym (lengths-listed x.list))
+
+seen_each : (v : View) (xs : List (ItemOf Listed)) → map (seen v) (map sight xs) ≡ looks v xs
+seen_each v [] = refl
+seen_each v (x ∷ xs) = ap (λ l. seen v (sight x) ∷ l) (seen_each v xs)
+
+-- children look as their items do
+pub looks-items : (v : View) (l : Listed) → map (seen v) (sights l) ≡ looks v (items_of l)
+looks-items v l = ap (map (seen v)) (sights-items l) ∙ seen_each v (items_of l)
+
+-- the lengths of children are those of their items
+pub lengths-items : (l : Listed) → map length_of (items_of l) ≡ lengths l
+lengths-items l = sym (lengths-listed (items_of l)) ∙ ap lengths (roll-out-Listed l)
+
+-- the length that an item is seen to have is its own
+pub length_seen : (x : ItemOf Listed) → (sight x).length ≡ length_of x
+length_seen (Clip c) = refl
+length_seen (Gap g) = refl
+length_seen (Transition t) = refl
+length_seen (Stack s) = ap (λ ns. by_length s.source_range (longest_of ns)) (seen_lengths s.children)
+length_seen (Track t) = ap (λ ns. by_length t.source_range (sum_of ns)) (seen_lengths t.children)
+
+-- the length that an item's look has
+pub look_length : (v : View) (x : ItemOf Listed) (n : ℕ) → n ≡ or_zero (length_of x) → (seen v (sight x)).length ≡ pos n
+look_length v x n e = ap (λ o. pos (or_zero o)) (length_seen x) ∙ ap (λ k. pos k) (sym e)

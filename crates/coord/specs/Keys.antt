@@ -32,7 +32,9 @@ member_in name (Json-F.Map m) = value_of name m
 
 -- the reel that lists (CMX 3600) know the clip's media by
 abbrev pub reel_of : ClipRow → Option (List ℕ)
-reel_of c = option_and_then (λ j. text_in (out-Json j)) (option_and_then (λ j. member_in (codes "reel") (out-Json j)) (value_of (codes "cmx_3600") c.metadata))
+reel_of c = option_and_then (λ j. text_in (out-Json j))
+    (option_and_then (λ j. member_in (codes "reel") (out-Json j))
+    (value_of (codes "cmx_3600") c.metadata))
 
 -- the clip's reel, else its name
 abbrev pub reel_or_name : Option (List ℕ) → List ℕ → Key
@@ -57,4 +59,5 @@ frame_rate r = record { num = r.num; den = r.den }
 
 -- the rate of the clip's media: of their available range, else of its source_range
 abbrev pub media_rate : ClipRow → Option FrameRate
-media_rate c = option_map (λ (s : Span). frame_rate s.start.rate) (option_or (clip_range c) c.source_range)
+media_rate c = option_map (λ (s : Span). frame_rate s.start.rate)
+    (option_or (clip_range c) c.source_range)

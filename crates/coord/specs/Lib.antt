@@ -5,6 +5,8 @@ pub mod Keys
 pub mod Sights
 pub mod Programs
 pub mod Soundness
-pub mod Found
+pub mod Walk
+pub mod Images
 pub mod Agreement
 pub mod Worked
+pub mod WorkedItems

@@ -1,7 +1,10 @@
--- What lists show, where each item is known by its length, by what it shows at each instant, and by its overlap if it is a transition.
+-- What lists show, where each item is known by its length, by what it shows at each instant, and by
+-- its overlap if it is a transition.
 use Rattle.std.specs.Prelude.{ℕ, ◌/◌, ◌%◌, suc, zero, ℤ, pos, ◌+ℤ◌, ◌-ℤ◌, int_lt, int_le, unsigned_abs, Bool, true, false, ◌&&◌, cond, List, [], ◌∷◌, Option, Some, None, unwrap_or}
+use Rattle.otio_model.specs.Overlaps.{within}
 
--- what a clip's frames are known by: a URL, the three texts of an image sequence, a generator's kind, a reel, or the clip's name
+-- what a clip's frames are known by: a URL, the three texts of an image sequence, a generator's
+-- kind, a reel, or the clip's name
 pub data Key : Type 0 where
   Url : List ℕ → Key
   Sequence : List ℕ → List ℕ → List ℕ → Key
@@ -16,10 +19,11 @@ pub record FrameRate : Type 0 where
 
 -- how much of a mix is its second side, num / den in lowest terms
 pub record Weight : Type 0 where
-  pub num : ℕ
-  pub den : ℕ
+  pub num : ℤ
+  pub den : ℤ
 
--- nothing, a frame of a key at an instant of its media and at their rate, or a mix of two by a transition of a type
+-- nothing, a frame of a key at an instant of its media and at their rate, or a mix of two by a
+-- transition of a type
 pub data Show : Type 0 where
   Blank : Show
   Frame : Key → ℤ → FrameRate → Show
@@ -36,10 +40,6 @@ pub record Look : Type 0 where
   pub length : ℤ
   pub shows : ℤ → Show
   pub overlap : Option Overlap
-
--- whether w lies from a up to, not including, b
-abbrev pub within : ℤ → ℤ → ℤ → Bool
-within a b w = int_le a w && int_lt w b
 
 abbrev pub is_blank : Show → Bool
 is_blank Blank = true
@@ -60,11 +60,13 @@ divisor a b = divisor_in (suc b) a b
 
 -- a / b in lowest terms
 abbrev pub weight : ℕ → ℕ → Weight
-weight a b = record { num = a / divisor a b; den = b / divisor a b }
+weight a b = record { num = pos (a / divisor a b); den = pos (b / divisor a b) }
 
 -- a mix of two that are Blank is Blank
 abbrev pub mixed : List ℕ → Show → Show → ℤ → ℤ → Show
-mixed kind from to part whole = cond (is_blank from && is_blank to) Blank (Mix kind from to (weight (unsigned_abs part) (unsigned_abs whole)))
+mixed kind from to part whole =
+    cond (is_blank from && is_blank to) Blank
+    (Mix kind from to (weight (unsigned_abs part) (unsigned_abs whole)))
 
 -- the lengths added up
 abbrev pub total : List Look → ℤ
@@ -76,7 +78,8 @@ abbrev pub item_shows : List Look → ℤ → Show
 item_shows [] w = Blank
 item_shows (x ∷ l) w = cond (within (pos 0) x.length w) (x.shows w) (item_shows l (w -ℤ x.length))
 
--- what the first item of the list that is no transition shows at w from the list's start, also before it begins
+-- what the first item of the list that is no transition shows at w from the list's start, also
+-- before it begins
 abbrev pub next_shows : List Look → ℤ → Show
 next_shows [] w = Blank
 next_shows (x ∷ l) w = elim x.overlap [ None ↦ x.shows w | Some o ↦ next_shows l w ]
@@ -85,7 +88,8 @@ next_shows (x ∷ l) w = elim x.overlap [ None ↦ x.shows w | Some o ↦ next_s
 abbrev pub from_end : Look → ℤ → Show
 from_end x w = x.shows (w +ℤ x.length)
 
--- the mix of the first overlap that holds w; `last` is what the item before the list shows, counted from the list's start
+-- the mix of the first overlap that holds w; `last` is what the item before the list shows, counted
+-- from the list's start
 abbrev pub mix_shows : (ℤ → Show) → List Look → ℤ → Option Show
 mix_shows last [] w = None
 mix_shows last (x ∷ l) w = elim x.overlap [
@@ -95,14 +99,16 @@ mix_shows last (x ∷ l) w = elim x.overlap [
       (mix_shows last l w)
 ]
 
--- what a list shows at w: the mix of the first overlap that holds w, else what the item that holds w shows
+-- what a list shows at w: the mix of the first overlap that holds w, else what the item that holds
+-- w shows
 abbrev pub list_shows : List Look → ℤ → Show
 list_shows l w = unwrap_or (mix_shows blank l w) (item_shows l w)
 
 -- what a stack's children show at w: the last one that holds w and isn't Blank there
 abbrev pub stack_shows : List Look → ℤ → Show
 stack_shows [] w = Blank
-stack_shows (x ∷ l) w = cond (is_blank (stack_shows l w)) (cond (within (pos 0) x.length w) (x.shows w) Blank) (stack_shows l w)
+stack_shows (x ∷ l) w = cond (is_blank (stack_shows l w))
+    (cond (within (pos 0) x.length w) (x.shows w) Blank) (stack_shows l w)
 
 -- what a track's list shows at w, Blank outside its available range
 abbrev pub track_shows : List Look → ℤ → Show

@@ -9,9 +9,11 @@ use Rattle.otio_model.specs.declared.compositions.Listed.{Listed, fold-Listed}
 use Rattle.otio_model.specs.declared.compositions.Listed.TheOpen.{Listed-F}
 use Rattle.otio_model.specs.declared.timelines.Timeline.{Timeline}
 use Rattle.otio_model.specs.Trees.{items_of}
-use Rattle.coord.specs.Looks.{Show, Blank, FrameRate, within}
+use Rattle.otio_model.specs.Overlaps.{within}
+use Rattle.otio_model.specs.Lengths.{or_zero}
+use Rattle.coord.specs.Looks.{Show, Blank, FrameRate}
 use Rattle.coord.specs.Keys.{frame_rate, media_rate}
-use Rattle.coord.specs.Sights.{sight, known}
+use Rattle.coord.specs.Sights.{viewer, sight}
 
 -- the first that there is
 abbrev pub first_of : {A : Type 0} → List (Option A) → Option A
@@ -48,7 +50,12 @@ clip_rate (Some c) = rate_of_clip c
 
 -- the record rate: of the start, else of the first clip's media, else 24
 abbrev pub record_rate : Timeline → FrameRate
-record_rate t = elim t.global_start_time [ None ↦ clip_rate (first_clip t.tracks.children) | Some start ↦ frame_rate start.rate ]
+record_rate t =
+    elim t.global_start_time [
+      | None ↦ clip_rate
+          (first_clip t.tracks.children)
+      | Some start ↦ frame_rate start.rate
+    ]
 
 -- the ticks of a frame
 abbrev pub frame_ticks : FrameRate → ℕ
@@ -56,7 +63,12 @@ frame_ticks r = frame r.num r.den
 
 -- the number of the first record frame
 abbrev pub start_frame : Timeline → ℤ
-start_frame t = elim t.global_start_time [ None ↦ pos 0 | Some start ↦ int_div_euclid start.ticks (pos (frame_ticks (frame_rate start.rate))) ]
+start_frame t =
+    elim t.global_start_time [
+      | None ↦ pos 0
+      | Some start ↦ int_div_euclid start.ticks
+          (pos (frame_ticks (frame_rate start.rate)))
+    ]
 
 -- the kind of a root child: of a track its own, else video
 abbrev pub kind_of : ItemOf Listed → List ℕ
@@ -68,16 +80,17 @@ kind_of (Track t) = t.kind
 
 -- what a root child shows at u ticks, Blank outside its length
 abbrev pub child_shows : (FrameRate → FrameRate) → ItemOf Listed → ℤ → Show
-child_shows mark x u = cond (within (pos 0) (pos (known (sight x).length)) u) ((sight x).shows (record { kind = kind_of x; mark = mark }) u) Blank
+child_shows rate_kept x u = cond (within (pos 0) (pos (or_zero (sight x).length)) u)
+    ((sight x).shows (viewer rate_kept (kind_of x)) u) Blank
 
 -- what a root child shows, Blank where there is none
 abbrev pub shown_by : (FrameRate → FrameRate) → Option (ItemOf Listed) → ℤ → Show
-shown_by mark None u = Blank
-shown_by mark (Some x) u = child_shows mark x u
+shown_by rate_kept None u = Blank
+shown_by rate_kept (Some x) u = child_shows rate_kept x u
 
 -- what the root child k shows at u ticks
 abbrev pub at_by : (FrameRate → FrameRate) → Timeline → ℕ → ℤ → Show
-at_by mark t k u = shown_by mark (slice_get (items_of t.tracks.children) k) u
+at_by rate_kept t k u = shown_by rate_kept (slice_get (items_of t.tracks.children) k) u
 
 -- the same, with the media's whole rates
 abbrev pub at : Timeline → ℕ → ℤ → Show

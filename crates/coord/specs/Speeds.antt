@@ -6,9 +6,11 @@ use Rattle.otio_model.specs.declared.warps.Effect.TheVariants.{Warp, Freeze, Pla
 use Rattle.otio_model.specs.declared.compositions.ItemOf.{ItemOf}
 use Rattle.otio_model.specs.declared.compositions.ItemOf.TheVariants.{Clip, Gap, Transition, Stack, Track}
 
--- the rest of a division by a million is less than half of it, or is half of it and the quotient is even
+-- the rest of a division by a million is less than half of it, or is half of it and the quotient is
+-- even
 abbrev pub is_rounded_down : ℤ → ℤ → Bool
-is_rounded_down quotient rest = int_lt rest (pos 500000) || (int_le rest (pos 500000) && (unsigned_abs quotient % 2 == 0))
+is_rounded_down quotient rest =
+    int_lt rest (pos 500000) || (int_le rest (pos 500000) && (unsigned_abs quotient % 2 == 0))
 
 -- so many millionths as a whole number, rounded half to even
 abbrev pub from_millionths : ℤ → ℤ
@@ -18,16 +20,16 @@ from_millionths z =
     (int_div_euclid z (pos 1000000) +ℤ pos 1)
 
 -- the speed after one more effect: a warp multiplies it, a still stops, all others leave it
-abbrev pub sped : ℤ → Effect → ℤ
-sped speed (Warp w) = from_millionths (speed *ℤ w.time_scalar)
-sped speed (Freeze f) = pos 0
-sped speed (Plain p) = speed
-sped speed (Kept j) = speed
+abbrev pub next_speed : ℤ → Effect → ℤ
+next_speed speed (Warp w) = from_millionths (speed *ℤ w.time_scalar)
+next_speed speed (Freeze f) = pos 0
+next_speed speed (Plain p) = speed
+next_speed speed (Kept j) = speed
 
 -- the speed after these effects, one after another
 abbrev pub combined : ℤ → List Effect → ℤ
 combined speed [] = speed
-combined speed (e ∷ es) = combined (sped speed e) es
+combined speed (e ∷ es) = combined (next_speed speed e) es
 
 -- at most 1000 times, either way
 abbrev pub is_speed : ℤ → Bool
@@ -36,7 +38,7 @@ is_speed speed = int_le (pos 0 -ℤ pos 1000000000) speed && int_le speed (pos 1
 -- the speed is at most 1000 times, either way, after each of these effects
 abbrev pub keeps_speed : ℤ → List Effect → Bool
 keeps_speed speed [] = true
-keeps_speed speed (e ∷ es) = is_speed (sped speed e) && keeps_speed (sped speed e) es
+keeps_speed speed (e ∷ es) = is_speed (next_speed speed e) && keeps_speed (next_speed speed e) es
 
 -- the speed after these effects, none where it passes 1000 times on the way
 abbrev pub kept_speed : ℤ → List Effect → Option ℤ

@@ -27,10 +27,16 @@ abbrev pub dissolve : ℕ → ℕ → Look
 dissolve before after = record {
   length = pos 0;
   shows = λ u. Blank;
-  overlap = Some (record { kind = codes "SMPTE_Dissolve"; before = pos (frames before); after = pos (frames after) });
+  overlap = Some (record {
+    kind = codes "SMPTE_Dissolve";
+    before = pos (frames before);
+    after =
+        pos (frames after);
+  });
 }
 
--- 48 frames of a from 100 on, and of b from 200 on, with a dissolve from 10 frames before the cut to 14 behind it
+-- 48 frames of a from 100 on, and of b from 200 on, with a dissolve from 10 frames before the cut
+-- to 14 behind it
 abbrev pub joined : List Look
 joined = shot (codes "a") 100 48 ∷ dissolve 10 14 ∷ shot (codes "b") 200 48 ∷ []
 
@@ -40,7 +46,8 @@ conformed = shot (codes "a") 100 38 ∷ dissolve 0 24 ∷ shot (codes "b") 190 5
 
 -- so many parts of so many of one frame of b over one of a
 abbrev pub mix_of : ℕ → ℕ → ℕ → ℕ → Show
-mix_of a b num den = Mix (codes "SMPTE_Dissolve") (frame_of (codes "a") a) (frame_of (codes "b") b) (record { num = num; den = den })
+mix_of a b num den = Mix (codes "SMPTE_Dissolve") (frame_of (codes "a") a) (frame_of (codes "b") b)
+    (record { num = pos num; den = pos den })
 
 -- what the two lists show at some frames
 pub record AreWorked : Type 0 where

@@ -9,7 +9,8 @@ pub enum ItemFault {
     NoLength,
     /// Its speed passes 1000 either way after some effect.
     Speed,
-    /// It passes a million seconds: in its length, in what is available, or where it ends in its media.
+    /// It passes a million seconds: in its length, in what is available, or where it ends in its
+    /// media.
     Long,
 }
 
@@ -22,7 +23,8 @@ pub enum CoordFault {
     NoLength(Place),
     /// The speed of the item at the place passes 1000 either way after some effect.
     Speed(Place),
-    /// The item at the place passes a million seconds: in its length, in what is available, or where it ends in its media.
+    /// The item at the place passes a million seconds: in its length, in what is available, or
+    /// where it ends in its media.
     Long(Place),
     /// Memory ran out.
     Memory,

@@ -1,20 +1,20 @@
-//! Whether a timeline is sound, and its first fault where it isn't.
+//! Whether a timeline has a fault, and its first one.
 
-ghost use Rattle.std.specs.Prelude.{◌≡◌, ℕ, ◌<◌, ◌^◌, ◌∷◌, pos, ◌≤ℤ◌, ◌-ℤ◌, Some, None, IfErr, IfSome, OnOk, ◌+ℤ◌, ◌*ℤ◌, IsTrue, ◌↔◌, slice_get, length, unsigned_abs};
+ghost use Rattle.std.specs.Prelude.{◌≡◌, ℕ, ◌<◌, ◌≤◌, ◌^◌, ◌∷◌, pos, ◌≤ℤ◌, ◌-ℤ◌, Some, None, IfErr, IfSome, OnOk, ◌+ℤ◌, ◌*ℤ◌, IsTrue, ◌↔◌, slice_get, length, unsigned_abs};
+ghost use Rattle.limits.specs.Limits.{most_ticks};
 ghost use Rattle.tick_time.specs.Times.{IsSpeed};
 ghost use Rattle.otio_model.specs.Trees.{items_of};
 ghost use Rattle.otio_model.specs.Lengths.{length_of, lengths, added};
-ghost use Rattle.otio_model.specs.Sums.{capped, greatest};
 ghost use Rattle.otio_model.specs.Counts.{count, count_of};
-ghost use Rattle.coord.specs.Sights as sights;
+ghost use Rattle.coord.specs.Soundness.{IsFaultlessItem};
 ghost use Rattle.coord.specs.Speeds.{speed_of};
 ghost use Rattle.coord.specs.Soundness as soundness;
-ghost use Rattle.coord.specs.Found.{IsSoundItem, IsFoundIn, IsFoundAt, IsUnder};
+ghost use Rattle.coord.specs.Walk.{IsFoundIn, IsFoundAt, IsUnder};
 
-use crate::children::child;
 use crate::faults::{CoordFault, ItemFault};
 use crate::speeds::item_speed;
 use crate::timing::trimmed_start;
+use limits::MOST_TICKS;
 use otio_model::{Children, Item, ItemOf, Place, Timeline};
 use std::alloc::Global;
 use tick_time::Span;
@@ -29,47 +29,10 @@ pub(crate) enum Found {
 }
 
 /// A million seconds in ticks.
-const MOST_TICKS: u128 = 705_600_000_000_000_000_000_000;
+const MOST_LENGTH: u128 = MOST_TICKS as u128;
 
 /// A million seconds in millionths of a tick.
-const MOST_END: i128 = 705_600_000_000_000_000_000_000_000_000;
-
-/// The length of an item, 0 where it has none.
-fn known_ticks(item: &Item) -> u128
-    requires few { count_of item.now < 2 ^ 32 }
-    ensures { result ≡ sights.known (length_of item.now) }
-{
-    match item.length() {
-        Some(ticks) => ticks.unsigned_abs(),
-        None => 0,
-    }
-}
-
-#[tactic(auto, using(crate::proofs::Sums::sum_first, crate::proofs::Sums::sum_next, crate::proofs::Sums::sum_end, crate::proofs::Sums::child_few))]
-/// The lengths of children added up, one that has none as 0, up to the greatest number of 128 bits.
-fn sum_of(children: &Children) -> u128
-    requires few { count children.now < 2 ^ 32 }
-    ensures { capped result ≡ capped (added (lengths children.now)) }
-{
-    let mut sum: u128 = 0;
-    'children: for index in 0..children.len() {
-        sum = known_ticks(child(children, index)).saturating_add(sum);
-    }
-    sum
-}
-
-#[tactic(auto, using(crate::proofs::Sums::longest_first, crate::proofs::Sums::longest_next, crate::proofs::Sums::longest_end, crate::proofs::Sums::child_few))]
-/// The greatest length of children, one that has none as 0.
-fn longest_of(children: &Children) -> u128
-    requires few { count children.now < 2 ^ 32 }
-    ensures { result ≡ greatest (lengths children.now) }
-{
-    let mut longest: u128 = 0;
-    'children: for index in 0..children.len() {
-        longest = longest.max(known_ticks(child(children, index)));
-    }
-    longest
-}
+const MOST_END: i128 = MOST_TICKS * 1_000_000;
 
 /// The length of a span, 0 where there is none.
 fn span_ticks(span: Option<Span>) -> u128
@@ -81,25 +44,25 @@ fn span_ticks(span: Option<Span>) -> u128
     }
 }
 
-/// How long the available range is, where a child without a length counts 0, up to the greatest number of 128 bits.
+/// How long the available range is, where a child without a length counts 0.
 fn available_ticks(item: &Item) -> u128
     requires few { count_of item.now < 2 ^ 32 }
-    ensures { capped result ≡ capped (soundness.available_ticks item.now) }
+    ensures { result ≡ soundness.available_ticks item.now }
 {
     match item {
         ItemOf::Clip(clip) => span_ticks(clip.available_range()),
         ItemOf::Gap(_) => 0,
         ItemOf::Transition(_) => 0,
-        ItemOf::Stack(stack) => longest_of(&stack.children),
-        ItemOf::Track(track) => sum_of(&track.children),
+        ItemOf::Stack(stack) => stack.children.longest_ticks(),
+        ItemOf::Track(track) => track.children.added_ticks(),
     }
 }
 
 /// Where so many ticks end in the media, in millionths of a tick.
 fn media_end(start: i128, ticks: u128, speed: i64) -> i128
-    requires low { (pos 0 -ℤ pos 705600000000000000000000) ≤ℤ start }
-    requires high { start ≤ℤ pos 705600000000000000000000 }
-    requires ticks { ticks < 705600000000000000000001 }
+    requires low { (pos 0 -ℤ pos most_ticks) ≤ℤ start }
+    requires high { start ≤ℤ pos most_ticks }
+    requires ticks { ticks ≤ most_ticks }
     requires speed_low { (pos 0 -ℤ pos 1000000000) ≤ℤ speed }
     requires speed_high { speed ≤ℤ pos 1000000000 }
     ensures { result ≡ (start *ℤ pos 1000000) +ℤ (pos ticks *ℤ speed) }
@@ -110,7 +73,7 @@ fn media_end(start: i128, ticks: u128, speed: i64) -> i128
 /// How far so many ticks go in the media, in millionths of a tick.
 fn media_ticks(ticks: i128, speed: i64) -> i128
     requires low { pos 0 ≤ℤ ticks }
-    requires high { ticks ≤ℤ pos 705600000000000000000000 }
+    requires high { ticks ≤ℤ pos most_ticks }
     requires speed_low { (pos 0 -ℤ pos 1000000000) ≤ℤ speed }
     requires speed_high { speed ≤ℤ pos 1000000000 }
     ensures value { result ≡ (ticks *ℤ speed) }
@@ -128,7 +91,7 @@ fn is_long(item: &Item, ticks: u128, speed: i64) -> bool
     requires same { speed ≡ speed_of item.now }
     ensures { result ≡ soundness.is_long item.now ticks }
 {
-    if MOST_TICKS < ticks || MOST_TICKS < available_ticks(item) {
+    if MOST_LENGTH < ticks || MOST_LENGTH < available_ticks(item) {
         return true;
     }
     let end = media_end(trimmed_start(item), ticks, speed);
@@ -185,7 +148,7 @@ fn under(index: usize, found: Found) -> Found
 #[cycle(judge)]
 fn judge_item(alloc: Global, item: &Item) -> Result<(), Found>
     requires few { count_of item.now < 2 ^ 32 }
-    ensures ok { OnOk result (IsSoundItem item.now) }
+    ensures ok { OnOk result (IsFaultlessItem item.now) }
     ensures found { IfErr result (IsFoundAt item.now) }
 {
     match fault_of(item) {
@@ -200,16 +163,16 @@ fn judge_item(alloc: Global, item: &Item) -> Result<(), Found>
     }
 }
 
-#[tactic(auto, using(crate::proofs::Judged::sound_next, crate::proofs::Judged::sound_all, crate::proofs::Judged::found_under, crate::proofs::Sums::child_few, crate::proofs::Sums::index_few))]
+#[tactic(auto, using(crate::proofs::Judged::sound_next, crate::proofs::Judged::sound_all, crate::proofs::Judged::found_under, crate::proofs::Members::child_few, crate::proofs::Members::index_few))]
 /// Looks for the first fault of children and those below them.
 #[cycle(judge)]
 fn judge_children(alloc: Global, children: &Children) -> Result<(), Found>
     requires few { count children.now < 2 ^ 32 }
-    ensures ok { OnOk result (soundness.AreSound children.now) }
+    ensures ok { OnOk result (soundness.AreFaultless children.now) }
     ensures found { IfErr result (IsFoundIn children.now) }
 {
     'children: for index in 0..children.len() {
-        match judge_item(alloc, child(children, index)) {
+        match judge_item(alloc, children.child(index)) {
             Ok(()) => {}
             Err(found) => return Err(under(index, found)),
         }
@@ -232,8 +195,8 @@ fn place_of(alloc: Global, way: &[u32]) -> Option<Place>
 }
 
 /// The fault of an item as that of its timeline.
-fn told(place: Place, fault: ItemFault) -> CoordFault
-    ensures { result ≡ soundness.told place fault }
+fn fault_at(place: Place, fault: ItemFault) -> CoordFault
+    ensures { result ≡ soundness.fault_at place fault }
 {
     match fault {
         ItemFault::NoLength => CoordFault::NoLength(place),
@@ -252,12 +215,17 @@ fn starts_on_frame(timeline: &Timeline) -> bool
     }
 }
 
-/// Looks whether a timeline is sound. The error names its first fault: that it begins on no frame, else that of the first item, in
-/// document order, that has one; an item's is that it has no length, else that its speed passes 1000 either way, else that it
-/// passes a million seconds. Memory is wanted only for the place of a fault.
+/// Looks whether a timeline has a fault; one that has none, and whose transitions stand where they
+/// may, is sound. The error names its first fault:
+///
+/// - [`CoordFault::StartOffFrame`]: it begins on no frame of its own rate;
+/// - else that of the first item, in document order, that has one. An item's is
+/// [`CoordFault::NoLength`], else [`CoordFault::Speed`], else [`CoordFault::Long`]. The root stack
+/// and transitions have none;
+/// - [`CoordFault::Memory`]: there is a fault of an item, and no memory for its place.
 pub fn sound(alloc: Global, timeline: &Timeline) -> Result<(), CoordFault>
     requires few { count timeline.now.tracks.children < 2 ^ 32 }
-    ensures ok { OnOk result (soundness.IsSound timeline.now) }
+    ensures ok { OnOk result (soundness.IsFaultless timeline.now) }
     ensures fault { IfErr result (soundness.IsFaultOf timeline.now) }
 {
     if !starts_on_frame(timeline) {
@@ -267,14 +235,14 @@ pub fn sound(alloc: Global, timeline: &Timeline) -> Result<(), CoordFault>
         Ok(()) => Ok(()),
         Err(Found::Memory) => Err(CoordFault::Memory),
         Err(Found::At(way, fault)) => match place_of(alloc, way.as_slice()) {
-            Some(place) => Err(told(place, fault)),
+            Some(place) => Err(fault_at(place, fault)),
             None => Err(CoordFault::Memory),
         },
     }
 }
 
 #[tactic(auto, using(crate::proofs::Kept::kept_is))]
-/// The speed of an item, in millionths.
+/// The speed of an item without a fault, in millionths: by its effects, one after another.
 pub fn speed(item: &Item) -> i64
     requires { soundness.fault_of item.now ≡ None }
     ensures value { result ≡ speed_of item.now }

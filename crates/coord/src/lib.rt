@@ -1,11 +1,10 @@
 //! What timelines show, and which of them are sound.
 //!
-//! The definitions of `specs/` say what an item, a list and a timeline show at each instant, and where a timeline has its first
-//! fault. They stand over the plain list that contracts see of [`Children`](otio_model::Children). Instants and lengths are counted
-//! in ticks.
+//! The definitions of `specs/` say what an item, a list and a timeline show at each instant, and
+//! where a timeline has its first fault. They stand over the plain list that contracts see of
+//! [`Children`](otio_model::Children). Instants and lengths are counted in ticks.
 #![tactic(auto)]
 
-mod children;
 mod faults;
 mod judging;
 mod laws;
@@ -15,8 +14,8 @@ mod timing;
 pub use faults::{CoordFault, ItemFault};
 pub use judging::{sound, speed};
 pub use laws::{
-    agreement_is_seen, bare_is_seen, dissolves_are_mixed, first_fault_is_one, lengths_are_seen,
-    one_fault, sound_or_faulty,
+    agreement_is_seen, bare_is_seen, dissolves_are_mixed, divisor_is_greatest, first_fault_is_one,
+    items_are_worked, lengths_are_seen, one_fault, sound_or_faulty, weights_are_lowest,
 };
 pub use timing::{record_rate, start_frame, trimmed_start};
 

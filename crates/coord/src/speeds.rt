@@ -51,10 +51,10 @@ fn product(speed: i128, scalar: i64) -> i128
 }
 
 /// The speed after one more effect.
-fn sped(speed: i128, effect: &Effect) -> i128
+fn next_speed(speed: i128, effect: &Effect) -> i128
     requires low { (pos 0 -ℤ pos 1000000000) ≤ℤ speed }
     requires high { speed ≤ℤ pos 1000000000 }
-    ensures { result ≡ speeds.sped speed effect.now }
+    ensures { result ≡ speeds.next_speed speed effect.now }
 {
     match effect {
         Effect::Warp(warp) => times(speed, warp.time_scalar.0),
@@ -70,14 +70,15 @@ fn is_speed(speed: i128) -> bool
     -1_000_000_000 <= speed && speed <= 1_000_000_000
 }
 
-/// The speed after these effects, in millionths. `None` exactly where it passes 1000 times, either way, after one of them.
+/// The speed after these effects, in millionths. `None` exactly where it passes 1000 times, either
+/// way, after one of them.
 pub(crate) fn kept_speed(effects: &[Effect]) -> Option<i64>
     ensures speed { result ≡ speeds.kept_speed (pos 1000000) effects.now }
     ensures range { IfSome result IsSpeed }
 {
     let mut speed: i128 = 1_000_000;
     'effects: for effect in effects {
-        speed = sped(speed, effect);
+        speed = next_speed(speed, effect);
         if !is_speed(speed) {
             return None;
         }

@@ -1,6 +1,6 @@
 //! Faults, rates and speeds of small timelines.
 
-ghost use Rattle.std.specs.Prelude.{◌≡◌, ◌+◌, IfOk, pos, ◌-ℤ◌, ◌≤ℤ◌};
+ghost use Rattle.std.specs.Prelude.{◌≡◌, ◌<◌, ◌+◌, IfOk, pos, ◌-ℤ◌, ◌≤ℤ◌};
 ghost use Rattle.otio_model.specs.Counts.{count, count_of};
 
 use crate::speeds::kept_speed;
@@ -78,11 +78,23 @@ fn media(alloc: Global, available_range: Option<Span>) -> Result<MediaMap, Alloc
 fn clip(alloc: Global, source_range: Option<Span>, media_references: MediaMap) -> Item
     ensures { count_of result ≡ 1 }
 {
+    played(alloc, source_range, media_references, Effects::new(alloc))
+}
+
+/// A clip with effects.
+fn played(
+    alloc: Global,
+    source_range: Option<Span>,
+    media_references: MediaMap,
+    effects: Effects,
+) -> Item
+    ensures { count_of result ≡ 1 }
+{
     ItemOf::Clip(Clip {
         metadata: NamedValues::new(alloc),
         name: nameless(alloc),
         source_range,
-        effects: Effects::new(alloc),
+        effects,
         markers: Markers::new(alloc),
         enabled: true,
         media_references,
@@ -91,7 +103,7 @@ fn clip(alloc: Global, source_range: Option<Span>, media_references: MediaMap) -
     })
 }
 
-#[tactic(auto, using(crate::proofs::Sums::one_counts))]
+#[tactic(auto, using(crate::proofs::Members::one_counts))]
 fn one(alloc: Global, item: Item) -> Result<Children, AllocError>
     ensures { IfOk result (λ children. count children ≡ count_of item) }
 {
@@ -154,6 +166,10 @@ enum Outcome {
     Sound,
     /// The child of the root without a length.
     NoLength(u32),
+    /// A speed past 1000, of an item so many levels below the root.
+    Speed(usize),
+    /// An item past a million seconds, so many levels below the root.
+    Long(usize),
     /// Something else.
     Other,
 }
@@ -170,16 +186,46 @@ fn outcome_of(found: Result<(), CoordFault>) -> Outcome {
                 None => Outcome::Other,
             }
         }
+        Err(CoordFault::Speed(place)) => Outcome::Speed(place.len()),
+        Err(CoordFault::Long(place)) => Outcome::Long(place.len()),
         Err(_) => Outcome::Other,
     }
 }
 
-/// What is found in a timeline of one track with one clip.
+/// What is found in a timeline of one track with one item.
 fn judged(alloc: Global, item: Item) -> Result<Outcome, AllocError>
-    requires { count_of item ≡ 1 }
+    requires { count_of item < 100 }
 {
     let timeline = timeline(alloc, None, item)?;
     Ok(outcome_of(sound(alloc, &timeline)))
+}
+
+/// What is found in a timeline of one track with a track of one clip.
+fn judged_deeper(alloc: Global, item: Item) -> Result<Outcome, AllocError>
+    requires { count_of item ≡ 1 }
+{
+    let inner = one(alloc, item)?;
+    judged(alloc, track(alloc, inner))
+}
+
+/// A clip that is played at 2000 times its speed.
+fn fast(alloc: Global) -> Result<Item, AllocError>
+    ensures { IfOk result (λ item. count_of item ≡ 1) }
+{
+    let effects = vec![in alloc; warp(alloc, 1_000_000_000), warp(alloc, 2_000_000)]?;
+    Ok(played(
+        alloc,
+        span(0, 24, rate_24()),
+        MediaMap::new(alloc),
+        Effects::of(effects),
+    ))
+}
+
+/// A clip whose media end behind a million seconds.
+fn late(alloc: Global) -> Item
+    ensures { count_of result ≡ 1 }
+{
+    clip(alloc, span(23_999_999, 24, rate_24()), MediaMap::new(alloc))
 }
 
 /// The record rate and the number of the first frame of a timeline of one track with one clip.
@@ -285,5 +331,25 @@ fn a_timeline_of_a_clip_with_a_range_is_sound(rt: HostRuntime) -> Result<(), Fai
         MediaMap::new(rt.alloc()),
     );
     assert_eq!(rt; judged(rt.alloc(), item)?, Outcome::Sound);
+    Ok(())
+}
+
+#[test]
+fn a_speed_is_found_at_each_depth(rt: HostRuntime) -> Result<(), Fail> {
+    assert_eq!(rt; judged(rt.alloc(), fast(rt.alloc())?)?, Outcome::Speed(2));
+    assert_eq!(rt;
+        judged_deeper(rt.alloc(), fast(rt.alloc())?)?,
+        Outcome::Speed(3)
+    );
+    Ok(())
+}
+
+#[test]
+fn an_end_is_found_at_each_depth(rt: HostRuntime) -> Result<(), Fail> {
+    assert_eq!(rt; judged(rt.alloc(), late(rt.alloc()))?, Outcome::Long(2));
+    assert_eq!(rt;
+        judged_deeper(rt.alloc(), late(rt.alloc()))?,
+        Outcome::Long(3)
+    );
     Ok(())
 }

@@ -1,36 +1,40 @@
 //! When items and timelines start, and at which rate a timeline is counted.
 
-ghost use Rattle.std.specs.Prelude.{◌≡◌};
-ghost use Rattle.std.specs.Option.{option_copied};
-ghost use Rattle.coord.specs.Sights as sights;
+ghost use Rattle.std.specs.Prelude.{◌≡◌, option_map};
+ghost use Rattle.std.specs.Option.{option_copied, option_or};
+ghost use Rattle.otio_model.specs.Lengths as lengths;
 ghost use Rattle.coord.specs.Keys.{frame_rate};
 ghost use Rattle.coord.specs.Programs as programs;
 
-use crate::children::child;
 use otio_model::{Children, Clip, Item, ItemOf, Timeline};
 use tick_time::{Rate, Span};
 
-/// The start of a span, else another instant.
-fn start_or(range: Option<Span>, other: i128) -> i128
-    ensures { result ≡ sights.start_or range other }
+/// Where a span starts, else another one, else 0.
+fn start_of(span: Option<Span>, other: Option<Span>) -> i128
+    ensures { result ≡ lengths.range_start (option_or (option_map lengths.range_of span)
+        (option_map lengths.range_of other)) }
 {
-    match range {
+    match span {
         Some(span) => span.start.ticks,
-        None => other,
+        None => match other {
+            Some(other) => other.start.ticks,
+            None => 0,
+        },
     }
 }
 
-/// Where the trimmed range of an item starts, in ticks of its media or its children: with its source_range, else with what is
-/// available.
+#[tactic(auto, using(crate::proofs::Starts::from_zero_starts))]
+/// Where the trimmed range of an item starts, in ticks of its media or its children: with its
+/// source_range, else with what is available.
 pub fn trimmed_start(item: &Item) -> i128
-    ensures { result ≡ sights.trimmed_start item.now }
+    ensures { result ≡ lengths.trimmed_start item.now }
 {
     match item {
-        ItemOf::Clip(clip) => start_or(clip.source_range, start_or(clip.available_range(), 0)),
-        ItemOf::Gap(gap) => start_or(gap.source_range, 0),
+        ItemOf::Clip(clip) => start_of(clip.source_range, clip.available_range()),
+        ItemOf::Gap(gap) => start_of(gap.source_range, None),
         ItemOf::Transition(_) => 0,
-        ItemOf::Stack(stack) => start_or(stack.source_range, 0),
-        ItemOf::Track(track) => start_or(track.source_range, 0),
+        ItemOf::Stack(stack) => start_of(stack.source_range, None),
+        ItemOf::Track(track) => start_of(track.source_range, None),
     }
 }
 
@@ -74,7 +78,7 @@ fn first_clip(children: &Children) -> Option<&Clip>
     ensures { option_copied result ≡ programs.first_clip children.now }
 {
     'children: for index in 0..children.len() {
-        match clip_in(child(children, index)) {
+        match clip_in(children.child(index)) {
             Some(clip) => return Some(clip),
             None => {}
         }

@@ -18,20 +18,31 @@ pub record Standing : Type 0 where
   pub failed : Bool
 
 abbrev pub standing : {W : Type 0} → (W → Option KnownOut) → (W → ℕ) → W → OutBuffer → Standing
-standing known faults out buffer = record { known = known out; faults = faults out; held = buffer.held.items; failed = buffer.failed }
+standing known faults out buffer = record {
+  known = known out;
+  faults = faults out;
+  held = buffer.held.items;
+  failed = buffer.failed;
+}
 
 -- the stream was sent the front of what was held and handed over, and the rest of it is held
 abbrev pub SendsFront : List ℕ → List ℕ → KnownOut → KnownOut → Type 0
 SendsFront all held old new = (front : List ℕ) × (all ≡ front ++ held) × Adds front old new
 
--- The bytes were handed over. Where a write failed now, the stream was sent a prefix of all that was handed over, and
--- its count of faults rose. Where one had failed before, nothing happens.
+-- The bytes were handed over. Where a write failed now, the stream was sent a prefix of all that
+-- was handed over, and its count of faults rose. Where one had failed before, nothing happens.
 pub record Puts (old new : Standing) (bytes : List ℕ) : Type 0 where
   pub later : old.faults ≤ new.faults
   pub goes : MatchBool old.failed (new ≡ old) (
       MatchBool new.failed
       (Rose old.faults new.faults × Tells (AddsPrefix (old.held ++ bytes)) old.known new.known)
       (Tells (SendsFront (old.held ++ bytes) new.held) old.known new.known))
+
+-- the bytes were handed over to a stream through the buffer beside it
+abbrev pub HandsOver : {W : Type 0} → (W → Option KnownOut) → (W → ℕ) → (old new : W) →
+    (before after : OutBuffer) → List ℕ → Type 0
+HandsOver known faults old new before after bytes =
+    Puts (standing known faults old before) (standing known faults new after) bytes
 
 -- All that was handed over was sent, or a prefix of it.
 pub record Flushes {T E : Type 0} (old new : Standing) (result : Result T E) : Type 0 where

@@ -5,7 +5,10 @@ use Rattle.dev_io.specs.Timetable.{Timetable, timetable_of}
 use Rattle.dev_io.specs.declared.mem_out.MemOut.{MemOut}
 
 abbrev pub out_known : MemOut → KnownOut
-out_known s = record { target = (if s.aimed then Some (string_bytes s.name) else None); sent = s.sent.items }
+out_known s = record {
+  target = (if s.aimed then Some (string_bytes s.name) else None);
+  sent = s.sent.items;
+}
 
 -- which calls fail, how many bytes a write takes at most, and how many calls have failed
 abbrev pub out_timetable : MemOut → Timetable

@@ -42,4 +42,8 @@ read_last None = Missing
 read_last (Some at) = Read at.0 at.1
 
 abbrev pub files_known : List MemFile → Option (ℕ × ℕ) → Last → KnownFiles
-files_known files at last = record { held = held_by files; hand = hand_of files at; last = last_of files last }
+files_known files at last = record {
+  held = held_by files;
+  hand = hand_of files at;
+  last = last_of files last;
+}

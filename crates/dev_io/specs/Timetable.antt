@@ -32,10 +32,18 @@ IsDue t = Contains t.failing t.next_call
 
 -- after a call that failed or did not
 abbrev pub after_call : Bool → Timetable → Timetable
-after_call failed t = record t { next_call = raised t.next_call; faults = raised_if failed t.faults }
+after_call failed t = record t {
+  next_call = raised t.next_call;
+  faults = raised_if failed t.faults;
+}
 
 abbrev pub timetable_of : Schedule → Timetable
-timetable_of s = record { failing = s.failing.items; next_call = raised s.calls; most = s.most; faults = s.faults }
+timetable_of s = record {
+  failing = s.failing.items;
+  next_call = raised s.calls;
+  most = s.most;
+  faults = s.faults;
+}
 
 -- whether opening failed
 abbrev pub is_failed : Opened → Bool

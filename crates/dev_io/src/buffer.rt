@@ -7,14 +7,16 @@ ghost use Rattle.dev_io.specs.Parts.{joined};
 use crate::output::{Out, WriteFault, write_all};
 use arrayvec::ArrayVec;
 
-/// How many bytes a buffer holds at most, which is about the size of the pieces that a stream is handed.
+/// How many bytes a buffer holds at most, which is about the size of the pieces that a stream is
+/// handed.
 pub const BUFFER_SIZE: usize = 8192;
 
-/// A buffer of fixed size that goes beside a stream, so that many small texts leave in pieces of some kilobytes.
+/// A buffer of fixed size that goes beside a stream, so that many small texts leave in pieces of
+/// some kilobytes.
 ///
-/// It keeps whether a write failed. From then on it takes what it is handed and sends nothing, so a writer of many
-/// parts hands them over one by one and asks once, at `flush`. What is held when it is dropped is not sent. It takes
-/// no memory.
+/// It keeps whether a write failed. From then on it takes what it is handed and sends nothing, so a
+/// writer of many parts hands them over one by one and asks once, at `flush`. What is held when it
+/// is dropped is not sent. It takes no memory.
 #[derive(Drop)]
 pub struct OutBuffer {
     held: ArrayVec<u8, BUFFER_SIZE>,
@@ -22,7 +24,7 @@ pub struct OutBuffer {
 }
 
 impl OutBuffer {
-    ghost use Rattle.dev_io.specs.Buffer.{standing, Puts, Flushes, held_of, has_failed};
+    ghost use Rattle.dev_io.specs.Buffer.{standing, HandsOver, Flushes, held_of, has_failed};
 
     /// An empty buffer.
     pub fn new() -> OutBuffer
@@ -35,11 +37,11 @@ impl OutBuffer {
         }
     }
 
-    /// Hands these bytes over. What was held is sent where there is no room for them, and they too where they are
-    /// too many for an empty buffer.
+    /// Hands these bytes over. What was held is sent where there is no room for them, and they too
+    /// where they are too many for an empty buffer.
     #[inline]
     pub fn put<W: Out>(&mut self, out: &mut W, bytes: &[u8])
-        ensures { Puts (standing W.known W.faults out.old self.old) (standing W.known W.faults out.new self.new) bytes.now }
+        ensures { HandsOver W.known W.faults out.old out.new self.old self.new bytes.now }
     {
         if self.failed {
             return;
@@ -54,7 +56,7 @@ impl OutBuffer {
     #[inline(never)]
     fn put_past<W: Out>(&mut self, out: &mut W, bytes: &[u8])
         requires { has_failed self.old ≡ false }
-        ensures { Puts (standing W.known W.faults out.old self.old) (standing W.known W.faults out.new self.new) bytes.now }
+        ensures { HandsOver W.known W.faults out.old out.new self.old self.new bytes.now }
     {
         match self.flush(out) {
             Ok(()) => self.put_first(out, bytes),
@@ -66,7 +68,7 @@ impl OutBuffer {
     fn put_first<W: Out>(&mut self, out: &mut W, bytes: &[u8])
         requires empty { held_of self.old ≡ [] }
         requires sound { has_failed self.old ≡ false }
-        ensures { Puts (standing W.known W.faults out.old self.old) (standing W.known W.faults out.new self.new) bytes.now }
+        ensures { HandsOver W.known W.faults out.old out.new self.old self.new bytes.now }
     {
         match self.held.try_extend_from_slice(bytes) {
             Ok(()) => {}
@@ -79,17 +81,18 @@ impl OutBuffer {
 
     /// Hands these parts over, one after another.
     pub fn put_parts<W: Out>(&mut self, out: &mut W, parts: &[&[u8]])
-        ensures { Puts (standing W.known W.faults out.old self.old) (standing W.known W.faults out.new self.new) (joined parts.now) }
+        ensures { HandsOver W.known W.faults out.old out.new self.old self.new (joined parts.now) }
     {
         for part in parts {
             self.put(out, part);
         }
     }
 
-    /// Sends what is held. `Sink` comes where a write has failed, now or before, and then a prefix of all that was
-    /// handed over was sent.
+    /// Sends what is held. `Sink` comes where a write has failed, now or before, and then a prefix
+    /// of all that was handed over was sent.
     pub fn flush<W: Out>(&mut self, out: &mut W) -> Result<(), WriteFault>
-        ensures sent { Flushes (standing W.known W.faults out.old self.old) (standing W.known W.faults out.new self.new) result }
+        ensures sent { Flushes (standing W.known W.faults out.old self.old)
+            (standing W.known W.faults out.new self.new) result }
         ensures empty { OnOk result (held_of self.new ≡ []) }
         ensures failed { IsTrue (has_failed self.new) ↔ IsErr result }
     {
@@ -109,7 +112,8 @@ impl OutBuffer {
     }
 }
 
-/// Sends the parts, one after another, through a buffer. Where it fails, a prefix of all of them was sent.
+/// Sends the parts, one after another, through a buffer. Where it fails, a prefix of all of them
+/// was sent.
 pub fn write_parts<W: Out>(out: &mut W, parts: &[&[u8]]) -> Result<(), WriteFault>
     ensures told { Tells (SendsAll (joined parts.now) result) (W.known out.old) (W.known out.new) }
     ensures cause { HasCause (W.faults out.old) (W.faults out.new) result }

@@ -23,8 +23,9 @@ pub enum Opened {
 
 /// Files by name, one of them in hand.
 ///
-/// It may tell what each name holds, which no call changes, the file in hand with what is left of it, and the last
-/// call that failed. Its count of faults never falls, and only a call that answers that it failed raises it.
+/// It may tell what each name holds, which no call changes, the file in hand with what is left of
+/// it, and the last call that failed. Its count of faults never falls, and only a call that answers
+/// that it failed raises it.
 pub trait Files {
     /// What it tells of its files, where it tells.
     ghost known: { Self → Option KnownFiles };
@@ -32,14 +33,15 @@ pub trait Files {
     /// How often a call failed.
     ghost faults: { Self → ℕ };
 
-    /// Takes the file of that name in hand, from its first byte on, in place of the one in hand before. The name `-`
-    /// is the standard input.
+    /// Takes the file of that name in hand, from its first byte on, in place of the one in hand
+    /// before. The name `-` is the standard input.
     fn open_file(&mut self, name: &str) -> Opened
         ensures told { Tells (Opens name.now result) (known self.old) (known self.new) }
         ensures cause { HasOpenCause (faults self.old) (faults self.new) result };
 
-    /// Reads the next bytes of the file in hand into the front of `buf`, at least one while any are left, and says how
-    /// many; 0 is the end, also where no file is in hand. Where it fails, what is left is as before.
+    /// Reads the next bytes of the file in hand into the front of `buf`, at least one while any are
+    /// left, and says how many; 0 is the end, also where no file is in hand. Where it fails, what
+    /// is left is as before.
     fn read(&mut self, buf: &mut [u8]) -> Result<usize, Failed>
         requires { 0 < length buf.old }
         ensures bound { ReadsAtMost result buf.new }

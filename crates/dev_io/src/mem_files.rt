@@ -24,11 +24,12 @@ enum Last {
     Read(usize, usize),
 }
 
-/// Files in memory, which tell their names and bytes, the file in hand and the last call that failed.
+/// Files in memory, which tell their names and bytes, the file in hand and the last call that
+/// failed.
 ///
-/// The calls of `open_file` and `read` are numbered from 1 on, and the number stays at 2^64 - 1 once it is there. The
-/// calls that `fail_on` was told fail, and no others; each failure raises the count of faults by one. Neither call
-/// takes memory.
+/// The calls of `open_file` and `read` are numbered from 1 on, and the number stays at 2^64 - 1
+/// once it is there. The calls that `fail_on` was told fail, and no others; each failure raises the
+/// count of faults by one. Neither call takes memory.
 #[derive(Drop)]
 pub struct MemFiles {
     alloc: Global,
@@ -44,7 +45,8 @@ impl MemFiles {
     ghost use Rattle.dev_io.specs.Calls.{Puts, IsNew};
     ghost use Rattle.dev_io.specs.Timetable.{fresh_timetable};
 
-    /// No files, of which no call fails, none was made, and a read gives as many bytes as there are.
+    /// No files, of which no call fails, none was made, and a read gives as many bytes as there
+    /// are.
     pub fn new(alloc: Global) -> MemFiles
         ensures known { IsNew (known_of result) }
         ensures calls { files_timetable result ≡ fresh_timetable }
@@ -81,7 +83,10 @@ impl MemFiles {
     /// An `Err`, which comes only where memory runs out, leaves all as it was.
     pub fn fail_on(&mut self, call: u64) -> Result<(), AllocError>
         ensures known { known_of self.new ≡ known_of self.old }
-        ensures ok { OnOk result (files_timetable self.new ≡ record (files_timetable self.old) { failing = (files_timetable self.old).failing ++ call ∷ [] }) }
+        ensures ok { OnOk result (files_timetable self.new ≡
+            record (files_timetable self.old) {
+              failing = (files_timetable self.old).failing ++ call ∷ [];
+            }) }
         ensures err { OnErr result (files_timetable self.new ≡ files_timetable self.old) }
     {
         self.schedule.fail_on(call)
@@ -91,7 +96,8 @@ impl MemFiles {
     pub fn piece(&mut self, most: usize)
         requires { 0 < most }
         ensures known { known_of self.new ≡ known_of self.old }
-        ensures calls { files_timetable self.new ≡ record (files_timetable self.old) { most = most } }
+        ensures calls { files_timetable self.new ≡
+            record (files_timetable self.old) { most = most } }
     {
         self.schedule.piece(most);
     }
@@ -130,7 +136,8 @@ fn copy_from(bytes: &[u8], offset: usize, most: usize, buf: &mut [u8]) -> usize
     ensures bound { result ≤ length buf.new }
     ensures within { offset + result < 2 ^ 64 }
     ensures count { result ≡ min (min (length (drop offset bytes.now)) (length buf.old)) most }
-    ensures takes { Takes buf.new (drop offset bytes.now) (drop (offset + result) bytes.now) result }
+    ensures takes { Takes buf.new (drop offset bytes.now)
+        (drop (offset + result) bytes.now) result }
 {
     if bytes.len() <= offset {
         return 0;
@@ -149,8 +156,10 @@ impl MemFiles {
     fn read_hand(&mut self, buf: &mut [u8]) -> usize
         requires { 0 < length buf.old }
         ensures bound { result ≤ length buf.new }
-        ensures told { ReadsFrom (known_of self.old).hand result buf.new (known_of self.old) (known_of self.new) }
-        ensures count { result ≡ min (min (length (left_of (known_of self.old))) (length buf.old)) (files_timetable self.old).most }
+        ensures told { ReadsFrom (known_of self.old).hand result buf.new (known_of self.old)
+            (known_of self.new) }
+        ensures count { result ≡ min (min (length (left_of (known_of self.old))) (length buf.old))
+            (files_timetable self.old).most }
         ensures calls { files_timetable self.new ≡ files_timetable self.old }
     {
         let Some((i, offset)) = self.hand else {
@@ -193,10 +202,12 @@ impl Files for MemFiles {
 
     fn open_file(&mut self, name: &str) -> Opened
         ensures told { Opens name.now result (known_of self.old) (known_of self.new) }
-        ensures cause { HasOpenCause (files_timetable self.old).faults (files_timetable self.new).faults result }
+        ensures cause { HasOpenCause (files_timetable self.old).faults
+            (files_timetable self.new).faults result }
         // It fails where its number is listed, and nowhere else.
         ensures due { (result ≡ Opened.Failed) ↔ IsDue (files_timetable self.old) }
-        ensures calls { files_timetable self.new ≡ after_call (is_failed result) (files_timetable self.old) }
+        ensures calls { files_timetable self.new ≡
+            after_call (is_failed result) (files_timetable self.old) }
     {
         let found = find(&self.files, name);
         self.hand = None;
@@ -217,12 +228,16 @@ impl Files for MemFiles {
         requires { 0 < length buf.old }
         ensures bound { ReadsAtMost result buf.new }
         ensures told { Reads result buf.new (known_of self.old) (known_of self.new) }
-        ensures cause { HasExactCause (files_timetable self.old).faults (files_timetable self.new).faults result }
+        ensures cause { HasExactCause (files_timetable self.old).faults
+            (files_timetable self.new).faults result }
         // It fails where its number is listed, and nowhere else.
         ensures due { IsErr result ↔ IsDue (files_timetable self.old) }
-        ensures calls { files_timetable self.new ≡ after_call (is_err result) (files_timetable self.old) }
+        ensures calls { files_timetable self.new ≡
+            after_call (is_err result) (files_timetable self.old) }
         // It gives as many bytes as are left, as the buffer holds and as a read gives at most.
-        ensures count { IfOk result (λ n. n ≡ min (min (length (left_of (known_of self.old))) (length buf.old)) (files_timetable self.old).most) }
+        ensures count { IfOk result (λ n. n ≡
+            min (min (length (left_of (known_of self.old))) (length buf.old))
+            (files_timetable self.old).most) }
     {
         if self.schedule.fails() {
             self.last = last_read(self.hand);

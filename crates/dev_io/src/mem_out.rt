@@ -15,10 +15,10 @@ const NAME_ROOM: usize = 4096;
 
 /// A stream into memory of a fixed room, which tells where it is aimed and what was sent.
 ///
-/// The calls of `aim` and `write` are numbered from 1 on, and the number stays at 2^64 - 1 once it is there. A call
-/// fails, and raises the count of faults by one, where `fail_on` was told its number, where `aim` has a name of more
-/// than 4096 bytes, where `write` has a piece that is not empty and no room is left, and nowhere else. Neither call
-/// takes memory.
+/// The calls of `aim` and `write` are numbered from 1 on, and the number stays at 2^64 - 1 once it
+/// is there. A call fails, and raises the count of faults by one, where `fail_on` was told its
+/// number, where `aim` has a name of more than 4096 bytes, where `write` has a piece that is not
+/// empty and no room is left, and nowhere else. Neither call takes memory.
 #[derive(Drop)]
 pub struct MemOut {
     room: usize,
@@ -35,7 +35,8 @@ impl MemOut {
     ghost use Rattle.dev_io.specs.MemOut.{out_known, out_timetable, room_of};
     ghost use Rattle.dev_io.specs.Timetable.{fresh_timetable};
 
-    /// A stream to standard output, with nothing sent, room for so many bytes and for a name of 4096 bytes.
+    /// A stream to standard output, with nothing sent, room for so many bytes and for a name of
+    /// 4096 bytes.
     ///
     /// An `Err` comes only where memory runs out.
     pub fn new(alloc: Global, room: usize) -> Result<MemOut, AllocError>
@@ -58,7 +59,10 @@ impl MemOut {
     pub fn fail_on(&mut self, call: u64) -> Result<(), AllocError>
         ensures known { out_known self.new ≡ out_known self.old }
         ensures room { room_of self.new ≡ room_of self.old }
-        ensures ok { OnOk result (out_timetable self.new ≡ record (out_timetable self.old) { failing = (out_timetable self.old).failing ++ call ∷ [] }) }
+        ensures ok { OnOk result (out_timetable self.new ≡
+            record (out_timetable self.old) {
+              failing = (out_timetable self.old).failing ++ call ∷ [];
+            }) }
         ensures err { OnErr result (out_timetable self.new ≡ out_timetable self.old) }
     {
         self.schedule.fail_on(call)
@@ -83,7 +87,8 @@ impl MemOut {
 
     /// The name that it is aimed at: none is standard output.
     pub fn target(&self) -> Option<&str>
-        ensures { MatchOption result ((out_known self.now).target ≡ None) (λ name. (out_known self.now).target ≡ Some name.now) }
+        ensures { MatchOption result ((out_known self.now).target ≡ None)
+            (λ name. (out_known self.now).target ≡ Some name.now) }
     {
         if self.aimed {
             Some(self.name.as_str())
@@ -105,10 +110,12 @@ impl Out for MemOut {
     fn aim(&mut self, name: &str) -> Result<(), Failed>
         requires { IsFresh (Some (out_known self.old)) }
         ensures told { Aims name.now result (out_known self.old) (out_known self.new) }
-        ensures cause { HasCause (out_timetable self.old).faults (out_timetable self.new).faults result }
+        ensures cause { HasCause (out_timetable self.old).faults
+            (out_timetable self.new).faults result }
         // It fails where its number is listed or the name is too long, and nowhere else.
         ensures exact { IsErr result ↔ (IsDue (out_timetable self.old) ⊎ (4096 < length name.now)) }
-        ensures calls { out_timetable self.new ≡ after_call (is_err result) (out_timetable self.old) }
+        ensures calls { out_timetable self.new ≡
+            after_call (is_err result) (out_timetable self.old) }
         ensures room { room_of self.new ≡ room_of self.old }
     {
         if self.schedule.fails() {
@@ -128,13 +135,17 @@ impl Out for MemOut {
         ensures bound { WritesAtMost result piece.now }
         ensures some { IfOk result (λ n. 0 < length piece.now → 0 < n) }
         ensures told { Sends piece.now result (out_known self.old) (out_known self.new) }
-        ensures cause { HasCause (out_timetable self.old).faults (out_timetable self.new).faults result }
+        ensures cause { HasCause (out_timetable self.old).faults
+            (out_timetable self.new).faults result }
         // It fails where its number is listed or no room is left for a byte, and nowhere else.
-        ensures exact { IsErr result ↔ (IsDue (out_timetable self.old) ⊎ ((room_left self.old ≡ 0) × (0 < length piece.now))) }
-        ensures calls { out_timetable self.new ≡ after_call (is_err result) (out_timetable self.old) }
+        ensures exact { IsErr result ↔
+            (IsDue (out_timetable self.old) ⊎ ((room_left self.old ≡ 0) × (0 < length piece.now))) }
+        ensures calls { out_timetable self.new ≡
+            after_call (is_err result) (out_timetable self.old) }
         ensures room { room_of self.new ≡ room_of self.old }
         // It takes as many bytes as there are, as there is room for and as a write takes at most.
-        ensures count { IfOk result (λ n. n ≡ min (min (length piece.now) (room_left self.old)) (out_timetable self.old).most) }
+        ensures count { IfOk result (λ n. n ≡
+            min (min (length piece.now) (room_left self.old)) (out_timetable self.old).most) }
     {
         let room = self.room - self.sent.len();
         if self.schedule.fails() {

@@ -27,8 +27,8 @@ impl From<Failed> for WriteFault {
 
 /// A stream of bytes to standard output, or after `aim` to a file.
 ///
-/// It may tell its target and the bytes sent. A call that fails leaves both as they were. Its count of faults never
-/// falls.
+/// It may tell its target and the bytes sent. A call that fails leaves both as they were. Its count
+/// of faults never falls.
 pub trait Out {
     /// What it tells of where it writes and what was sent, where it tells.
     ghost known: { Self → Option KnownOut };
@@ -36,14 +36,15 @@ pub trait Out {
     /// How often a call failed.
     ghost faults: { Self → ℕ };
 
-    /// From here on the bytes go to the file of that name. Nothing may have been written yet, where that is told.
+    /// From here on the bytes go to the file of that name. Nothing may have been written yet, where
+    /// that is told.
     fn aim(&mut self, name: &str) -> Result<(), Failed>
         requires { IsFresh (known self.old) }
         ensures told { Tells (Aims name.now result) (known self.old) (known self.new) }
         ensures cause { HasCause (faults self.old) (faults self.new) result };
 
-    /// Sends some bytes from the front of the piece, at least one where there are any, and says how many. A stream that
-    /// takes none of them has failed.
+    /// Sends some bytes from the front of the piece, at least one where there are any, and says how
+    /// many. A stream that takes none of them has failed.
     fn write(&mut self, piece: &[u8]) -> Result<usize, Failed>
         ensures bound { WritesAtMost result piece.now }
         ensures some { IfOk result (λ n. 0 < length piece.now → 0 < n) }
@@ -51,8 +52,8 @@ pub trait Out {
         ensures cause { HasCause (faults self.old) (faults self.new) result };
 }
 
-/// Sends all of the bytes. Where it fails, a prefix of them was sent, and the stream's count of faults rose. It takes
-/// no memory.
+/// Sends all of the bytes. Where it fails, a prefix of them was sent, and the stream's count of
+/// faults rose. It takes no memory.
 pub fn write_all<W: Out>(out: &mut W, bytes: &[u8]) -> Result<(), Failed>
     ensures told { Tells (SendsAll bytes.now result) (W.known out.old) (W.known out.new) }
     ensures cause { HasCause (W.faults out.old) (W.faults out.new) result }

@@ -11,6 +11,9 @@ use std::io;
 use std::io::{ErrorKind, Read, Write};
 use std::rt::Files as System;
 
+// How often a read or a write that a signal interrupts is made again.
+const RETRIES: usize = 1000;
+
 // The file in hand.
 #[derive(Drop)]
 enum Hand<F, I> {
@@ -21,7 +24,9 @@ enum Hand<F, I> {
 
 /// The files of the system, and its standard input under the name `-`. They tell no content.
 ///
-/// The count of faults rises by one at each error, until it stands at 2^64 - 1. A file that is not there is no error.
+/// The count of faults rises by one at each error, until it stands at 2^64 - 1. A file that is not
+/// there is no error, and a read that a signal interrupts is one only behind a thousand further
+/// tries.
 #[derive(Drop)]
 pub struct RealFiles<R: System + Input> {
     rt: R,
@@ -53,6 +58,32 @@ impl<R: System + Input> RealFiles<R> {
         ensures later { file_faults self.old ≤ file_faults self.new }
     {
         self.faults = self.faults.saturating_add(1);
+    }
+
+    // Reads the next bytes of the file in hand, and none where there is none.
+    fn read_once(&mut self, buf: &mut [u8]) -> io::Result<usize>
+        ensures bound { ReadsAtMost result buf.new }
+        ensures faults { file_faults self.new ≡ file_faults self.old }
+    {
+        match &mut self.hand {
+            Hand::Nothing => Ok(0),
+            Hand::File(file) => file.read(buf),
+            Hand::Input(input) => input.read(buf),
+        }
+    }
+
+    // Reads, and again where that was interrupted.
+    fn read_some(&mut self, buf: &mut [u8]) -> io::Result<usize>
+        ensures bound { ReadsAtMost result buf.new }
+        ensures faults { file_faults self.new ≡ file_faults self.old }
+    {
+        'tries: for _ in 0..RETRIES {
+            match self.read_once(buf) {
+                Err(error) if error.kind() == ErrorKind::Interrupted => {}
+                result => return result,
+            }
+        }
+        self.read_once(buf)
     }
 }
 
@@ -90,12 +121,7 @@ impl<R: System + Input> Files for RealFiles<R> {
         ensures cause { HasExactCause (file_faults self.old) (file_faults self.new) result }
         ensures count { file_faults self.new ≡ raised_if (is_err result) (file_faults self.old) }
     {
-        let got = match &mut self.hand {
-            Hand::Nothing => Ok(0),
-            Hand::File(file) => file.read(buf),
-            Hand::Input(input) => input.read(buf),
-        };
-        match got {
+        match self.read_some(buf) {
             Ok(count) => Ok(count),
             Err(_) => {
                 self.count_fault();
@@ -111,8 +137,9 @@ impl<R: System + Input> Files for RealFiles<R> {
 
 /// A stream of the system, as its standard output, and after `aim` a file. It tells no content.
 ///
-/// `aim` makes the file, or empties one that is there. The count of faults rises by one at each error, until it stands
-/// at 2^64 - 1. Taking no byte of a piece that is not empty is an error.
+/// `aim` makes the file, or empties one that is there. The count of faults rises by one at each
+/// error, until it stands at 2^64 - 1. Taking no byte of a piece that is not empty is an error, and
+/// a write that a signal interrupts is one only behind a thousand further tries.
 #[derive(Drop)]
 pub struct RealOut<R: System, P: Print + Drop> {
     rt: R,
@@ -136,8 +163,9 @@ impl<R: System, P: Print + Drop> RealOut<R, P> {
         }
     }
 
-    // Writes some bytes from the front of the piece to the file, or to the stream where there is none.
-    fn write_some(&mut self, piece: &[u8]) -> io::Result<usize>
+    // Writes some bytes from the front of the piece to the file, or to the stream where there is
+    // none.
+    fn write_once(&mut self, piece: &[u8]) -> io::Result<usize>
         ensures bound { WritesAtMost result piece.now }
         ensures faults { out_faults self.new ≡ out_faults self.old }
     {
@@ -145,6 +173,20 @@ impl<R: System, P: Print + Drop> RealOut<R, P> {
             Some(file) => file.write(piece),
             None => self.stream.write_some(piece),
         }
+    }
+
+    // Writes some bytes, and again where that was interrupted.
+    fn write_some(&mut self, piece: &[u8]) -> io::Result<usize>
+        ensures bound { WritesAtMost result piece.now }
+        ensures faults { out_faults self.new ≡ out_faults self.old }
+    {
+        'tries: for _ in 0..RETRIES {
+            match self.write_once(piece) {
+                Err(error) if error.kind() == ErrorKind::Interrupted => {}
+                result => return result,
+            }
+        }
+        self.write_once(piece)
     }
 
     // Counts an error.

@@ -10,7 +10,8 @@ fn is_listed(calls: &[u64], call: u64) -> bool
     calls.contains(&call)
 }
 
-/// The numbers of the calls that fail, from 1 on, how many came and failed so far, and the greatest piece of one.
+/// The numbers of the calls that fail, from 1 on, how many came and failed so far, and the greatest
+/// piece of one.
 #[derive(Drop)]
 pub(crate) struct Schedule {
     failing: Vec<u64>,
@@ -37,7 +38,11 @@ impl Schedule {
 
     /// The call of that number fails.
     pub(crate) fn fail_on(&mut self, call: u64) -> Result<(), AllocError>
-        ensures ok { OnOk result (timetable_of self.new ≡ record (timetable_of self.old) { failing = (timetable_of self.old).failing ++ call ∷ [] }) }
+        ensures ok { OnOk result (timetable_of self.new ≡
+            record (timetable_of self.old) {
+              failing = (timetable_of self.old).failing ++ call ∷
+                  [];
+            }) }
         ensures err { OnErr result (timetable_of self.new ≡ timetable_of self.old) }
     {
         self.failing.push(call)?;
@@ -76,7 +81,8 @@ impl Schedule {
 
     /// Counts a failure.
     pub(crate) fn count_fault(&mut self)
-        ensures counted { timetable_of self.new ≡ record (timetable_of self.old) { faults = raised (timetable_of self.old).faults } }
+        ensures counted { timetable_of self.new ≡
+            record (timetable_of self.old) { faults = raised (timetable_of self.old).faults } }
         ensures later { (timetable_of self.old).faults ≤ (timetable_of self.new).faults }
     {
         self.faults = self.faults.saturating_add(1);

@@ -3,12 +3,13 @@ use Rattle.std.specs.Prelude.{◌≡◌, ◌≤◌, Bool, IfSome, IsUtf8, length
 use Rattle.edl_list.specs.declared.list.Side.{Side}
 use Rattle.edl_list.specs.declared.list.Event.{Event}
 use Rattle.edl_list.specs.declared.list.EventList.{EventList}
+use Rattle.edl_list.specs.Limits.{most_number}
 use Rattle.edl_list.specs.Formed.{IsWellFormed}
 use Rattle.edl_list.specs.Alike.{IsEven, IsSame}
-use Rattle.edl_layout.specs.Rows.{outgoing}
-use Rattle.edl_layout.specs.Labelled.{IsLabelled}
+use Rattle.edl_list.specs.Labelled.{outgoing, IsLabelled}
 use Rattle.edl_layout.specs.Spelling.{spelling}
-use Rattle.edl_text.specs.Lists.{IsList, most_bytes}
+use Rattle.edl_text.specs.Lists.{IsList}
+use Rattle.limits.specs.Limits.{most_bytes}
 
 -- the name of a side, where it has one, is UTF-8, as each text is
 abbrev pub HasName : Side → Type 0
@@ -19,12 +20,13 @@ pub record HasNames (event : Event) : Type 0 where
   pub to : HasName event.to
   pub from : IfSome (outgoing event.cross) HasName
 
--- A list that has a text, with drop-frame or without, and one that a reader takes: it is well formed and even, its events are at most 999, their labels are below
--- the day, its texts are UTF-8, and its text isn't too large.
+-- A list that has a text, with drop-frame or without, and one that a reader takes: it is well
+-- formed and even, its events are at most 999, their labels are below the day, its texts are UTF-8,
+-- and its text isn't too large.
 pub record IsWritable (list : EventList) (drop : Bool) : Type 0 where
   pub formed : IsWellFormed list
   pub even : IsEven list
-  pub few : length list.events ≤ 999
+  pub few : length list.events ≤ most_number
   pub labels : All (IsLabelled list.rate drop) list.events
   pub title : IsUtf8 list.title
   pub names : All HasNames list.events
@@ -37,5 +39,6 @@ pub record IsReadAgain (list : EventList) (drop : Bool) : Type 0 where
   pub same : IsSame list read
   pub only : (other : EventList) → IsList list.rate (spelling list drop) other → other ≡ read
 
+-- each list that has a text is read again from it
 abbrev pub SpellingIsRead : Type 0
 SpellingIsRead = (list : EventList) (drop : Bool) → IsWritable list drop → IsReadAgain list drop

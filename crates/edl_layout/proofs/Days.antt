@@ -8,19 +8,18 @@ use Rattle.smpte_tc.specs.declared.modes.Mode.{Mode}
 use Rattle.smpte_tc.specs.declared.faults.TcFault.{TcFault}
 use Rattle.smpte_tc.specs.declared.faults.TcFault.TheVariants.{Form, Field, Dropped, Day, NoTimecode}
 use Rattle.smpte_tc.specs.Modes.{mode_of, mode as plain}
-use Rattle.smpte_tc.specs.Day.{labels_of, mark_of}
+use Rattle.smpte_tc.specs.Day.{labels_of, mark_of, day_of as addresses_of, counted_of, is_counted}
 use Rattle.smpte_tc.specs.Answers.{WritesAt}
 use Rattle.std.proofs.lemmas.Int.{ints}
 use Rattle.std.proofs.lemmas.Bool.Decides.{nat_tests}
 use Rattle.std.proofs.lemmas.List.Filters.{length-filter_both}
-use Rattle.smpte_tc.specs.Day.{day_of as addresses_of, counted_of, is_counted}
 use Rattle.smpte_tc.proofs.Counting.{length-day}
 use Rattle.tick_time.specs.Rates.{nominal, relative_count}
 use Rattle.edl_list.specs.Formed.{IsFrame}
 use Rattle.edl_list.specs.Speeds.{day_of}
 use Rattle.smpte_tc.proofs.Labels.{counted_by_label}
 use Rattle.edl_layout.specs.Columns.{label_text}
-use Rattle.edl_layout.specs.Labelled.{IsBelowDay}
+use Rattle.edl_list.specs.Labelled.{IsBelowDay}
 
 label_at : Option Mode → ℤ → List ℕ
 label_at o n = unwrap_or (option_and_then (λ mode. slice_get (labels_of mode) (unsigned_abs n)) o) []

@@ -9,7 +9,7 @@ use Rattle.smpte_tc.proofs.Labels.{labels_there}
 use Rattle.smpte_tc.proofs.Dropping.{day_count}
 use Rattle.edl_list.specs.Formed.{IsFrame}
 use Rattle.edl_list.specs.Speeds.{day_of}
-use Rattle.edl_layout.specs.Labelled.{IsBelowDay}
+use Rattle.edl_list.specs.Labelled.{IsBelowDay}
 
 -- at 24 frames a second
 pub record Is24 (rate : Rate) : Type 0 where

@@ -5,7 +5,8 @@ use Rattle.std.proofs.lemmas.List.{take-append-drop, take_all}
 use Rattle.std.proofs.lemmas.List.Elements.{All-more, All-same}
 use Rattle.tick_time.specs.declared.rates.Rate.{Rate}
 use Rattle.edl_list.specs.declared.list.Event.{Event}
-use Rattle.edl_layout.specs.Labelled.{IsLabelled, IsFirstPast}
+use Rattle.edl_layout.specs.Labelled.{IsFirstPast}
+use Rattle.edl_list.specs.Labelled.{IsLabelled}
 
 split_at : (events : List Event) (i : ℕ) (event : Event) → i < length events → event ≡ get_or events i event → events ≡ take i events ++ event ∷ drop (suc i) events
 split_at events i event within is =

@@ -1,4 +1,3 @@
-pub mod Leaving
 pub mod Trimmed
 pub mod Texts
 pub mod Days

@@ -5,12 +5,11 @@ use Rattle.tick_time.specs.declared.rates.Rate.{Rate}
 use Rattle.edl_list.specs.declared.list.Channel.{Channel}
 use Rattle.edl_list.specs.declared.list.Side.{Side}
 use Rattle.edl_list.specs.declared.list.Event.{Event}
-use Rattle.edl_layout.specs.Columns.{spaces, column, digits, channel_width, channel_text, reel_width, reel_text, label_text}
-use Rattle.std.proofs.lemmas.List.{take_more}
-use Rattle.std.proofs.lemmas.List.{length-take-le}
+use Rattle.edl_layout.specs.Columns.{spaces, column, digits, channel_width, channel_text, reel_width, reel_text, label_text, kind_column, duration_column, written_byte, cleaned}
+use Rattle.std.proofs.lemmas.List.{take_more, length-take-le}
 use Rattle.edl_list.specs.declared.list.EventList.{EventList}
-use Rattle.edl_layout.specs.Columns.{kind_column, duration_column, written_byte, cleaned}
-use Rattle.edl_layout.specs.Rows.{event_line, main_line, first_line, speed_lines, name_lines, from_head, to_head, event_lines, headed, outgoing, lines_with, written_tenths, speed_line}
+use Rattle.edl_layout.specs.Rows.{event_line, main_line, first_line, speed_lines, name_lines, from_head, to_head, event_lines, headed, lines_with, written_tenths, speed_line}
+use Rattle.edl_list.specs.Labelled.{outgoing}
 use Rattle.edl_layout.specs.Spelling.{text_of, event_text, lines_from, mode_line, spelling, title_lines}
 
 -- lines, and then more lines

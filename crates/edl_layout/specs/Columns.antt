@@ -4,6 +4,7 @@ use Rattle.text_lines.specs.Lines.{trimmed}
 use Rattle.tick_time.specs.declared.rates.Rate.{Rate}
 use Rattle.smpte_tc.specs.Modes.{mode_of}
 use Rattle.smpte_tc.specs.Day.{labels_of}
+use Rattle.edl_list.specs.Limits.{most_number}
 use Rattle.edl_list.specs.declared.list.Channel.{Channel}
 use Rattle.edl_list.specs.declared.list.Channel.TheVariants.{V, A, A2}
 use Rattle.edl_list.specs.declared.list.Reel.{Reel}
@@ -11,7 +12,8 @@ use Rattle.edl_list.specs.declared.list.Reel.TheVariants.{Black, Named}
 use Rattle.edl_list.specs.declared.list.Cross.{Cross}
 use Rattle.edl_list.specs.declared.list.Cross.TheVariants.{Cut, Dissolve, Wipe}
 
--- how many digits the number of an event, a wipe code, a duration and the whole part of a speed have
+-- how many digits the number of an event, a wipe code, a duration and the whole part of a speed
+-- have
 abbrev pub number_width : ℕ
 number_width = 3
 
@@ -72,8 +74,8 @@ duration_text (Wipe code frames from) = digits duration_width frames
 -- the wipe code and the duration have at most three digits
 abbrev pub HasSmallNumbers : Cross → Type 0
 HasSmallNumbers Cut = Unit {0}
-HasSmallNumbers (Dissolve frames from) = frames ≤ 999
-HasSmallNumbers (Wipe code frames from) = (code ≤ 999) × (frames ≤ 999)
+HasSmallNumbers (Dissolve frames from) = frames ≤ most_number
+HasSmallNumbers (Wipe code frames from) = (code ≤ most_number) × (frames ≤ most_number)
 
 -- the columns of the type and of the duration
 abbrev pub kind_column : Cross → List ℕ
@@ -84,7 +86,9 @@ duration_column cross = column duration_width (duration_text cross)
 
 -- the label of a frame number of the day at a rate, with drop-frame or without (SMPTE ST 12-1)
 unfoldable pub label_text : Rate → Bool → ℤ → List ℕ
-label_text rate drop n = unwrap_or (option_and_then (λ mode. slice_get (labels_of mode) (unsigned_abs n)) (mode_of rate drop)) []
+label_text rate drop n =
+    unwrap_or (option_and_then (λ mode. slice_get (labels_of mode) (unsigned_abs n))
+    (mode_of rate drop)) []
 
 -- a byte below 0x20 or 0x7F is a control byte
 abbrev pub is_control : ℕ → Bool

@@ -1,26 +1,13 @@
--- Events whose labels are below the day.
-use Rattle.std.specs.Prelude.{◌≡◌, ℕ, ℤ, Bool, Option, Some, None, IfSome, List, ◌∷◌, ◌++◌, Ok, All}
+-- The first event that has a label past the day.
+use Rattle.std.specs.Prelude.{◌≡◌, ℕ, Bool, Option, Some, None, List, ◌∷◌, ◌++◌, All}
 use Rattle.tick_time.specs.declared.rates.Rate.{Rate}
-use Rattle.smpte_tc.specs.Modes.{mode_of}
-use Rattle.smpte_tc.specs.Answers.{WritesAt}
 use Rattle.edl_list.specs.declared.list.Event.{Event}
-use Rattle.edl_layout.specs.Rows.{outgoing}
-
--- at the rate, with drop-frame or without, the frame number is one of the day, so that a label is written for it
-pub record IsBelowDay (rate : Rate) (drop : Bool) (n : ℤ) : Type 0 where
-  pub label : List ℕ
-  pub written : WritesAt (mode_of rate drop) n (Ok label)
-
--- each label that the event is written with is below the day
-pub record IsLabelled (rate : Rate) (drop : Bool) (event : Event) : Type 0 where
-  pub outgoing_in : IfSome (outgoing event.cross) (λ from. IsBelowDay rate drop from.src_in)
-  pub source_in : IsBelowDay rate drop event.to.src_in
-  pub source_out : IsBelowDay rate drop event.to.src_out
-  pub record_in : IsBelowDay rate drop event.rec_in
-  pub record_out : IsBelowDay rate drop event.rec_out
+use Rattle.edl_list.specs.Labelled.{IsLabelled}
 
 -- the line of the first of these events that has a label past the day; none where no event has one
 abbrev pub IsFirstPast : Rate → Bool → List Event → Option ℕ → Type 0
 IsFirstPast rate drop events None = All (IsLabelled rate drop) events
-IsFirstPast rate drop events (Some line) = (before : List Event) × (after : List Event) × (event : Event)
-    × (events ≡ before ++ event ∷ after) × (line ≡ event.line) × All (IsLabelled rate drop) before × (IsLabelled rate drop event → ⊥)
+IsFirstPast rate drop events (Some line) =
+    (before : List Event) × (after : List Event) × (event : Event)
+    × (events ≡ before ++ event ∷ after) × (line ≡ event.line) × All (IsLabelled rate drop) before
+    × (IsLabelled rate drop event → ⊥)

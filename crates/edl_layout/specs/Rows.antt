@@ -7,44 +7,52 @@ use Rattle.edl_list.specs.declared.list.Side.{Side}
 use Rattle.edl_list.specs.declared.list.Cross.{Cross}
 use Rattle.edl_list.specs.declared.list.Cross.TheVariants.{Cut, Dissolve, Wipe}
 use Rattle.edl_list.specs.declared.list.Event.{Event}
+use Rattle.edl_list.specs.Labelled.{outgoing}
 use Rattle.edl_list.specs.Speeds.{count_of, side_speed}
 use Rattle.edl_layout.specs.Columns.{number_width, speed_width, reel_width, channel_width, spaces, column, digits, reel_text, channel_text, kind_column, duration_column, label_text, cleaned}
 
--- the outgoing side of an event that begins in this way, where it has one
-abbrev pub outgoing : Cross → Option Side
-outgoing Cut = None
-outgoing (Dissolve frames from) = Some from
-outgoing (Wipe code frames from) = Some from
-
--- An event line: the number in three digits, two spaces, the reel in eight columns, the channel in five, the type in four, the duration in three digits or
--- spaces, and the labels of source in, source out, record in and record out, with one space between all of these.
-abbrev pub event_line : ℕ → List ℕ → Channel → List ℕ → List ℕ → List ℕ → List ℕ → List ℕ → List ℕ → List ℕ
+-- An event line: the number in three digits, two spaces, the reel in eight columns, the channel in
+-- five, the type in four, the duration in three digits or spaces, and the labels of source in,
+-- source out, record in and record out, with one space between all of these.
+abbrev pub event_line : ℕ → List ℕ → Channel → List ℕ → List ℕ → List ℕ → List ℕ → List ℕ → List ℕ
+    → List ℕ
 event_line number reel channel kind duration source_in source_out record_in record_out = concat (
-    digits number_width number ∷ codes "  " ∷ column reel_width reel ∷ codes " " ∷ column channel_width (channel_text channel) ∷ codes " " ∷ kind ∷ codes " "
-    ∷ duration ∷ codes " " ∷ source_in ∷ codes " " ∷ source_out ∷ codes " " ∷ record_in ∷ codes " " ∷ record_out ∷ [])
+    digits number_width number ∷ codes "  " ∷ column reel_width reel ∷ codes " "
+    ∷ column channel_width (channel_text channel) ∷ codes " " ∷ kind ∷ codes " "
+    ∷ duration ∷ codes " " ∷ source_in ∷ codes " " ∷ source_out ∷ codes " " ∷ record_in ∷ codes " "
+    ∷ record_out ∷ [])
 
 -- the one line of a cut, and the second line of a pair
 abbrev pub main_line : Rate → Bool → ℕ → Event → List ℕ
-main_line rate drop number event = event_line number (reel_text event.to.reel) event.channel (kind_column event.cross) (duration_column event.cross)
-    (label_text rate drop event.to.src_in) (label_text rate drop event.to.src_out) (label_text rate drop event.rec_in) (label_text rate drop event.rec_out)
+main_line rate drop number event =
+    event_line number (reel_text event.to.reel) event.channel (kind_column event.cross)
+    (duration_column event.cross)
+    (label_text rate drop event.to.src_in) (label_text rate drop event.to.src_out)
+    (label_text rate drop event.rec_in) (label_text rate drop event.rec_out)
 
 -- the first line of a pair: a cut of no length, with the source in of the outgoing side twice
 abbrev pub first_line : Rate → Bool → ℕ → Event → Side → List ℕ
-first_line rate drop number event from = event_line number (reel_text from.reel) event.channel (kind_column Cut) (duration_column Cut)
-    (label_text rate drop from.src_in) (label_text rate drop from.src_in) (label_text rate drop event.rec_in) (label_text rate drop event.rec_in)
+first_line rate drop number event from =
+    event_line number (reel_text from.reel) event.channel (kind_column Cut) (duration_column Cut)
+    (label_text rate drop from.src_in) (label_text rate drop from.src_in)
+    (label_text rate drop event.rec_in) (label_text rate drop event.rec_in)
 
 abbrev pub first_lines : Rate → Bool → ℕ → Event → Option Side → List (List ℕ)
 first_lines rate drop number event None = []
 first_lines rate drop number event (Some from) = first_line rate drop number event from ∷ []
 
--- the tenths of a frame a second that an M2 line gives a side: its own, or those of the rate's own speed
+-- the tenths of a frame a second that an M2 line gives a side: its own, or those of the rate's own
+-- speed
 abbrev pub written_tenths : Rate → Side → ℕ
 written_tenths rate side = unwrap_or side.speed (10 * count_of rate)
 
--- an M2 line: the reel in eight columns, the speed as `ddd.d`, sixteen spaces, and the label of the side's source in
+-- an M2 line: the reel in eight columns, the speed as `ddd.d`, sixteen spaces, and the label of the
+-- side's source in
 abbrev pub speed_line : Rate → Bool → Side → List ℕ
 speed_line rate drop side = concat (
-    codes "M2   " ∷ column reel_width (reel_text side.reel) ∷ codes " " ∷ digits speed_width (written_tenths rate side / 10) ∷ codes "." ∷ digits 1 (written_tenths rate side)
+    codes "M2   " ∷ column reel_width (reel_text side.reel) ∷ codes " "
+    ∷ digits speed_width (written_tenths rate side / 10) ∷ codes "."
+    ∷ digits 1 (written_tenths rate side)
     ∷ spaces 16 ∷ label_text rate drop side.src_in ∷ [])
 
 -- a side's speed isn't the rate's own
@@ -55,7 +63,8 @@ has_speed rate side = not (side_speed rate side == 1000000)
 abbrev pub has_one_reel : Side → Side → Bool
 has_one_reel a b = bytes_eq (reel_text a.reel) (reel_text b.reel)
 
--- an outgoing side has an M2 line where its speed isn't the rate's own; so has an incoming side, and besides where the outgoing side of its reel has one
+-- an outgoing side has an M2 line where its speed isn't the rate's own; so has an incoming side,
+-- and besides where the outgoing side of its reel has one
 abbrev pub needs_line : Rate → Side → Option Side → Bool
 needs_line rate to None = has_speed rate to
 needs_line rate to (Some from) = has_speed rate to || (has_speed rate from && has_one_reel from to)
@@ -66,7 +75,9 @@ speed_lines_if rate drop needed side = cond needed (speed_line rate drop side �
 -- the M2 lines of an event, outgoing first
 abbrev pub speed_lines : Rate → Bool → Side → Option Side → List (List ℕ)
 speed_lines rate drop to None = speed_lines_if rate drop (needs_line rate to None) to
-speed_lines rate drop to (Some from) = speed_lines_if rate drop (has_speed rate from) from ++ speed_lines_if rate drop (needs_line rate to (Some from)) to
+speed_lines rate drop to (Some from) =
+    speed_lines_if rate drop (has_speed rate from) from
+    ++ speed_lines_if rate drop (needs_line rate to (Some from)) to
 
 -- a line of this head and this text; none where the text is empty
 abbrev pub headed : List ℕ → List ℕ → List (List ℕ)
@@ -84,7 +95,8 @@ from_head = codes "* FROM CLIP NAME: "
 abbrev pub to_head : List ℕ
 to_head = codes "* TO CLIP NAME: "
 
--- the notes of an event: FROM for a cut, and FROM for the outgoing and TO for the incoming side of a pair
+-- the notes of an event: FROM for a cut, and FROM for the outgoing and TO for the incoming side of
+-- a pair
 abbrev pub note_lines : Side → Option Side → List (List ℕ)
 note_lines to None = name_lines from_head to.name
 note_lines to (Some from) = name_lines from_head from.name ++ name_lines to_head to.name
@@ -92,7 +104,9 @@ note_lines to (Some from) = name_lines from_head from.name ++ name_lines to_head
 -- the lines of an event of this number with this outgoing side
 abbrev pub lines_with : Rate → Bool → ℕ → Event → Option Side → List (List ℕ)
 lines_with rate drop number event from =
-    first_lines rate drop number event from ++ (main_line rate drop number event ∷ (speed_lines rate drop event.to from ++ note_lines event.to from))
+    first_lines rate drop number event from
+    ++ (main_line rate drop number event
+    ∷ (speed_lines rate drop event.to from ++ note_lines event.to from))
 
 -- the lines of an event of this number
 abbrev pub event_lines : Rate → Bool → ℕ → Event → List (List ℕ)

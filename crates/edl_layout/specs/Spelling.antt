@@ -22,11 +22,13 @@ mode_line drop = cond drop (codes "FCM: DROP FRAME") (codes "FCM: NON-DROP FRAME
 -- the lines of events, numbered from this number on
 abbrev pub lines_from : Rate → Bool → ℕ → List Event → List (List ℕ)
 lines_from rate drop number [] = []
-lines_from rate drop number (event ∷ events) = event_lines rate drop number event ++ lines_from rate drop (number + 1) events
+lines_from rate drop number (event ∷ events) =
+    event_lines rate drop number event ++ lines_from rate drop (number + 1) events
 
 -- the lines of a list: its title, the frame code mode, and its events numbered from 1
 abbrev pub list_lines : EventList → Bool → List (List ℕ)
-list_lines list drop = title_lines list.title ++ (mode_line drop ∷ lines_from list.rate drop 1 list.events)
+list_lines list drop =
+    title_lines list.title ++ (mode_line drop ∷ lines_from list.rate drop 1 list.events)
 
 -- the text of an event of this number
 abbrev pub event_text : Rate → Bool → ℕ → Event → List ℕ

@@ -1,5 +1,6 @@
 // What stands in the columns of a line.
 ghost use Rattle.std.specs.Prelude.{◌≡◌, ◌≤◌, ◌-◌, length};
+ghost use Rattle.edl_list.specs.Limits.{most_number};
 ghost use Rattle.edl_list.specs.Formed.{IsReel};
 ghost use Rattle.edl_layout.specs.Columns.{digits, spaces, column, reel_text, reel_width, channel_text, channel_width, kind_column as kind_of, duration_column as duration_of, HasSmallNumbers};
 
@@ -14,9 +15,9 @@ pub const CUT_COLUMN: &[u8; 4] = b"C   ";
 /// The column of a duration where there is none.
 pub const NO_DURATION: &[u8; 3] = b"   ";
 
-// A number in three digits.
+/// A number, at most 999, in three digits.
 pub fn three_digits(number: u32) -> [u8; 3]
-    requires { number ≤ 999 }
+    requires { number ≤ most_number }
     ensures { result ≡ digits 3 number }
 {
     [
@@ -26,7 +27,7 @@ pub fn three_digits(number: u32) -> [u8; 3]
     ]
 }
 
-// The bytes of a reel.
+/// The bytes of a reel as a line has them, at most eight: its name, and `BL` for black.
 pub fn reel_bytes(reel: &Reel) -> &[u8]
     requires { IsReel reel.now }
     ensures text { result.now ≡ reel_text reel.now }
@@ -38,7 +39,7 @@ pub fn reel_bytes(reel: &Reel) -> &[u8]
     }
 }
 
-// The spaces that fill the column of a reel of this length.
+/// The spaces that fill the column of a reel of this length in bytes, which is eight wide.
 pub fn padding(length: usize) -> &'static [u8]
     requires { length ≤ reel_width }
     ensures { result.now ≡ spaces (reel_width - length) }
@@ -46,7 +47,7 @@ pub fn padding(length: usize) -> &'static [u8]
     REEL_COLUMN.split_at(length).1
 }
 
-// The column of a channel.
+/// The column of a channel, five wide: `V`, `A` or `A2`, and spaces behind it.
 pub fn channel_column(channel: Channel) -> &'static [u8; 5]
     ensures { result.now ≡ column channel_width (channel_text channel) }
 {
@@ -57,7 +58,8 @@ pub fn channel_column(channel: Channel) -> &'static [u8; 5]
     }
 }
 
-// The column of the type of an event.
+/// The column of the type of an event, four wide: `C`, `D`, or `W` and the three digits of its
+/// code.
 pub fn kind_column(cross: &Cross) -> [u8; 4]
     requires { HasSmallNumbers cross.now }
     ensures { result ≡ kind_of cross.now }
@@ -72,7 +74,7 @@ pub fn kind_column(cross: &Cross) -> [u8; 4]
     }
 }
 
-// The column of the duration of an event.
+/// The column of the duration of an event in frames: three digits, and spaces for a cut.
 pub fn duration_column(cross: &Cross) -> [u8; 3]
     requires { HasSmallNumbers cross.now }
     ensures { result ≡ duration_of cross.now }

@@ -2,15 +2,15 @@
 ghost use Rattle.std.specs.Prelude.{◌≡◌, ◌↔◌, IsTrue, IfSome};
 ghost use Rattle.edl_list.specs.Formed.{IsFrame, IsEvent, IsWellFormed};
 ghost use Rattle.edl_list.specs.Speeds.{day_of};
-ghost use Rattle.edl_layout.specs.Rows.{outgoing};
+ghost use Rattle.edl_list.specs.Labelled.{outgoing, IsLabelled, IsBelowDay};
 ghost use Rattle.edl_layout.specs.Columns.{label_text};
-ghost use Rattle.edl_layout.specs.Labelled.{IsBelowDay, IsLabelled, IsFirstPast};
+ghost use Rattle.edl_layout.specs.Labelled.{IsFirstPast};
 
 use edl_list::{Cross, Event, EventList};
 use smpte_tc::label;
 use tick_time::Rate;
 
-// The label of a frame number of the day.
+/// The label of a frame number of the day at a rate, with drop-frame or without (SMPTE ST 12-1).
 pub fn label_of(n: i64, rate: Rate, drop: bool) -> [u8; 11]
     requires { IsBelowDay rate drop n }
     ensures { result ≡ label_text rate drop n }
@@ -28,11 +28,12 @@ fn is_below_day(n: i64, rate: Rate, drop: bool) -> bool
     }
 }
 
-#[tactic(auto, using(crate::proofs::Days::test_kept))]
 // Whether the label of the outgoing side of an event that begins in this way is below the day.
+#[tactic(auto, using(crate::proofs::Days::test_kept))]
 fn is_source_below_day(cross: &Cross, rate: Rate, drop: bool) -> bool
     requires { IfSome (outgoing cross.now) (λ from. IsFrame (day_of rate) from.src_in) }
-    ensures { IsTrue result ↔ IfSome (outgoing cross.now) (λ from. IsBelowDay rate drop from.src_in) }
+    ensures { IsTrue result ↔ IfSome (outgoing cross.now)
+        (λ from. IsBelowDay rate drop from.src_in) }
 {
     match cross {
         Cross::Cut => true,
@@ -41,8 +42,8 @@ fn is_source_below_day(cross: &Cross, rate: Rate, drop: bool) -> bool
     }
 }
 
-#[tactic(auto, using(crate::proofs::Days::test_kept))]
 // Whether each label of the event is below the day.
+#[tactic(auto, using(crate::proofs::Days::test_kept))]
 fn is_labelled(event: &Event, rate: Rate, drop: bool) -> bool
     requires { IsEvent (day_of rate) event.now }
     ensures { IsTrue result ↔ IsLabelled rate drop event.now }
@@ -62,9 +63,9 @@ fn is_labelled(event: &Event, rate: Rate, drop: bool) -> bool
     is_below_day(event.rec_out, rate, drop)
 }
 
-/// The line of the first event, in the order of the list, that has a label past the day where the list is written in this
-/// mode; none where each label that is written is below the day. A label is below the day where [`smpte_tc::label`] takes
-/// its frame number at the list's rate in the mode.
+/// The line of the first event, in the order of the list, that has a label past the day where the
+/// list is written in this mode; none where each label that is written is below the day. A label is
+/// below the day where [`smpte_tc::label`] takes its frame number at the list's rate in the mode.
 pub fn first_label_past_day(list: &EventList, drop: bool) -> Option<u32>
     requires { IsWellFormed list.now }
     ensures { IsFirstPast list.now.rate drop list.now.events result }

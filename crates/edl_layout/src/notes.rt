@@ -2,7 +2,7 @@
 ghost use Rattle.std.specs.Prelude.{◌≡◌, ◌∷◌, [], position, map, reverse};
 ghost use Rattle.text_lines.specs.First.{begins_with_blank as begins};
 ghost use Rattle.text_lines.specs.Lines.{trimmed_front};
-ghost use Rattle.dev_io.specs.Buffer.{standing, Puts};
+ghost use Rattle.dev_io.specs.Buffer.{HandsOver};
 ghost use Rattle.edl_layout.specs.Columns.{is_control as control, written_byte, cleaned};
 ghost use Rattle.edl_layout.specs.Rows.{headed, name_lines};
 ghost use Rattle.edl_layout.specs.Spelling.{text_of};
@@ -11,9 +11,11 @@ use dev_io::{Out, OutBuffer};
 use sequences::Text;
 use text_lines::{after, before};
 
-// Hands over the note of a name, where there is one that isn't empty as it is written.
+/// Hands over the note of a name with its line feed, behind this head, where there is a name that
+/// isn't empty as it is written.
 pub fn put_name<W: Out>(buffer: &mut OutBuffer, out: &mut W, head: &[u8], name: &Option<Text>)
-    ensures { Puts (standing W.known W.faults out.old buffer.old) (standing W.known W.faults out.new buffer.new) (text_of (name_lines head.now name.now)) }
+    ensures { HandsOver W.known W.faults out.old out.new buffer.old buffer.new
+        (text_of (name_lines head.now name.now)) }
 {
     match name {
         Some(name) => put_headed(buffer, out, head, name.as_str().as_bytes()),
@@ -21,9 +23,11 @@ pub fn put_name<W: Out>(buffer: &mut OutBuffer, out: &mut W, head: &[u8], name: 
     }
 }
 
-// Hands over a line of this head and a text, where the text isn't empty as it is written.
+/// Hands over a line of this head and a text with its line feed, where the text isn't empty as it
+/// is written: each control byte as a space, and none at the ends.
 pub fn put_headed<W: Out>(buffer: &mut OutBuffer, out: &mut W, head: &[u8], text: &[u8])
-    ensures { Puts (standing W.known W.faults out.old buffer.old) (standing W.known W.faults out.new buffer.new) (text_of (headed head.now (cleaned text.now))) }
+    ensures { HandsOver W.known W.faults out.old out.new buffer.old buffer.new
+        (text_of (headed head.now (cleaned text.now))) }
 {
     let text = trim(text);
     if !text.is_empty() {
@@ -33,9 +37,11 @@ pub fn put_headed<W: Out>(buffer: &mut OutBuffer, out: &mut W, head: &[u8], text
     }
 }
 
-// Hands over these bytes, with a space for each control byte; the bytes between them go in one slice.
+// Hands over these bytes, with a space for each control byte; the bytes between them go in one
+// slice.
 fn put_written<W: Out>(buffer: &mut OutBuffer, out: &mut W, bytes: &[u8])
-    ensures { Puts (standing W.known W.faults out.old buffer.old) (standing W.known W.faults out.new buffer.new) (map written_byte bytes.now) }
+    ensures { HandsOver W.known W.faults out.old out.new buffer.old buffer.new
+        (map written_byte bytes.now) }
 {
     let mut rest = bytes;
     'runs: while let Some(index) = first_control(rest) {
@@ -106,7 +112,8 @@ fn trim_front(text: &[u8]) -> &[u8]
 // The text without the bytes at its back that are written as spaces.
 #[tactic(auto, using(crate::proofs::Trimmed::back_less, text_lines::proofs::Trimming::back_stays))]
 fn trim_back(text: &[u8]) -> &[u8]
-    ensures { map written_byte result.now ≡ reverse (trimmed_front (reverse (map written_byte text.now))) }
+    ensures { map written_byte result.now ≡ reverse
+        (trimmed_front (reverse (map written_byte text.now))) }
 {
     let mut rest = text;
     'blanks: while ends_blank(rest) {

@@ -1,12 +1,13 @@
 // The lines of events and of speeds.
 ghost use Rattle.std.specs.Prelude.{◌≤◌, ◌∷◌, [], codes};
 ghost use Rattle.std.specs.List.{concat};
-ghost use Rattle.dev_io.specs.Buffer.{standing, Puts};
+ghost use Rattle.dev_io.specs.Buffer.{HandsOver};
+ghost use Rattle.edl_list.specs.Limits.{most_number};
 ghost use Rattle.edl_list.specs.Formed.{IsReel, IsFrame, IsSide, IsEvent};
 ghost use Rattle.edl_list.specs.Speeds.{day_of};
 ghost use Rattle.edl_layout.specs.Columns.{column, reel_text, reel_width};
 ghost use Rattle.edl_layout.specs.Rows.{event_line, first_line, main_line};
-ghost use Rattle.edl_layout.specs.Labelled.{IsBelowDay, IsLabelled};
+ghost use Rattle.edl_list.specs.Labelled.{IsLabelled, IsBelowDay};
 
 use crate::columns::{
     CUT_COLUMN, NO_DURATION, channel_column, duration_column, kind_column, padding, reel_bytes,
@@ -36,10 +37,11 @@ struct Labels {
     record_out: [u8; 11],
 }
 
-// Hands over the column of a reel.
+/// Hands over the column of a reel, eight wide.
 pub fn put_reel<W: Out>(buffer: &mut OutBuffer, out: &mut W, reel: &Reel)
     requires { IsReel reel.now }
-    ensures { Puts (standing W.known W.faults out.old buffer.old) (standing W.known W.faults out.new buffer.new) (column reel_width (reel_text reel.now)) }
+    ensures { HandsOver W.known W.faults out.old out.new buffer.old buffer.new
+        (column reel_width (reel_text reel.now)) }
 {
     let bytes = reel_bytes(reel);
     buffer.put(out, bytes);
@@ -48,8 +50,9 @@ pub fn put_reel<W: Out>(buffer: &mut OutBuffer, out: &mut W, reel: &Reel)
 
 // Hands over the labels of an event line, with spaces between.
 fn put_labels<W: Out>(buffer: &mut OutBuffer, out: &mut W, labels: Labels)
-    ensures { Puts (standing W.known W.faults out.old buffer.old) (standing W.known W.faults out.new buffer.new)
-        (concat (labels.source_in ∷ codes " " ∷ labels.source_out ∷ codes " " ∷ labels.record_in ∷ codes " " ∷ labels.record_out ∷ [])) }
+    ensures { HandsOver W.known W.faults out.old out.new buffer.old buffer.new
+        (concat (labels.source_in ∷ codes " " ∷ labels.source_out ∷ codes " "
+        ∷ labels.record_in ∷ codes " " ∷ labels.record_out ∷ [])) }
 {
     buffer.put(out, &labels.source_in);
     buffer.put(out, b" ");
@@ -62,10 +65,12 @@ fn put_labels<W: Out>(buffer: &mut OutBuffer, out: &mut W, labels: Labels)
 
 // Hands over an event line, without its end.
 fn put_row<W: Out>(buffer: &mut OutBuffer, out: &mut W, row: Row<'_>, labels: Labels)
-    requires number { row.number ≤ 999 }
+    requires number { row.number ≤ most_number }
     requires reel { IsReel row.reel.now }
-    ensures { Puts (standing W.known W.faults out.old buffer.old) (standing W.known W.faults out.new buffer.new)
-        (event_line row.entry.number (reel_text row.entry.reel.now) row.entry.channel row.entry.kind row.entry.duration labels.source_in labels.source_out labels.record_in labels.record_out) }
+    ensures { HandsOver W.known W.faults out.old out.new buffer.old buffer.new
+        (event_line row.entry.number (reel_text row.entry.reel.now) row.entry.channel
+        row.entry.kind row.entry.duration labels.source_in labels.source_out
+        labels.record_in labels.record_out) }
 {
     let number = three_digits(row.number);
     buffer.put(out, &number);
@@ -81,8 +86,8 @@ fn put_row<W: Out>(buffer: &mut OutBuffer, out: &mut W, row: Row<'_>, labels: La
     put_labels(buffer, out, labels);
 }
 
+/// Hands over the one line of a cut, or the second line of a pair, without its end.
 #[tactic(auto, using(crate::proofs::Days::below_kept))]
-// Hands over the one line of a cut, or the second line of a pair, without its end.
 pub fn put_main<W: Out>(
     buffer: &mut OutBuffer,
     out: &mut W,
@@ -91,10 +96,11 @@ pub fn put_main<W: Out>(
     rate: Rate,
     drop: bool,
 )
-    requires number { number ≤ 999 }
+    requires number { number ≤ most_number }
     requires event { IsEvent (day_of rate) event.now }
     requires labels { IsLabelled rate drop event.now }
-    ensures { Puts (standing W.known W.faults out.old buffer.old) (standing W.known W.faults out.new buffer.new) (main_line rate drop number event.now) }
+    ensures { HandsOver W.known W.faults out.old out.new buffer.old buffer.new
+        (main_line rate drop number event.now) }
 {
     let row = Row {
         number,
@@ -112,8 +118,9 @@ pub fn put_main<W: Out>(
     put_row(buffer, out, row, labels);
 }
 
+/// Hands over the first line of a pair with this outgoing side, without its end: a cut of no
+/// length, with the source in of that side twice.
 #[tactic(auto, using(crate::proofs::Days::below_kept))]
-// Hands over the first line of a pair with this outgoing side, without its end.
 pub fn put_first<W: Out>(
     buffer: &mut OutBuffer,
     out: &mut W,
@@ -123,12 +130,13 @@ pub fn put_first<W: Out>(
     rate: Rate,
     drop: bool,
 )
-    requires number { number ≤ 999 }
+    requires number { number ≤ most_number }
     requires from { IsSide (day_of rate) from.now }
     requires record { IsFrame (day_of rate) event.now.rec_in }
     requires source_in { IsBelowDay rate drop from.now.src_in }
     requires record_in { IsBelowDay rate drop event.now.rec_in }
-    ensures { Puts (standing W.known W.faults out.old buffer.old) (standing W.known W.faults out.new buffer.new) (first_line rate drop number event.now from.now) }
+    ensures { HandsOver W.known W.faults out.old out.new buffer.old buffer.new
+        (first_line rate drop number event.now from.now) }
 {
     let row = Row {
         number,

@@ -1,12 +1,13 @@
 // Speeds, and the lines that give them.
 ghost use Rattle.std.specs.Prelude.{◌≡◌, ◌≤◌, Some, false, IsSome};
 ghost use Rattle.smpte_tc.specs.Modes.{mode_of};
-ghost use Rattle.dev_io.specs.Buffer.{standing, Puts};
+ghost use Rattle.dev_io.specs.Buffer.{HandsOver};
+ghost use Rattle.edl_list.specs.Limits.{most_tenths};
 ghost use Rattle.edl_list.specs.Formed.{IsReel, IsSide, IsSpeed};
 ghost use Rattle.edl_list.specs.Speeds.{day_of, count_of as frames_of, speed_of as speed_at};
 ghost use Rattle.edl_layout.specs.Rows.{needs_line as needs, speed_line, speed_lines_if, written_tenths as tenths_of, has_speed as is_fast, has_one_reel as is_one_reel};
 ghost use Rattle.edl_layout.specs.Spelling.{text_of};
-ghost use Rattle.edl_layout.specs.Labelled.{IsBelowDay};
+ghost use Rattle.edl_list.specs.Labelled.{IsBelowDay};
 
 use crate::columns::{reel_bytes, three_digits};
 use crate::labels::label_of;
@@ -34,7 +35,7 @@ fn count_of(rate: Rate) -> u32
 fn millionths_of(tenths: u32, count: u32) -> u32
     requires some { 1 ≤ count }
     requires small { count ≤ 60 }
-    requires tenths { tenths ≤ 9999 }
+    requires tenths { tenths ≤ most_tenths }
     ensures { result ≡ speed_at count (Some tenths) }
 {
     let whole = tenths * 100_000 / count;
@@ -48,7 +49,7 @@ fn millionths_of(tenths: u32, count: u32) -> u32
     }
 }
 
-// Whether the speed of a side isn't the rate's own.
+/// Whether the speed of a side, in millionths, isn't the rate's own.
 pub fn has_speed(side: &Side, rate: Rate) -> bool
     requires { IsSide (day_of rate) side.now }
     ensures { result ≡ is_fast rate side.now }
@@ -68,7 +69,8 @@ fn has_one_reel(a: &Side, b: &Side) -> bool
     reel_bytes(&a.reel) == reel_bytes(&b.reel)
 }
 
-// Whether the incoming side of a pair needs an M2 line.
+/// Whether the incoming side of a pair needs an M2 line: where its speed isn't the rate's own, or
+/// the outgoing side of its reel has one.
 pub fn needs_line(to: &Side, from: &Side, rate: Rate) -> bool
     requires to { IsSide (day_of rate) to.now }
     requires from { IsSide (day_of rate) from.now }
@@ -87,7 +89,7 @@ pub fn needs_line(to: &Side, from: &Side, rate: Rate) -> bool
 fn written_tenths(side: &Side, rate: Rate) -> u32
     requires { IsSpeed side.now.speed }
     ensures tenths { result ≡ tenths_of rate side.now }
-    ensures small { result ≤ 9999 }
+    ensures small { result ≤ most_tenths }
 {
     match side.speed {
         Some(tenths) => u32::from(tenths),
@@ -95,12 +97,13 @@ fn written_tenths(side: &Side, rate: Rate) -> u32
     }
 }
 
-#[tactic(auto, using(crate::proofs::Days::below_kept))]
 // Hands over the M2 line of a side, without its end.
+#[tactic(auto, using(crate::proofs::Days::below_kept))]
 fn put_speed<W: Out>(buffer: &mut OutBuffer, out: &mut W, side: &Side, rate: Rate, drop: bool)
     requires side { IsSide (day_of rate) side.now }
     requires source_in { IsBelowDay rate drop side.now.src_in }
-    ensures { Puts (standing W.known W.faults out.old buffer.old) (standing W.known W.faults out.new buffer.new) (speed_line rate drop side.now) }
+    ensures { HandsOver W.known W.faults out.old out.new buffer.old buffer.new
+        (speed_line rate drop side.now) }
 {
     let tenths = written_tenths(side, rate);
     let whole = three_digits(tenths / 10);
@@ -116,7 +119,7 @@ fn put_speed<W: Out>(buffer: &mut OutBuffer, out: &mut W, side: &Side, rate: Rat
     buffer.put(out, &source_in);
 }
 
-// Hands over the M2 line of a side with its end, where it needs one.
+/// Hands over the M2 line of a side with its line feed, where it is needed.
 pub fn put_speed_if<W: Out>(
     buffer: &mut OutBuffer,
     out: &mut W,
@@ -127,7 +130,8 @@ pub fn put_speed_if<W: Out>(
 )
     requires side { IsSide (day_of rate) side.now }
     requires source_in { IsBelowDay rate drop side.now.src_in }
-    ensures { Puts (standing W.known W.faults out.old buffer.old) (standing W.known W.faults out.new buffer.new) (text_of (speed_lines_if rate drop needed side.now)) }
+    ensures { HandsOver W.known W.faults out.old out.new buffer.old buffer.new
+        (text_of (speed_lines_if rate drop needed side.now)) }
 {
     if needed {
         put_speed(buffer, out, side, rate, drop);

@@ -1,8 +1,9 @@
-//! The text of an empty list and of one event. Lists of all kinds are written where they are read, in `edl_law`.
+//! The text of an empty list and of one event. Lists of all kinds are written where they are read,
+//! in `edl_law`.
 ghost use Rattle.std.specs.Prelude.{◌≡◌, pos, false};
 ghost use Rattle.edl_list.specs.Formed.{IsEvent};
 ghost use Rattle.edl_list.specs.Speeds.{day_of};
-ghost use Rattle.edl_layout.specs.Labelled.{IsLabelled};
+ghost use Rattle.edl_list.specs.Labelled.{IsLabelled};
 
 use crate::{first_label_past_day, write_event, write_list};
 use dev_io::MemOut;

@@ -1,13 +1,14 @@
 // The text of events and lists.
 ghost use Rattle.std.specs.Prelude.{◌≡◌, ◌≤◌, ◌++◌, codes, length, Some, None, All};
-ghost use Rattle.dev_io.specs.Buffer.{standing, Puts};
+ghost use Rattle.dev_io.specs.Buffer.{HandsOver};
 ghost use Rattle.dev_io.specs.Calls.{Tells, SendsAll};
 ghost use Rattle.dev_io.specs.Causes.{HasCause};
+ghost use Rattle.edl_list.specs.Limits.{most_number};
 ghost use Rattle.edl_list.specs.Formed.{IsEvent, IsSide, IsWellFormed};
 ghost use Rattle.edl_list.specs.Speeds.{day_of};
-ghost use Rattle.edl_layout.specs.Rows.{outgoing, speed_lines};
+ghost use Rattle.edl_layout.specs.Rows.{speed_lines};
+ghost use Rattle.edl_list.specs.Labelled.{outgoing, IsLabelled, IsBelowDay};
 ghost use Rattle.edl_layout.specs.Spelling.{event_text, lines_from, text_of, spelling, mode_line as mode_text};
-ghost use Rattle.edl_layout.specs.Labelled.{IsBelowDay, IsLabelled};
 
 use crate::notes::{put_headed, put_name};
 use crate::rows::{put_first, put_main};
@@ -32,10 +33,11 @@ fn put_cut<W: Out>(
     drop: bool,
 )
     requires cut { outgoing event.now.cross ≡ None }
-    requires number { number ≤ 999 }
+    requires number { number ≤ most_number }
     requires event { IsEvent (day_of rate) event.now }
     requires labels { IsLabelled rate drop event.now }
-    ensures { Puts (standing W.known W.faults out.old buffer.old) (standing W.known W.faults out.new buffer.new) (event_text rate drop number event.now) }
+    ensures { HandsOver W.known W.faults out.old out.new buffer.old buffer.new
+        (event_text rate drop number event.now) }
 {
     put_main(buffer, out, event, number, rate, drop);
     buffer.put(out, b"\n");
@@ -61,10 +63,11 @@ fn put_pair<W: Out>(
     drop: bool,
 )
     requires pair { outgoing event.now.cross ≡ Some from.now }
-    requires number { number ≤ 999 }
+    requires number { number ≤ most_number }
     requires event { IsEvent (day_of rate) event.now }
     requires labels { IsLabelled rate drop event.now }
-    ensures { Puts (standing W.known W.faults out.old buffer.old) (standing W.known W.faults out.new buffer.new) (event_text rate drop number event.now) }
+    ensures { HandsOver W.known W.faults out.old out.new buffer.old buffer.new
+        (event_text rate drop number event.now) }
 {
     put_first(buffer, out, event, from, number, rate, drop);
     buffer.put(out, b"\n");
@@ -88,7 +91,8 @@ fn put_speeds<W: Out>(
     requires to { IsSide (day_of rate) to.now }
     requires from_in { IsBelowDay rate drop from.now.src_in }
     requires to_in { IsBelowDay rate drop to.now.src_in }
-    ensures { Puts (standing W.known W.faults out.old buffer.old) (standing W.known W.faults out.new buffer.new) (text_of (speed_lines rate drop to.now (Some from.now))) }
+    ensures { HandsOver W.known W.faults out.old out.new buffer.old buffer.new
+        (text_of (speed_lines rate drop to.now (Some from.now))) }
 {
     put_speed_if(buffer, out, has_speed(from, rate), from, rate, drop);
     put_speed_if(buffer, out, needs_line(to, from, rate), to, rate, drop);
@@ -103,10 +107,11 @@ fn put_event<W: Out>(
     rate: Rate,
     drop: bool,
 )
-    requires number { number ≤ 999 }
+    requires number { number ≤ most_number }
     requires event { IsEvent (day_of rate) event.now }
     requires labels { IsLabelled rate drop event.now }
-    ensures { Puts (standing W.known W.faults out.old buffer.old) (standing W.known W.faults out.new buffer.new) (event_text rate drop number event.now) }
+    ensures { HandsOver W.known W.faults out.old out.new buffer.old buffer.new
+        (event_text rate drop number event.now) }
 {
     match &event.cross {
         Cross::Cut => put_cut(buffer, out, event, number, rate, drop),
@@ -117,10 +122,11 @@ fn put_event<W: Out>(
 
 // Hands over the lines of the events, numbered from 1.
 fn put_events<W: Out>(buffer: &mut OutBuffer, out: &mut W, events: &[Event], rate: Rate, drop: bool)
-    requires few { length events.now ≤ 999 }
+    requires few { length events.now ≤ most_number }
     requires events { All (IsEvent (day_of rate)) events.now }
     requires labels { All (IsLabelled rate drop) events.now }
-    ensures { Puts (standing W.known W.faults out.old buffer.old) (standing W.known W.faults out.new buffer.new) (text_of (lines_from rate drop 1 events.now)) }
+    ensures { HandsOver W.known W.faults out.old out.new buffer.old buffer.new
+        (text_of (lines_from rate drop 1 events.now)) }
 {
     let mut number = 1;
     for event in events {
@@ -140,10 +146,11 @@ fn mode_line(drop: bool) -> &'static [u8]
     }
 }
 
-/// Sends the lines of one event under this number: its event line, or the two of a pair, then the M2 lines of the sides
-/// whose speed isn't the rate's own, and then the notes of their names.
+/// Sends the lines of one event under this number: its event line, or the two of a pair, then the
+/// M2 lines of the sides whose speed isn't the rate's own, and then the notes of their names.
 ///
-/// It takes no memory. `Sink` comes only where a write failed, and then a prefix of the text was sent.
+/// It takes no memory. `Sink` comes only where a write failed, and then a prefix of the text was
+/// sent.
 pub fn write_event<W: Out>(
     event: &Event,
     number: u32,
@@ -151,10 +158,11 @@ pub fn write_event<W: Out>(
     drop: bool,
     out: &mut W,
 ) -> Result<(), WriteFault>
-    requires number { number ≤ 999 }
+    requires number { number ≤ most_number }
     requires event { IsEvent (day_of rate) event.now }
     requires labels { IsLabelled rate drop event.now }
-    ensures told { Tells (SendsAll (event_text rate drop number event.now) result) (W.known out.old) (W.known out.new) }
+    ensures told { Tells (SendsAll (event_text rate drop number event.now) result)
+        (W.known out.old) (W.known out.new) }
     ensures cause { HasCause (W.faults out.old) (W.faults out.new) result }
 {
     let mut buffer = OutBuffer::new();
@@ -162,15 +170,17 @@ pub fn write_event<W: Out>(
     buffer.flush(out)
 }
 
-/// Sends the one text of a list at its rate, with drop-frame or without: the line of its title where that isn't empty, the
-/// frame code mode, and its events numbered from 1.
+/// Sends the one text of a list at its rate, with drop-frame or without: the line of its title
+/// where that isn't empty, the frame code mode, and its events numbered from 1.
 ///
-/// It takes no memory. `Sink` comes only where a write failed, and then a prefix of the text was sent.
+/// It takes no memory. `Sink` comes only where a write failed, and then a prefix of the text was
+/// sent.
 pub fn write_list<W: Out>(list: &EventList, drop: bool, out: &mut W) -> Result<(), WriteFault>
     requires formed { IsWellFormed list.now }
-    requires few { length list.now.events ≤ 999 }
+    requires few { length list.now.events ≤ most_number }
     requires labels { All (IsLabelled list.now.rate drop) list.now.events }
-    ensures told { Tells (SendsAll (spelling list.now drop) result) (W.known out.old) (W.known out.new) }
+    ensures told { Tells (SendsAll (spelling list.now drop) result) (W.known out.old)
+        (W.known out.new) }
     ensures cause { HasCause (W.faults out.old) (W.faults out.new) result }
 {
     let mut buffer = OutBuffer::new();

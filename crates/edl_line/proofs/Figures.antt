@@ -1,16 +1,14 @@
 -- Numbers and reels, each of one field.
 use Rattle.std.proofs.Common.{◌≡◌, ◌+◌, ◌-◌, ◌*◌, ◌^◌, ◌<◌, ◌≤◌, ℕ, List, [], ◌∷◌, ◌++◌, All, take, length, get_or, refl, sym, ap, ◌∙◌, arith}
-use Rattle.std.specs.Str.{IsUtf8}
 use Rattle.std.specs.Str.Parse.{AllDigits, IsNumeral, digits_value}
-use Rattle.std.proofs.lemmas.Grind.{common_steps}
 use Rattle.std.proofs.lemmas.List.{take_more}
 use Rattle.std.proofs.lemmas.List.Elements.{All-nil, All-cons, All-head, All-tail}
-use Rattle.std.proofs.lemmas.Str.{IsUtf8-from_ascii, digit_value_digit}
+use Rattle.std.proofs.lemmas.Str.{digit_value_digit}
 use Rattle.std.proofs.lemmas.Str.Parse.{digit_from_value, digit_at, digits_value-take-le}
 use Rattle.std.proofs.lemmas.Int.Digits.{digits_value-lt, digits_value_push}
 use Rattle.std.proofs.Math.Nat.{pow-le-pow_right}
 use Rattle.edl_line.specs.Statements.{Reel, Black, Named}
-use Rattle.edl_line.specs.Numbers.{IsNumber, IsReelName, IsReel}
+use Rattle.edl_line.specs.Numbers.{IsNumber, IsReel}
 
 -- bytes from `0` to `9` are digits
 pub digits_of : (bytes : List ℕ) → All (λ b. (48 ≤ b) × (b ≤ 57)) bytes → AllDigits 10 bytes
@@ -49,13 +47,6 @@ pushed digits i all within =
 -- a field writes one number
 pub number_unique : (most : ℕ) (field : List ℕ) (a b : ℕ) → IsNumber most field a → IsNumber most field b → a ≡ b
 number_unique most field a b p q = p.value ∙ sym q.value
-
-low_at : (name : List ℕ) → All (λ b. (33 ≤ b) × (b ≤ 126)) name → (i : ℕ) → get_or name i 0 < 128
-low_at name h i = grind (arith, common_steps, h i 0)
-
--- the name of a reel is text
-pub reel_is_text : (name : List ℕ) → IsReelName name → IsUtf8 name
-reel_is_text name h = IsUtf8-from_ascii name (low_at name h.prints)
 
 -- a field is one reel
 pub reel_unique : (field : List ℕ) (a b : Reel) → IsReel field a → IsReel field b → a ≡ b

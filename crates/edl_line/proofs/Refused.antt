@@ -5,7 +5,8 @@ use Rattle.edl_line.specs.Statements.{Statement, Nothing, Title, Mode, Event, Sp
 use Rattle.edl_line.specs.Events.{IsEvent}
 use Rattle.edl_line.specs.Speeds.{IsSpeed}
 use Rattle.edl_line.specs.Notes.{IsNote}
-use Rattle.edl_line.specs.Saying.{begins_with_digit, begins_remark, first_of, fourth_of, IsKeyWord, IsSplit, IsFree, IsWordy, SaysTight, IsOther}
+use Rattle.edl_line.specs.Saying.{begins_with_digit, begins_remark, first_of, fourth_of, IsKeyWord, IsSplit, IsFree, SaysTight, IsOther}
+use Rattle.edl_line.specs.StateLines.{IsWordy}
 use Rattle.edl_line.proofs.Heads.{IsDigit, lead, title_lead, mode_lead, event_lead, speed_first, m2_lead, note_lead, digit_lead, lead_digit, remark_lead}
 use Rattle.edl_line.proofs.Noted.{no_text, one_side}
 use Rattle.edl_line.proofs.Determined.{Tight, split_digit, split_other}

@@ -8,13 +8,16 @@ use Rattle.edl_line.specs.declared.statement.Kind.TheVariants.{Cut, Dissolve, Wi
 
 -- the picture V, the first sound A and the second sound A2, each present or not
 abbrev pub channels : Bool → Bool → Bool → Channels
-channels picture first_sound second_sound = record { picture = picture; first_sound = first_sound; second_sound = second_sound }
+channels picture first_sound second_sound =
+    record { picture = picture; first_sound = first_sound; second_sound = second_sound }
 
 -- the words for channels
 abbrev pub channel_words : List (List ℕ × Channels)
 channel_words =
-    (codes "V", channels true false false) ∷ (codes "A", channels false true false) ∷ (codes "A2", channels false false true) ∷ (codes "AA", channels false true true)
-    ∷ (codes "B", channels true true false) ∷ (codes "A/V", channels true true false) ∷ (codes "A2/V", channels true false true) ∷ (codes "AA/V", channels true true true) ∷ []
+    (codes "V", channels true false false) ∷ (codes "A", channels false true false)
+    ∷ (codes "A2", channels false false true) ∷ (codes "AA", channels false true true)
+    ∷ (codes "B", channels true true false) ∷ (codes "A/V", channels true true false)
+    ∷ (codes "A2/V", channels true false true) ∷ (codes "AA/V", channels true true true) ∷ []
 
 -- what a word stands for in a list of words
 abbrev pub meaning : List ℕ → List (List ℕ × Channels) → Option Channels
@@ -44,14 +47,15 @@ pub record IsWipe (fields : List (List ℕ)) (code frames : ℕ) : Type 0 where
   pub is_kind : IsWipeCode kind code
   pub lasts : IsLasting fields kind frames
 
--- the fields of the type: `C` for a cut, `D` for a dissolve and `W` with a code for a wipe, these two with a duration
+-- the fields of the type: `C` for a cut, `D` for a dissolve and `W` with a code for a wipe, these
+-- two with a duration
 abbrev pub IsKind : List (List ℕ) → Kind → Type 0
 IsKind fields Cut = fields ≡ codes "C" ∷ []
 IsKind fields (Dissolve frames) = IsLasting fields (codes "D") frames
 IsKind fields (Wipe code frames) = IsWipe fields code frames
 
--- The fields of an event line: the number, the reel, the channels, the type with its duration, and the labels of source in, source out, record in and record
--- out.
+-- The fields of an event line: the number, the reel, the channels, the type with its duration, and
+-- the labels of source in, source out, record in and record out.
 pub record IsEvent (fields : List (List ℕ)) (event : EventLine) : Type 0 where
   pub number : List ℕ
   pub reel : List ℕ

@@ -5,3 +5,4 @@ pub mod Saying
 pub mod Speeds
 pub mod Statements
 pub mod Views
+pub mod StateLines

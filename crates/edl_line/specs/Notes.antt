@@ -3,7 +3,8 @@ use Rattle.std.specs.Prelude.{◌≡◌, ◌≢◌, List, [], ℕ, ◌++◌, fal
 use Rattle.text_lines.specs.First.{AreBlanks, begins_with_blank}
 use Rattle.text_lines.specs.Lines.{trimmed}
 
--- the line begins with the word, behind it stand one or more blanks, and behind them the rest, which begins with none
+-- the line begins with the word, behind it stand one or more blanks, and behind them the rest,
+-- which begins with none
 pub record IsBehind (word line rest : List ℕ) : Type 0 where
   pub blanks : List ℕ
   pub some : blanks ≢ []
@@ -11,7 +12,8 @@ pub record IsBehind (word line rest : List ℕ) : Type 0 where
   pub ends : begins_with_blank rest ≡ false
   pub is : line ≡ word ++ (blanks ++ rest)
 
--- the line is `*`, `FROM` or `TO`, `CLIP` and `NAME:` with blanks between, and the text follows the colon at once
+-- the line is `*`, `FROM` or `TO`, `CLIP` and `NAME:` with blanks between, and the text follows the
+-- colon at once
 pub record IsNote (side line text : List ℕ) : Type 0 where
   pub first : List ℕ
   pub second : List ℕ

@@ -1,6 +1,7 @@
 -- Numbers and reels, as one field of a line spells them.
-use Rattle.std.specs.Prelude.{◌≡◌, ◌≢◌, ◌≤◌, ℕ, List, All, codes, length}
+use Rattle.std.specs.Prelude.{◌≡◌, ◌≤◌, ℕ, List, codes, length}
 use Rattle.std.specs.Str.Parse.{IsNumeral, digits_value}
+use Rattle.text_lines.specs.ReelNames.{IsReelName}
 use Rattle.edl_line.specs.Statements.{Reel, Black, Named}
 
 -- how many digits the number of an event has at most
@@ -19,22 +20,11 @@ code_digits = 3
 abbrev pub speed_digits : ℕ
 speed_digits = 3
 
--- how many bytes the name of a reel has at most
-abbrev pub reel_bytes : ℕ
-reel_bytes = 8
-
 -- one digit or more, at most so many, that write this number
 pub record IsNumber (most : ℕ) (field : List ℕ) (number : ℕ) : Type 0 where
   pub digits : IsNumeral 10 field
   pub few : length field ≤ most
   pub value : number ≡ digits_value 10 field
-
--- the name of a reel: one byte or more, at most as many as a reel has, each from `!` to `~`, and not the two letters of black
-pub record IsReelName (name : List ℕ) : Type 0 where
-  pub some : 1 ≤ length name
-  pub short : length name ≤ reel_bytes
-  pub prints : All (λ b. (33 ≤ b) × (b ≤ 126)) name
-  pub not_black : name ≢ codes "BL"
 
 -- the field is this reel: `BL` is black, and another name is the name of a reel
 abbrev pub IsReel : List ℕ → Reel → Type 0

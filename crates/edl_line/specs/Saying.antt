@@ -1,4 +1,5 @@
--- What a line of a CMX 3600 list says by its form alone, and the faults of a line that says nothing.
+-- What a line of a CMX 3600 list says by its form alone, and the faults of a line that says
+-- nothing.
 use Rattle.std.specs.Prelude.{◌≡◌, ◌≢◌, ◌⊎◌, ◌==◌, ◌||◌, ℕ, Bool, true, false, List, [], ◌∷◌, ◌++◌, codes}
 use Rattle.std.specs.Char.{is_ascii_digit, is_ascii_alphabetic}
 use Rattle.text_lines.specs.Lines.{fields_of, trimmed}
@@ -40,7 +41,9 @@ pub record IsTitle (line title : List ℕ) : Type 0 where
 -- the fields of a line of the frame code mode
 abbrev pub IsMode : List (List ℕ) → Bool → Type 0
 IsMode fields true = fields ≡ codes "FCM:" ∷ codes "DROP" ∷ codes "FRAME" ∷ []
-IsMode fields false = (fields ≡ codes "FCM:" ∷ codes "NON-DROP" ∷ codes "FRAME" ∷ []) ⊎ (fields ≡ codes "FCM:" ∷ codes "NON" ∷ codes "DROP" ∷ codes "FRAME" ∷ [])
+IsMode fields false =
+    (fields ≡ codes "FCM:" ∷ codes "NON-DROP" ∷ codes "FRAME" ∷ [])
+    ⊎ (fields ≡ codes "FCM:" ∷ codes "NON" ∷ codes "DROP" ∷ codes "FRAME" ∷ [])
 
 -- the type of a key event begins with `K`
 abbrev pub IsKeyWord : List ℕ → Type 0
@@ -66,7 +69,8 @@ pub record IsFree (line : List ℕ) : Type 0 where
   pub no_from : (text : List ℕ) → IsNote (codes "FROM") line text → ⊥
   pub no_to : (text : List ℕ) → IsNote (codes "TO") line text → ⊥
 
--- a line that is ignored: it begins with `*`, `>` or a letter, and is none of the other lines that may begin so
+-- a line that is ignored: it begins with `*`, `>` or a letter, and is none of the other lines that
+-- may begin so
 pub record IsIgnored (line : List ℕ) : Type 0 where
   pub begins : begins_remark line ≡ true
   pub no_title : (text : List ℕ) → line ≢ codes "TITLE:" ++ text
@@ -102,9 +106,3 @@ FaultTight line Form = IsOther line
 -- the fault of a line
 abbrev pub HasFault : List ℕ → LineFault → Type 0
 HasFault line fault = FaultTight (trimmed line) fault
-
--- a line that begins with no digit, isn't empty and is no title
-pub record IsWordy (line : List ℕ) : Type 0 where
-  pub some : line ≢ []
-  pub no_title : (text : List ℕ) → line ≢ codes "TITLE:" ++ text
-  pub no_digit : begins_with_digit line ≡ false

@@ -1,4 +1,5 @@
--- What one line of a CMX 3600 list says, as plain data: a text is its bytes, and labels stand as the line spells them.
+-- What one line of a CMX 3600 list says, as plain data: a text is its bytes, and labels stand as
+-- the line spells them.
 use Rattle.std.specs.Prelude.{ℕ, Bool, List, [], ◌∷◌}
 use Rattle.edl_line.specs.declared.statement.Channels.{Channels}
 use Rattle.edl_line.specs.declared.statement.Kind.{Kind}
@@ -23,15 +24,16 @@ pub record EventLine : Type 0 where
 abbrev pub labels_of : EventLine → List (List ℕ)
 labels_of event = event.source_in ∷ event.source_out ∷ event.record_in ∷ event.record_out ∷ []
 
--- a speed line, `M2`: how many tenths of a frame a second a reel runs, and whether a minus stands before them
+-- a speed line, `M2`: how many tenths of a frame a second a reel runs, and whether a minus stands
+-- before them
 pub record SpeedLine : Type 0 where
   pub reel : Reel
   pub reverse : Bool
   pub tenths : ℕ
   pub label : List ℕ
 
--- What a line says: nothing, the title, the frame code mode (whether drop frame), an event, the speed of a side, or the name of the clip that an event comes
--- from or goes to.
+-- What a line says: nothing, the title, the frame code mode (whether drop frame), an event, the
+-- speed of a side, or the name of the clip that an event comes from or goes to.
 pub data Statement : Type 0 where
   Nothing : Statement
   Title : (title : List ℕ) → Statement

@@ -3,7 +3,8 @@ ghost use Rattle.std.specs.Prelude.{◌≡◌, ◌∷◌, [], ◌++◌, List, �
 ghost use Rattle.text_lines.specs.Lines.{fields_of};
 ghost use Rattle.edl_line.specs.Statements.{EventLine as Event};
 ghost use Rattle.edl_line.specs.Events.{IsEvent, IsKind, IsWipeCode, meaning, channel_words};
-ghost use Rattle.edl_line.specs.Views.{event_said, fields_in, duration_in};
+ghost use Rattle.edl_line.specs.Views.{event_said};
+ghost use Rattle.edl_line.specs.StateLines.{fields_in, duration_in};
 ghost use Rattle.edl_line.specs.declared.statement.Kind.{Kind as KindSaid};
 
 use crate::fields::EventFields;
@@ -14,7 +15,9 @@ use text_lines::{is_text, strip_front};
 // The event of a line.
 #[tactic(auto, using(crate::proofs::EventParts::no_length))]
 pub(crate) fn event_of(line: &[u8]) -> Option<EventLine<'_>>
-    ensures { MatchOption result ((event : Event) → IsEvent (fields_of line.now) event → ⊥) (λ event. IsEvent (fields_of line.now) (event_said event)) }
+    ensures { MatchOption result
+        ((event : Event) → IsEvent (fields_of line.now) event → ⊥)
+        (λ event. IsEvent (fields_of line.now) (event_said event)) }
 {
     match EventFields::of(line) {
         Some(fields) => event_from(fields),
@@ -25,7 +28,9 @@ pub(crate) fn event_of(line: &[u8]) -> Option<EventLine<'_>>
 // The event of the fields of a line.
 #[tactic(auto, using(crate::proofs::EventParts::no_number, crate::proofs::EventParts::no_reel, crate::proofs::EventParts::no_channels, crate::proofs::EventParts::no_kind))]
 fn event_from(fields: EventFields<'_>) -> Option<EventLine<'_>>
-    ensures { MatchOption result ((event : Event) → IsEvent (fields_in fields.entry) event → ⊥) (λ event. IsEvent (fields_in fields.entry) (event_said event)) }
+    ensures { MatchOption result
+        ((event : Event) → IsEvent (fields_in fields.entry) event → ⊥)
+        (λ event. IsEvent (fields_in fields.entry) (event_said event)) }
 {
     let number = number_of(fields.number, NUMBER_DIGITS)?;
     let reel = reel_of(fields.reel)?;
@@ -63,7 +68,9 @@ fn channels_of(word: &[u8]) -> Option<Channels>
 
 // The type of an event, and its duration where it has one.
 fn kind_of(kind: &[u8], duration: Option<&[u8]>) -> Option<Kind>
-    ensures { MatchOption result ((said : KindSaid) → IsKind (kind.now ∷ duration_in duration.entry) said → ⊥) (IsKind (kind.now ∷ duration_in duration.entry)) }
+    ensures { MatchOption result
+        ((said : KindSaid) → IsKind (kind.now ∷ duration_in duration.entry) said → ⊥)
+        (IsKind (kind.now ∷ duration_in duration.entry)) }
 {
     match duration {
         None => cut_of(kind),
@@ -73,7 +80,9 @@ fn kind_of(kind: &[u8], duration: Option<&[u8]>) -> Option<Kind>
 
 // A cut, which has no duration.
 fn cut_of(kind: &[u8]) -> Option<Kind>
-    ensures { MatchOption result ((said : KindSaid) → IsKind (kind.now ∷ []) said → ⊥) (IsKind (kind.now ∷ [])) }
+    ensures { MatchOption result
+        ((said : KindSaid) → IsKind (kind.now ∷ []) said → ⊥)
+        (IsKind (kind.now ∷ [])) }
 {
     if is_text(kind, b"C") {
         Some(Kind::Cut)
@@ -85,7 +94,9 @@ fn cut_of(kind: &[u8]) -> Option<Kind>
 // A dissolve or a wipe.
 #[tactic(auto, using(crate::proofs::EventParts::no_duration, crate::proofs::EventParts::no_code, crate::proofs::EventParts::dissolve_is, crate::proofs::EventParts::wipe_is))]
 fn lasting_of(kind: &[u8], duration: &[u8]) -> Option<Kind>
-    ensures { MatchOption result ((said : KindSaid) → IsKind (kind.now ∷ duration.now ∷ []) said → ⊥) (IsKind (kind.now ∷ duration.now ∷ [])) }
+    ensures { MatchOption result
+        ((said : KindSaid) → IsKind (kind.now ∷ duration.now ∷ []) said → ⊥)
+        (IsKind (kind.now ∷ duration.now ∷ [])) }
 {
     let frames = number_of(duration, DURATION_DIGITS)?;
     if is_text(kind, b"D") {

@@ -2,7 +2,7 @@
 ghost use Rattle.std.specs.Prelude.{◌≡◌, ◌≢◌, ◌↔◌, ◌++◌, IsTrue, MatchOption, drop, length, map};
 ghost use Rattle.text_lines.specs.Lines.{fields_of};
 ghost use Rattle.edl_line.specs.Saying.{first_of, fourth_of};
-ghost use Rattle.edl_line.specs.Views.{duration_in, labels_in};
+ghost use Rattle.edl_line.specs.StateLines.{duration_in, labels_in};
 
 use crate::statement::Labels;
 use text_lines::{is_text, split_field};
@@ -60,11 +60,13 @@ pub(crate) struct EventFields<'a> {
 }
 
 impl<'a> EventFields<'a> {
-    ghost use Rattle.edl_line.specs.Views.{fields_in};
+    ghost use Rattle.edl_line.specs.StateLines.{fields_in};
 
     // The fields of a line that has eight or nine.
     pub(crate) fn of(line: &'a [u8]) -> Option<EventFields<'a>>
-        ensures { MatchOption result ((length (fields_of line.now) ≢ 8) × (length (fields_of line.now) ≢ 9)) (λ fields. fields_of line.now ≡ fields_in fields) }
+        ensures { MatchOption result
+            ((length (fields_of line.now) ≢ 8) × (length (fields_of line.now) ≢ 9))
+            (λ fields. fields_of line.now ≡ fields_in fields) }
     {
         let (number, rest) = split_field(line)?;
         let (reel, rest) = split_field(rest)?;
@@ -84,7 +86,8 @@ impl<'a> EventFields<'a> {
 
 // The four labels of a line, and what stands before them where it has five fields.
 fn labels_behind(line: &[u8]) -> Option<(Option<&[u8]>, Labels<'_>)>
-    ensures { MatchOption result ((length (fields_of line.now) ≢ 4) × (length (fields_of line.now) ≢ 5))
+    ensures { MatchOption result
+        ((length (fields_of line.now) ≢ 4) × (length (fields_of line.now) ≢ 5))
         (λ found. fields_of line.now ≡ duration_in found.0 ++ labels_in found.1) }
 {
     match four_labels(line) {
@@ -99,7 +102,9 @@ fn labels_behind(line: &[u8]) -> Option<(Option<&[u8]>, Labels<'_>)>
 
 // The labels of a line that has four fields.
 fn four_labels(line: &[u8]) -> Option<Labels<'_>>
-    ensures { MatchOption result (length (fields_of line.now) ≢ 4) (λ labels. fields_of line.now ≡ labels_in labels) }
+    ensures { MatchOption result
+        (length (fields_of line.now) ≢ 4)
+        (λ labels. fields_of line.now ≡ labels_in labels) }
 {
     let (source_in, rest) = split_field(line)?;
     let (source_out, rest) = split_field(rest)?;
@@ -126,11 +131,13 @@ pub(crate) struct SpeedFields<'a> {
 }
 
 impl<'a> SpeedFields<'a> {
-    ghost use Rattle.edl_line.specs.Views.{speed_fields_in};
+    ghost use Rattle.edl_line.specs.StateLines.{speed_fields_in};
 
     // The fields of a line that has four.
     pub(crate) fn of(line: &'a [u8]) -> Option<SpeedFields<'a>>
-        ensures { MatchOption result (length (fields_of line.now) ≢ 4) (λ fields. fields_of line.now ≡ speed_fields_in fields) }
+        ensures { MatchOption result
+            (length (fields_of line.now) ≢ 4)
+            (λ fields. fields_of line.now ≡ speed_fields_in fields) }
     {
         let (first, rest) = split_field(line)?;
         let (reel, rest) = split_field(rest)?;

@@ -4,7 +4,8 @@ ghost use Rattle.edl_line.specs.Statements.{Statement as Said};
 ghost use Rattle.edl_line.specs.Saying.{Says, HasFault};
 ghost use Rattle.edl_line.specs.declared.statement.LineFault.{LineFault as Fault};
 
-/// Laws of the words `Says` and `HasFault`: a line says one statement at most, has one fault at most, and never both.
+/// Laws of the words `Says` and `HasFault`: a line says one statement at most, has one fault at
+/// most, and never both.
 pub fn one_outcome()
     ensures statement { (line : List ℕ) (a b : Said) → Says line a → Says line b → a ≡ b }
     ensures fault { (line : List ℕ) (a b : Fault) → HasFault line a → HasFault line b → a ≡ b }

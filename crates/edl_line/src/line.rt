@@ -4,7 +4,8 @@ ghost use Rattle.text_lines.specs.First.{begins_with_blank};
 ghost use Rattle.text_lines.specs.Lines.{fields_of, trimmed};
 ghost use Rattle.edl_line.specs.Notes.{IsNote};
 ghost use Rattle.edl_line.specs.Saying as saying;
-ghost use Rattle.edl_line.specs.Saying.{Says, HasFault, SaysTight, FaultTight, IsWordy, IsFree};
+ghost use Rattle.edl_line.specs.Saying.{Says, HasFault, SaysTight, FaultTight, IsFree};
+ghost use Rattle.edl_line.specs.StateLines.{IsWordy};
 ghost use Rattle.edl_line.specs.Views.{said};
 
 use crate::event::event_of;
@@ -14,13 +15,16 @@ use crate::speed::speed_of;
 use crate::statement::{LineFault, Statement};
 use text_lines::{is_text, strip_front, trim_blanks};
 
-/// What a line says, or why it is refused. The line comes without its end; spaces and tabs at both ends are dropped.
+/// What a line says, or why it is refused. The line comes without its end; spaces and tabs at both
+/// ends are dropped.
 ///
-/// [`LineFault::Key`] comes exactly where the line begins with a digit and its fourth field with `K`,
-/// [`LineFault::Split`] exactly where its first field is `AUD`, `SPLIT` or `SPLIT:`, and [`LineFault::Form`] exactly where
-/// it says nothing that a list may say and is neither of these.
+/// [`LineFault::Key`] comes exactly where the line begins with a digit and its fourth field with
+/// `K`, [`LineFault::Split`] exactly where its first field is `AUD`, `SPLIT` or `SPLIT:`, and
+/// [`LineFault::Form`] exactly where it says nothing that a list may say and is neither of these.
 pub fn statement_of(line: &[u8]) -> Result<Statement<'_>, LineFault>
-    ensures { MatchResult result (λ statement. Says line.now (said statement)) (λ fault. HasFault line.now fault) }
+    ensures { MatchResult result
+        (λ statement. Says line.now (said statement))
+        (λ fault. HasFault line.now fault) }
 {
     tight_statement(trim_blanks(line))
 }
@@ -28,7 +32,9 @@ pub fn statement_of(line: &[u8]) -> Result<Statement<'_>, LineFault>
 // The same of a line without blanks at its ends.
 fn tight_statement(line: &[u8]) -> Result<Statement<'_>, LineFault>
     requires { begins_with_blank line.now ≡ false }
-    ensures { MatchResult result (λ statement. SaysTight line.now (said statement)) (FaultTight line.now) }
+    ensures { MatchResult result
+        (λ statement. SaysTight line.now (said statement))
+        (FaultTight line.now) }
 {
     if line.is_empty() {
         return Ok(Statement::Nothing);
@@ -47,7 +53,9 @@ fn tight_statement(line: &[u8]) -> Result<Statement<'_>, LineFault>
 fn event_statement(line: &[u8]) -> Result<Statement<'_>, LineFault>
     requires tight { begins_with_blank line.now ≡ false }
     requires digit { saying.begins_with_digit line.now ≡ true }
-    ensures { MatchResult result (λ statement. SaysTight line.now (said statement)) (FaultTight line.now) }
+    ensures { MatchResult result
+        (λ statement. SaysTight line.now (said statement))
+        (FaultTight line.now) }
 {
     if is_key_word(fourth_field(line)) {
         return Err(LineFault::Key);
@@ -62,7 +70,9 @@ fn event_statement(line: &[u8]) -> Result<Statement<'_>, LineFault>
 fn word_statement(line: &[u8]) -> Result<Statement<'_>, LineFault>
     requires tight { begins_with_blank line.now ≡ false }
     requires wordy { IsWordy line.now }
-    ensures { MatchResult result (λ statement. SaysTight line.now (said statement)) (FaultTight line.now) }
+    ensures { MatchResult result
+        (λ statement. SaysTight line.now (said statement))
+        (FaultTight line.now) }
 {
     if let Some(drop) = mode_of(line) {
         return Ok(Statement::Mode(drop));
@@ -84,7 +94,9 @@ fn word_statement(line: &[u8]) -> Result<Statement<'_>, LineFault>
 fn from_statement<'a>(line: &'a [u8], text: &'a [u8]) -> Result<Statement<'a>, LineFault>
     requires tight { begins_with_blank line.now ≡ false }
     requires note { IsNote (codes "FROM") line.now text.now }
-    ensures { MatchResult result (λ statement. SaysTight line.now (said statement)) (FaultTight line.now) }
+    ensures { MatchResult result
+        (λ statement. SaysTight line.now (said statement))
+        (FaultTight line.now) }
 {
     match name_of(text) {
         Some(name) => Ok(Statement::FromName(name)),
@@ -97,7 +109,9 @@ fn from_statement<'a>(line: &'a [u8], text: &'a [u8]) -> Result<Statement<'a>, L
 fn to_statement<'a>(line: &'a [u8], text: &'a [u8]) -> Result<Statement<'a>, LineFault>
     requires tight { begins_with_blank line.now ≡ false }
     requires note { IsNote (codes "TO") line.now text.now }
-    ensures { MatchResult result (λ statement. SaysTight line.now (said statement)) (FaultTight line.now) }
+    ensures { MatchResult result
+        (λ statement. SaysTight line.now (said statement))
+        (FaultTight line.now) }
 {
     match name_of(text) {
         Some(name) => Ok(Statement::ToName(name)),
@@ -110,7 +124,9 @@ fn to_statement<'a>(line: &'a [u8], text: &'a [u8]) -> Result<Statement<'a>, Lin
 fn speed_statement(line: &[u8]) -> Result<Statement<'_>, LineFault>
     requires tight { begins_with_blank line.now ≡ false }
     requires first { saying.first_of (fields_of line.now) ≡ codes "M2" }
-    ensures { MatchResult result (λ statement. SaysTight line.now (said statement)) (FaultTight line.now) }
+    ensures { MatchResult result
+        (λ statement. SaysTight line.now (said statement))
+        (FaultTight line.now) }
 {
     match speed_of(line) {
         Some(speed) => Ok(Statement::Speed(speed)),
@@ -124,7 +140,9 @@ fn remark_statement(line: &[u8]) -> Result<Statement<'_>, LineFault>
     requires tight { begins_with_blank line.now ≡ false }
     requires wordy { IsWordy line.now }
     requires free { IsFree line.now }
-    ensures { MatchResult result (λ statement. SaysTight line.now (said statement)) (FaultTight line.now) }
+    ensures { MatchResult result
+        (λ statement. SaysTight line.now (said statement))
+        (FaultTight line.now) }
 {
     if is_split(first_field(line)) {
         return Err(LineFault::Split);
@@ -138,7 +156,9 @@ fn remark_statement(line: &[u8]) -> Result<Statement<'_>, LineFault>
 
 // The frame code mode of a line: whether drop frame.
 fn mode_of(line: &[u8]) -> Option<bool>
-    ensures { MatchOption result ((drop : Bool) → saying.IsMode (fields_of line.now) drop → ⊥) (saying.IsMode (fields_of line.now)) }
+    ensures { MatchOption result
+        ((drop : Bool) → saying.IsMode (fields_of line.now) drop → ⊥)
+        (saying.IsMode (fields_of line.now)) }
 {
     if has_fields(line, &[b"FCM:".as_slice(), b"DROP", b"FRAME"]) {
         return Some(true);

@@ -1,12 +1,12 @@
 // Numbers and reels, each of one field.
-ghost use Rattle.std.specs.Prelude.{◌≡◌, ◌≤◌, ◌<◌, ◌^◌, ◌↔◌, ℕ, All, IsTrue, IfSome, MatchOption, length};
+ghost use Rattle.std.specs.Prelude.{◌≡◌, ◌≤◌, ◌<◌, ◌^◌, ◌↔◌, ℕ, IsTrue, IfSome, MatchOption, length};
 ghost use Rattle.std.specs.Str.Parse.{AllDigits, IsNumeral, digits_value};
-ghost use Rattle.edl_line.specs.Numbers.{IsNumber, IsReelName, IsReel};
+ghost use Rattle.edl_line.specs.Numbers.{IsNumber, IsReel};
 ghost use Rattle.edl_line.specs.Statements.{Reel};
 ghost use Rattle.edl_line.specs.Views.{reel_said};
 
 use crate::statement::ReelName;
-use text_lines::is_text;
+use text_lines::{are_within, is_text, reel_name};
 
 /// How many digits the number of an event has at most.
 pub(crate) const NUMBER_DIGITS: usize = 3;
@@ -20,14 +20,13 @@ pub(crate) const CODE_DIGITS: usize = 3;
 /// How many digits stand at most before the point of a speed.
 pub(crate) const SPEED_DIGITS: usize = 3;
 
-/// How many bytes the name of a reel has at most.
-const REEL_BYTES: usize = 8;
-
 // The number that a field of digits writes, at most so many.
 #[tactic(auto, using(crate::proofs::Figures::is_number, crate::proofs::Figures::below))]
 pub(crate) fn number_of(field: &[u8], most: usize) -> Option<u16>
     requires { most ≤ 4 }
-    ensures number { MatchOption result ((number : ℕ) → IsNumber most field.now number → ⊥) (IsNumber most field.now) }
+    ensures number { MatchOption result
+        ((number : ℕ) → IsNumber most field.now number → ⊥)
+        (IsNumber most field.now) }
     ensures bound { IfSome result (λ number. number < 10 ^ most) }
 {
     if field.len() <= most && is_numeral(field) {
@@ -42,14 +41,7 @@ pub(crate) fn number_of(field: &[u8], most: usize) -> Option<u16>
 fn is_numeral(field: &[u8]) -> bool
     ensures { IsTrue result ↔ IsNumeral 10 field.now }
 {
-    !field.is_empty() && all_within(field, b'0', b'9')
-}
-
-// Whether each byte lies between these two.
-fn all_within(bytes: &[u8], low: u8, high: u8) -> bool
-    ensures { IsTrue result ↔ All (λ b. (low ≤ b) × (b ≤ high)) bytes.now }
-{
-    bytes.iter().all(|b| low <= *b && *b <= high)
+    !field.is_empty() && are_within(field, b'0', b'9')
 }
 
 // The number that at most four digits write.
@@ -67,7 +59,9 @@ fn value_of(digits: &[u8]) -> u16
 
 // The reel of a field.
 pub(crate) fn reel_of(field: &[u8]) -> Option<ReelName<'_>>
-    ensures { MatchOption result ((reel : Reel) → IsReel field.now reel → ⊥) (λ reel. IsReel field.now (reel_said reel)) }
+    ensures { MatchOption result
+        ((reel : Reel) → IsReel field.now reel → ⊥)
+        (λ reel. IsReel field.now (reel_said reel)) }
 {
     if is_text(field, b"BL") {
         return Some(ReelName::Black);
@@ -76,28 +70,4 @@ pub(crate) fn reel_of(field: &[u8]) -> Option<ReelName<'_>>
         Some(name) => Some(ReelName::Named(name)),
         None => None,
     }
-}
-
-// The field as the name of a reel.
-#[tactic(auto, using(crate::proofs::Figures::reel_is_text))]
-fn reel_name(field: &[u8]) -> Option<&str>
-    ensures { MatchOption result (IsReelName field.now → ⊥) (λ name. IsReelName field.now × (name.now ≡ field.now)) }
-{
-    if !is_reel_name(field) {
-        return None;
-    }
-    match std::str::from_utf8(field) {
-        Ok(name) => Some(name),
-        Err(_) => None,
-    }
-}
-
-// Whether the field is the name of a reel.
-fn is_reel_name(field: &[u8]) -> bool
-    ensures { IsTrue result ↔ IsReelName field.now }
-{
-    !field.is_empty()
-        && field.len() <= REEL_BYTES
-        && all_within(field, b'!', b'~')
-        && !is_text(field, b"BL")
 }

@@ -3,7 +3,8 @@ ghost use Rattle.std.specs.Prelude.{◌≡◌, ℕ, Bool, MatchOption};
 ghost use Rattle.text_lines.specs.Lines.{fields_of};
 ghost use Rattle.edl_line.specs.Statements.{SpeedLine as Speed};
 ghost use Rattle.edl_line.specs.Speeds.{IsSpeed, IsSpeedText, IsTenths};
-ghost use Rattle.edl_line.specs.Views.{speed_said, speed_fields_in};
+ghost use Rattle.edl_line.specs.Views.{speed_said};
+ghost use Rattle.edl_line.specs.StateLines.{speed_fields_in};
 
 use crate::fields::SpeedFields;
 use crate::numbers::{SPEED_DIGITS, number_of, reel_of};
@@ -13,7 +14,9 @@ use text_lines::{after, before, first_byte, is_text, strip_front};
 // The speed of a line.
 #[tactic(auto, using(crate::proofs::SpeedParts::no_four))]
 pub(crate) fn speed_of(line: &[u8]) -> Option<SpeedLine<'_>>
-    ensures { MatchOption result ((speed : Speed) → IsSpeed (fields_of line.now) speed → ⊥) (λ speed. IsSpeed (fields_of line.now) (speed_said speed)) }
+    ensures { MatchOption result
+        ((speed : Speed) → IsSpeed (fields_of line.now) speed → ⊥)
+        (λ speed. IsSpeed (fields_of line.now) (speed_said speed)) }
 {
     match SpeedFields::of(line) {
         Some(fields) => speed_from(fields),
@@ -24,7 +27,9 @@ pub(crate) fn speed_of(line: &[u8]) -> Option<SpeedLine<'_>>
 // The speed of the fields of a line.
 #[tactic(auto, using(crate::proofs::SpeedParts::not_m2, crate::proofs::SpeedParts::no_speed_reel, crate::proofs::SpeedParts::no_speed_text))]
 fn speed_from(fields: SpeedFields<'_>) -> Option<SpeedLine<'_>>
-    ensures { MatchOption result ((speed : Speed) → IsSpeed (speed_fields_in fields.entry) speed → ⊥) (λ speed. IsSpeed (speed_fields_in fields.entry) (speed_said speed)) }
+    ensures { MatchOption result
+        ((speed : Speed) → IsSpeed (speed_fields_in fields.entry) speed → ⊥)
+        (λ speed. IsSpeed (speed_fields_in fields.entry) (speed_said speed)) }
 {
     if !is_text(fields.first, b"M2") {
         return None;
@@ -42,7 +47,9 @@ fn speed_from(fields: SpeedFields<'_>) -> Option<SpeedLine<'_>>
 // Whether a minus stands at the front, and the tenths behind it.
 #[tactic(auto, using(crate::proofs::SpeedParts::minus_none, crate::proofs::SpeedParts::plain_none, crate::proofs::SpeedParts::minus_is, crate::proofs::SpeedParts::plain_is))]
 fn signed_tenths(field: &[u8]) -> Option<(bool, u16)>
-    ensures { MatchOption result ((reverse : Bool) (tenths : ℕ) → IsSpeedText field.now reverse tenths → ⊥) (λ speed. IsSpeedText field.now speed.0 speed.1) }
+    ensures { MatchOption result
+        ((reverse : Bool) (tenths : ℕ) → IsSpeedText field.now reverse tenths → ⊥)
+        (λ speed. IsSpeedText field.now speed.0 speed.1) }
 {
     match strip_front(field, b"-") {
         Some(text) => Some((true, tenths_of(text)?)),

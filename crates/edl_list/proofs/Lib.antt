@@ -1,0 +1,3 @@
+pub mod SpeedLemmas
+pub mod DayLemmas
+pub mod ChannelLemmas

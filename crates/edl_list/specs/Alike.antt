@@ -10,8 +10,11 @@ use Rattle.edl_list.specs.Speeds.{side_speed}
 
 -- at the rate's own speed the side that is shown gives as many frames as the record takes
 abbrev pub IsEvenEvent : Rate → Event → Type 0
-IsEvenEvent rate event = side_speed rate event.to ≡ 1000000 → (event.to.src_out -ℤ event.to.src_in) ≡ (event.rec_out -ℤ event.rec_in)
+IsEvenEvent rate event =
+    side_speed rate event.to ≡ 1000000 → (event.to.src_out -ℤ event.to.src_in) ≡
+    (event.rec_out -ℤ event.rec_in)
 
+-- each event of the list is even
 abbrev pub IsEven : EventList → Type 0
 IsEven list = All (IsEvenEvent list.rate) list.events
 

@@ -10,33 +10,16 @@ use Rattle.edl_list.specs.declared.list.Cross.{Cross}
 use Rattle.edl_list.specs.declared.list.Cross.TheVariants.{Cut, Dissolve, Wipe}
 use Rattle.edl_list.specs.declared.list.Event.{Event}
 use Rattle.edl_list.specs.declared.list.EventList.{EventList}
+use Rattle.text_lines.specs.ReelNames.{IsReelName}
+use Rattle.edl_list.specs.Limits.{most_number, most_tenths}
 use Rattle.edl_list.specs.Speeds.{day_of}
 
--- how many bytes a reel's name has at most
-abbrev pub most_reel_bytes : ℕ
-most_reel_bytes = 8
-
--- how many frames a dissolve or wipe has at most, the greatest wipe code, and the greatest speed in tenths
-abbrev pub most_frames : ℕ
-most_frames = 999
-
-abbrev pub most_code : ℕ
-most_code = 999
-
-abbrev pub most_tenths : ℕ
-most_tenths = 9999
-
--- the name of a reel: one to eight bytes that print, and not the name of black
-pub record IsReelName (name : List ℕ) : Type 0 where
-  pub some : 1 ≤ length name
-  pub short : length name ≤ most_reel_bytes
-  pub prints : All (λ b. (33 ≤ b) × (b ≤ 126)) name
-  pub not_black : name ≢ codes "BL"
-
+-- a reel: black, or one of a name that a reel can have
 abbrev pub IsReel : Reel → Type 0
 IsReel Black = Unit {0}
 IsReel (Named name) = IsReelName name
 
+-- a speed in tenths, where a side has one
 abbrev pub IsSpeed : Option ℕ → Type 0
 IsSpeed None = Unit {0}
 IsSpeed (Some tenths) = tenths ≤ most_tenths
@@ -57,14 +40,16 @@ pub record IsSide (day : ℕ) (side : Side) : Type 0 where
 -- so many frames of a dissolve or wipe, in a record span from one frame to another
 pub record AreFrames (frames : ℕ) (rec_in rec_out : ℤ) : Type 0 where
   pub some : 1 ≤ frames
-  pub few : frames ≤ most_frames
+  pub few : frames ≤ most_number
   pub inside : (rec_in +ℤ pos frames) ≤ℤ rec_out
 
 -- the beginning of an event, in a day of so many frames and a record span
 abbrev pub IsCross : ℕ → ℤ → ℤ → Cross → Type 0
 IsCross day rec_in rec_out Cut = Unit {0}
-IsCross day rec_in rec_out (Dissolve frames from) = AreFrames frames rec_in rec_out × IsSide day from
-IsCross day rec_in rec_out (Wipe code frames from) = (code ≤ most_code) × AreFrames frames rec_in rec_out × IsSide day from
+IsCross day rec_in rec_out (Dissolve frames from) =
+    AreFrames frames rec_in rec_out × IsSide day from
+IsCross day rec_in rec_out (Wipe code frames from) =
+    (code ≤ most_number) × AreFrames frames rec_in rec_out × IsSide day from
 
 -- an event that can stand in a well formed list with days of so many frames
 pub record IsEvent (day : ℕ) (event : Event) : Type 0 where
@@ -82,13 +67,15 @@ rank A2 = 2
 
 -- the events stand in order: of record in, then of V, A and A2
 abbrev pub AreInOrder : Event → Event → Type 0
-AreInOrder a b = (a.rec_in <ℤ b.rec_in) ⊎ ((a.rec_in ≡ b.rec_in) × (rank a.channel ≤ rank b.channel))
+AreInOrder a b =
+    (a.rec_in <ℤ b.rec_in) ⊎ ((a.rec_in ≡ b.rec_in) × (rank a.channel ≤ rank b.channel))
 
 -- the events share no frame of the record on one channel
 abbrev pub AreApart : Event → Event → Type 0
 AreApart a b = a.channel ≡ b.channel → (a.rec_out ≤ℤ b.rec_in) ⊎ (b.rec_out ≤ℤ a.rec_in)
 
--- A list is well formed where it has no event or its rate has a timecode, each event is one for itself, and they stand in order and apart.
+-- A list is well formed where it has no event or its rate has a timecode, each event is one for
+-- itself, and they stand in order and apart.
 pub record IsWellFormed (list : EventList) : Type 0 where
   pub timecode : (list.events ≡ []) ⊎ IsSome (mode_of list.rate false)
   pub events : All (IsEvent (day_of list.rate)) list.events

@@ -15,9 +15,11 @@ day_of rate = unwrap_or (option_map (λ mode. length (counted_of mode)) (mode_of
 
 -- a / b, rounded to the nearest whole number, and to the even one of two
 abbrev pub half_even : ℕ → ℕ → ℕ
-half_even a b = a / b + cond (nat_lt (2 * (a % b)) b) 0 (cond (nat_lt b (2 * (a % b))) 1 (a / b % 2))
+half_even a b =
+    a / b + cond (nat_lt (2 * (a % b)) b) 0 (cond (nat_lt b (2 * (a % b))) 1 (a / b % 2))
 
--- the speed in millionths of so many tenths of a frame a second, where timecode counts so many frames a second: 10 ^ 6 is the rate's own speed, also without an M2 line
+-- the speed in millionths of so many tenths of a frame a second, where timecode counts so many
+-- frames a second: 10 ^ 6 is the rate's own speed, also without an M2 line
 abbrev pub speed_of : ℕ → Option ℕ → ℕ
 speed_of count None = 1000000
 speed_of count (Some tenths) = half_even (tenths * 100000) count

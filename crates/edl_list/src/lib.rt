@@ -1,13 +1,16 @@
-//! Edit decision lists of the CMX 3600 kind as plain data: events on the channels V, A and A2, with the frame numbers of
-//! their labels.
+//! Edit decision lists of the CMX 3600 kind as plain data: events on the channels V, A and A2, with
+//! the frame numbers of their labels.
 //!
-//! Frames are counted at the list's rate. In a clause a list is the value itself, with texts as lists of their UTF-8 bytes
-//! and events as the list of them. What makes a list well formed, even, or the same as another stands in `specs/`.
+//! Frames are counted at the list's rate. In a clause a list is the value itself, with texts as
+//! lists of their UTF-8 bytes and events as the list of them. What makes a list well formed, even,
+//! or the same as another stands in `specs/`.
 #![tactic(auto)]
 
+mod laws;
 mod list;
 
-pub use list::{Channel, Cross, Event, EventList, EventSeq, Reel, Side};
+pub use laws::{channel_order, equal_speeds, frames_as_times, side_speeds};
+pub use list::{Channel, Cross, Event, EventList, EventSeq, MOST_NUMBER, MOST_TENTHS, Reel, Side};
 
 #[cfg(test)]
 mod tests;

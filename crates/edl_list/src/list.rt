@@ -3,6 +3,13 @@
 use sequences::{Sequence, Text};
 use tick_time::Rate;
 
+/// The greatest number of three digits: of an event, of the frames of a dissolve or wipe, and of a
+/// wipe's code. So a list has at most so many events.
+pub const MOST_NUMBER: usize = 999;
+
+/// The greatest speed, in tenths of a frame a second.
+pub const MOST_TENTHS: u16 = 9_999;
+
 /// A channel of the record, in the order in which events of one record in stand.
 #[derive(Debug, Clone, Copy, PartialEq, Eq)]
 pub enum Channel {
@@ -19,11 +26,13 @@ pub enum Channel {
 pub enum Reel {
     /// Black, or silence: `BL` in a list.
     Black,
-    /// The source of that name. In a well formed list a name has one to eight bytes from 0x21 to 0x7E and isn't `BL`.
+    /// The source of that name. In a well formed list a name has one to eight bytes from 0x21 to
+    /// 0x7E and isn't `BL`.
     Named(Text),
 }
 
-/// One source of an event: the incoming one of a pair or that of a cut, or the outgoing one of a pair.
+/// One source of an event: the incoming one of a pair or that of a cut, or the outgoing one of a
+/// pair.
 #[derive(Debug, Drop)]
 pub struct Side {
     /// Where the frames come from.
@@ -34,8 +43,8 @@ pub struct Side {
     pub src_in: i64,
     /// The frame of the source behind the last, as a frame number of the day.
     pub src_out: i64,
-    /// The speed that an M2 line gives, in tenths of a frame a second; `None` without such a line, which is the rate's
-    /// own speed.
+    /// The speed that an M2 line gives, in tenths of a frame a second; `None` without such a line,
+    /// which is the rate's own speed.
     pub speed: Option<u16>,
 }
 
@@ -44,7 +53,8 @@ pub struct Side {
 pub enum Cross {
     /// At once.
     Cut,
-    /// By a dissolve from the outgoing side, over so many frames of the record from the event's start.
+    /// By a dissolve from the outgoing side, over so many frames of the record from the event's
+    /// start.
     Dissolve {
         /// From 1 to 999 in a well formed list.
         frames: u16,
@@ -65,8 +75,8 @@ pub enum Cross {
 /// One event of a list on one channel.
 #[derive(Debug, Drop)]
 pub struct Event {
-    /// The line that it was read from, counted from 1: the second one of a pair. For an event of a timeline its place in
-    /// the list, counted from 1.
+    /// The line that it was read from, counted from 1: the second one of a pair. For an event of a
+    /// timeline its place in the list, counted from 1.
     pub line: u32,
     /// The channel of the record.
     pub channel: Channel,
@@ -80,7 +90,8 @@ pub struct Event {
     pub rec_out: i64,
 }
 
-/// The events of a list. In a well formed list they stand in order of record in, then of V, A and A2.
+/// The events of a list. In a well formed list they stand in order of record in, then of V, A and
+/// A2.
 pub type EventSeq = Sequence<Event>;
 
 /// An edit decision list.
@@ -90,7 +101,8 @@ pub struct EventList {
     pub title: Text,
     /// The rate at which all frames are counted.
     pub rate: Rate,
-    /// Whether the list is in drop-frame mode: whether the `FCM` in force at its first event line is drop.
+    /// Whether the list is in drop-frame mode: whether the `FCM` in force at its first event line
+    /// is drop.
     pub drop: bool,
     /// The events.
     pub events: EventSeq,

@@ -6,7 +6,7 @@ use Rattle.edl_list.specs.declared.list.Channel.TheVariants.{V, A, A2}
 use Rattle.edl_list.specs.declared.list.Event.{Event}
 use Rattle.edl_list.specs.Formed.{AreApart}
 use Rattle.edl_order.specs.Overlaps.{IsOverlap, IsFirstOverlap, AreRead}
-use Rattle.edl_order.specs.Kept.{IsOverlapOn, FindsOn, lesser_of}
+use Rattle.edl_order.specs.StateSpans.{IsOverlapOn, FindsOn, lesser_of}
 use Rattle.edl_order.proofs.Finding.{no_overlap, all_apart}
 
 -- the least number that P holds of

@@ -1,4 +1,5 @@
 pub mod Finding
+pub mod FollowSteps
 pub mod Least
 pub mod Sorting
 pub mod SpanSteps

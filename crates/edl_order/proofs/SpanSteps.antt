@@ -15,7 +15,7 @@ use Rattle.std.proofs.lemmas.List.Quantifiers.{Any-push, all_pairs_push}
 use Rattle.edl_list.specs.declared.list.Channel.{Channel}
 use Rattle.edl_list.specs.declared.list.Event.{Event}
 use Rattle.edl_order.specs.Overlaps.{AreRead}
-use Rattle.edl_order.specs.Kept.{Has, AreApart, Meets, AreApartOn, Keeps}
+use Rattle.edl_order.specs.StateSpans.{Has, AreSpansApart, Meets, AreApartOn, Keeps}
 use Rattle.edl_order.proofs.Whole.{which, below_or_not, is_below, not_below}
 
 one_end : (spans : BTreeMap ℤ ℤ) (start a b : ℤ) → Has spans start a → Has spans start b → a ≡ b
@@ -49,7 +49,7 @@ is_there : (spans : BTreeMap ℤ ℤ) (start end : ℤ) → Has spans start end 
 is_there spans start end h = rw h refl
 
 -- of the spans that start before an end the last one is the only one that can go past a start
-last_only : (spans : BTreeMap ℤ ℤ) (from to start end : ℤ) → AreApart spans → Has spans start end → ((q : ℤ) → q <ℤ to → IsSome (get int_cmp spans q) → q ≤ℤ start) → end ≤ℤ from → Meets spans from to → ⊥
+last_only : (spans : BTreeMap ℤ ℤ) (from to start end : ℤ) → AreSpansApart spans → Has spans start end → ((q : ℤ) → q <ℤ to → IsSome (get int_cmp spans q) → q ≤ℤ start) → end ≤ℤ from → Meets spans from to → ⊥
 last_only spans from to start end apart has last past m = by (which m.start start)
   where
     some : start <ℤ end
@@ -62,7 +62,7 @@ last_only spans from to start end apart has last past m = by (which m.start star
     by (inr (inr h)) = let l = last m.start m.first (is_there spans m.start m.end m.has) in omega (arith, ints, l, h)
 
 -- what the last entry of a range says
-pub last_meets : (spans : BTreeMap ℤ ℤ) (found rest : List (ℤ × ℤ)) (e : ℤ × ℤ) (from to : ℤ) → AreApart spans → IsRangeOf int_cmp Unbounded (Excluded to) spans found → found ≡ rest ++ e ∷ []
+pub last_meets : (spans : BTreeMap ℤ ℤ) (found rest : List (ℤ × ℤ)) (e : ℤ × ℤ) (from to : ℤ) → AreSpansApart spans → IsRangeOf int_cmp Unbounded (Excluded to) spans found → found ≡ rest ++ e ∷ []
     → MatchBool (int_lt from e.1) (Meets spans from to) (Meets spans from to → ⊥)
 last_meets spans found rest e from to apart range is = by (int_lt from e.1) refl
   where
@@ -109,7 +109,7 @@ free spans from to none start end has first = by (below_or_not from end)
     by (inl h) = absurd (none (record { start = start; end = end; has = has; first = first; second = h }))
     by (inr h) = h
 
-behind : (spans : BTreeMap ℤ ℤ) (from to : ℤ) → AreApart spans → (Meets spans from to → ⊥) → (start end : ℤ) → Has spans start end → from <ℤ start → to ≤ℤ start
+behind : (spans : BTreeMap ℤ ℤ) (from to : ℤ) → AreSpansApart spans → (Meets spans from to → ⊥) → (start end : ℤ) → Has spans start end → from <ℤ start → to ≤ℤ start
 behind spans from to apart none start end has after = by (below_or_not start to)
   where
     by : (start <ℤ to) ⊎ (to ≤ℤ start) → to ≤ℤ start
@@ -117,7 +117,7 @@ behind spans from to apart none start end has after = by (below_or_not start to)
     by (inr h) = h
 
 -- no span that is kept starts where the new one does
-other_start : (spans : BTreeMap ℤ ℤ) (from to : ℤ) → AreApart spans → (Meets spans from to → ⊥) → from <ℤ to → (start end : ℤ) → Has spans start end → start ≡ from → ⊥
+other_start : (spans : BTreeMap ℤ ℤ) (from to : ℤ) → AreSpansApart spans → (Meets spans from to → ⊥) → from <ℤ to → (start end : ℤ) → Has spans start end → start ≡ from → ⊥
 other_start spans from to apart none some start end has e =
     let first : start <ℤ to = omega (arith, ints, e, some) in
     let f = free spans from to none start end has first in
@@ -136,7 +136,7 @@ olds spans after from to a start end has = by (which start from)
     by (inr (inl h)) = inl (h, one_end after from end to (subst (λ x. Has after x end) h has) a.added)
     by (inr (inr h)) = other (λ e. omega (arith, ints, e, h))
 
-apart_more : (spans after : BTreeMap ℤ ℤ) (from to : ℤ) → AreApart spans → (Meets spans from to → ⊥) → from <ℤ to → Adds spans after from to → AreApart after
+apart_more : (spans after : BTreeMap ℤ ℤ) (from to : ℤ) → AreSpansApart spans → (Meets spans from to → ⊥) → from <ℤ to → Adds spans after from to → AreSpansApart after
 apart_more spans after from to apart none some a = record { some = each; apart = pair }
   where
     each : (start end : ℤ) → Has after start end → start <ℤ end
@@ -226,7 +226,7 @@ keeps_more spans after channel events event on some none u k = record {
         by (inr h) = inr h
 
 -- the front of a list, and one element more
-front_more : (events : List Event) (i : ℕ) (event : Event) → i < length events → get_or events i event ≡ event → take (i + 1) events ≡ take i events ++ event ∷ []
+pub front_more : (events : List Event) (i : ℕ) (event : Event) → i < length events → get_or events i event ≡ event → take (i + 1) events ≡ take i events ++ event ∷ []
 front_more events i event within is = take_more events i event within ∙ ap (λ e. take i events ++ e ∷ []) is
 
 pub step_other : (spans now : BTreeMap ℤ ℤ) (channel : Channel) (events : List Event) (i : ℕ) (event : Event) → i < length events → get_or events i event ≡ event → now ≡ spans → (event.channel ≡ channel → ⊥)

@@ -1,3 +1,3 @@
-pub mod Kept
 pub mod Order
 pub mod Overlaps
+pub mod StateSpans

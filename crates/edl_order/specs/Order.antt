@@ -5,7 +5,9 @@ use Rattle.edl_list.specs.Formed.{rank}
 
 -- by record in, then by V, A and A2, then by `after` of their lines
 abbrev pub StandsBy : (ℕ → ℕ → Type 0) → Event → Event → Type 0
-StandsBy after a b = (a.rec_in <ℤ b.rec_in) ⊎ ((a.rec_in ≡ b.rec_in) × ((rank a.channel < rank b.channel) ⊎ ((rank a.channel ≡ rank b.channel) × after a.line b.line)))
+StandsBy after a b =
+    (a.rec_in <ℤ b.rec_in) ⊎ ((a.rec_in ≡ b.rec_in) ×
+    ((rank a.channel < rank b.channel) ⊎ ((rank a.channel ≡ rank b.channel) × after a.line b.line)))
 
 -- the one event stands before the other: by record in, then by V, A and A2, then by their lines
 abbrev pub StandsBefore : Event → Event → Type 0

@@ -23,11 +23,13 @@ pub record IsFirstOverlap (events : List Event) (line : ℕ) : Type 0 where
   pub is : IsOverlap events line
   pub least : (other : ℕ) → IsOverlap events other → line ≤ other
 
--- the one event was read before the other: from an earlier line, or from the same line for another channel
+-- the one event was read before the other: from an earlier line, or from the same line for another
+-- channel
 abbrev pub WasReadBefore : Event → Event → Type 0
 WasReadBefore a b = (a.line < b.line) ⊎ ((a.line ≡ b.line) × (a.channel ≢ b.channel))
 
--- events as they are read: line by line, each line's on different channels, and each with a frame of the record
+-- events as they are read: line by line, each line's on different channels, and each with a frame
+-- of the record
 pub record AreRead (events : List Event) : Type 0 where
   pub order : AllPairs WasReadBefore events
   pub some : All (λ event. event.rec_in <ℤ event.rec_out) events

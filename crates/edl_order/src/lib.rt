@@ -1,4 +1,5 @@
-//! The events of an edit decision list in the order of the record, and the first event that overlaps one before it.
+//! The events of an edit decision list in the order of the record, and the first event that
+//! overlaps one before it.
 #![tactic(auto)]
 
 mod order;

@@ -7,8 +7,9 @@ ghost use Rattle.edl_list.specs.Formed.{rank as rank_of};
 use edl_list::{Channel, Event, EventSeq};
 use std::alloc::AllocError;
 
-/// The same events in order of record in, then of V, A and A2, then of their lines; where no two of them have one line and
-/// one channel, no two have one place in that order. An error comes where memory runs out.
+/// The same events in order of record in, then of V, A and A2, then of their lines; where no two of
+/// them have one line and one channel, no two have one place in that order. An error comes where
+/// memory runs out.
 pub fn in_record_order(events: Vec<Event>) -> Result<EventSeq, AllocError>
     ensures same { IfOk result (IsPermutation events.items) }
     ensures order { IfOk result (AllPairs StandsNoLater) }

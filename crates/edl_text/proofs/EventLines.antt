@@ -16,13 +16,13 @@ use Rattle.edl_text.specs.declared.faults.EdlFault.TheVariants.{Form, Timecode, 
 use Rattle.edl_text.specs.declared.frames.Frames.{Frames}
 use Rattle.edl_text.specs.declared.pending.Pending.{Pending}
 use Rattle.edl_text.specs.declared.said.Said.{Said}
-use Rattle.edl_text.specs.Frames.{frame_of}
+use Rattle.smpte_tc.specs.Frames.{label_frame}
 use Rattle.edl_text.specs.Past.{Block, line_behind, mode_in, first_mode_in, block_behind, blocks_in}
 use Rattle.edl_text.specs.Sides.{reel_of, duration, is_cut, has_labels, source_in, source_out, record_in, record_out, speeds_of, latest, outgoing_speed, reel_at, is_pair, incoming, outgoing, from_side, begun, is_one_reel}
 use Rattle.edl_text.specs.Events.{channels_of, events_at, events_of}
 use Rattle.edl_text.specs.Lines.{follows_cut, runs_back, misses, first_of, fault_behind, are_same_channels}
-use Rattle.edl_text.specs.Fresh.{side_of}
-use Rattle.edl_text.specs.Stands.{are_labels, AreFrames, run_back, is_first_line, misses_by, from_end, closed_from, events_given, closed_events, Begins, IsPending, Hold, Stands, StandsBefore}
+use Rattle.edl_text.specs.StateSides.{side_of}
+use Rattle.edl_text.specs.StateSaid.{are_labels, AreFrames, run_back, is_first_line, misses_by, from_end, closed_from, events_given, closed_events, Begins, IsPending, Hold, Stands, StandsAtNext}
 
 -- the four frames of a block, where its labels were read
 pub record HasFrames (rate : Rate) (block : Block) (frames : Frames) : Type 0 where
@@ -31,13 +31,13 @@ pub record HasFrames (rate : Rate) (block : Block) (frames : Frames) : Type 0 wh
   pub record_in : record_in rate block ≡ frames.record_in
   pub record_out : record_out rate block ≡ frames.record_out
 
-pub has_frames : (rate : Rate) (past : List Statement) (event : lines.EventLine) (old : Said) (frames : Frames) → StandsBefore rate past old → AreFrames old.rate old.drop event.labels frames
+pub has_frames : (rate : Rate) (past : List Statement) (event : lines.EventLine) (old : Said) (frames : Frames) → StandsAtNext rate past old → AreFrames old.rate old.drop event.labels frames
     → HasFrames rate (block_behind past (event_said event)) frames
 has_frames rate past event old frames h f =
     let d = h.holds.drop in
     let r = h.holds.counted in
-    let read : (label : List ℕ) (n : ℕ) → frame_of old.rate old.drop label ≡ Some n → unwrap_or (frame_of rate (mode_in past) label) 0 ≡ n =
-    λ label n e. ap (λ o. unwrap_or o 0) (ap (λ x. frame_of rate x label) (sym d) ∙ ap (λ (x : Rate). frame_of x old.drop label) (sym r) ∙ e) in
+    let read : (label : List ℕ) (n : ℕ) → label_frame old.rate old.drop label ≡ Some n → unwrap_or (label_frame rate (mode_in past) label) 0 ≡ n =
+    λ label n e. ap (λ o. unwrap_or o 0) (ap (λ x. label_frame rate x label) (sym d) ∙ ap (λ (x : Rate). label_frame x old.drop label) (sym r) ∙ e) in
     record {
       source_in = read event.labels.source_in.now frames.source_in f.source_in;
       source_out = read event.labels.source_out.now frames.source_out f.source_out;
@@ -45,7 +45,7 @@ has_frames rate past event old frames h f =
       record_out = read event.labels.record_out.now frames.record_out f.record_out;
     }
 
-pub labels_read : (rate : Rate) (past : List Statement) (event : lines.EventLine) (old : Said) (b : Bool) → StandsBefore rate past old → are_labels old.rate old.drop event.labels ≡ b
+pub labels_read : (rate : Rate) (past : List Statement) (event : lines.EventLine) (old : Said) (b : Bool) → StandsAtNext rate past old → are_labels old.rate old.drop event.labels ≡ b
     → has_labels rate (block_behind past (event_said event)) ≡ b
 labels_read rate past event old b h e =
     ap (λ d. are_labels rate d event.labels) (sym h.holds.drop) ∙ ap (λ (r : Rate). are_labels r old.drop event.labels) (sym h.holds.counted) ∙ e
@@ -158,7 +158,7 @@ from_is rate (Some p) events (a ∷ others) block n h lone =
     (λ some. ap from_end h.0.to ∙ end_is rate block a others n (no_pair a others a.says.kind refl (first_cut block.says.kind block a others some lone)))
 
 -- the new event line is that of its block
-begun_is : (rate : Rate) (past : List Statement) (event : EventLine) (frames : Frames) (old : Said) → StandsBefore rate past old → HasFrames rate (block_behind past event) frames
+begun_is : (rate : Rate) (past : List Statement) (event : EventLine) (frames : Frames) (old : Said) → StandsAtNext rate past old → HasFrames rate (block_behind past event) frames
     → not (is_cut event.kind) && not (follows_cut (block_behind past event) (blocks_in past)) ≡ false
     → IsPending rate (record {
       line = old.line;
@@ -182,7 +182,7 @@ begun_is rate past event frames old h f lone = record {
   from = from_is rate old.pending old.events.items (blocks_in past) (block_behind past event) refl h.holds.lines lone;
 }
 
-pub began : (rate : Rate) (past : List Statement) (event : EventLine) (frames : Frames) (old new : Said) → StandsBefore rate past old → HasFrames rate (block_behind past event) frames
+pub began : (rate : Rate) (past : List Statement) (event : EventLine) (frames : Frames) (old new : Said) → StandsAtNext rate past old → HasFrames rate (block_behind past event) frames
     → not (is_cut event.kind) && not (follows_cut (block_behind past event) (blocks_in past)) ≡ false → Begins event frames old new → Stands rate (Event event ∷ past) new
 began rate past event frames old new h f lone b = record {
   line = b.line ∙ h.line;
@@ -214,18 +214,18 @@ behind rate past event a b c d e f g h =
     ∷ (misses rate (block_behind past event) (blocks_in past), Order (line_behind past)) ∷ [])) g
     ∙ ap (λ x. first_of ((a, Form (line_behind past)) ∷ (not b, Timecode (line_behind past)) ∷ (c, Order (line_behind past)) ∷ (x, Order (line_behind past)) ∷ [])) h
 
-lone_is : (rate : Rate) (past : List Statement) (event : EventLine) (old : Said) (b : Bool) → StandsBefore rate past old → not (is_cut event.kind) && not (is_first_line old.pending event.number event.channels) ≡ b
+lone_is : (rate : Rate) (past : List Statement) (event : EventLine) (old : Said) (b : Bool) → StandsAtNext rate past old → not (is_cut event.kind) && not (is_first_line old.pending event.number event.channels) ≡ b
     → not (is_cut event.kind) && not (follows_cut (block_behind past event) (blocks_in past)) ≡ b
 lone_is rate past event old b h e = ap (λ x. not (is_cut event.kind) && not x) (sym (first_is rate old.pending old.events.items (blocks_in past) (block_behind past event) h.holds.lines)) ∙ e
 
-pub event_lone : (rate : Rate) (past : List Statement) (event : EventLine) (old : Said) → StandsBefore rate past old
+pub event_lone : (rate : Rate) (past : List Statement) (event : EventLine) (old : Said) → StandsAtNext rate past old
     → not (is_cut event.kind) && not (is_first_line old.pending event.number event.channels) ≡ true → fault_behind rate past (Event event) ≡ Some (Form old.line)
 unfolding tests
 event_lone rate past event old h e =
     behind rate past event true (has_labels rate (block_behind past event)) (runs_back rate (block_behind past event)) (misses rate (block_behind past event) (blocks_in past)) (lone_is rate past event old true h e) refl refl refl
     ∙ ap (λ n. Some (Form n)) (sym h.line)
 
-pub event_unread : (rate : Rate) (past : List Statement) (event : lines.EventLine) (old : Said) → StandsBefore rate past old
+pub event_unread : (rate : Rate) (past : List Statement) (event : lines.EventLine) (old : Said) → StandsAtNext rate past old
     → not (is_cut event.kind) && not (is_first_line old.pending event.number event.channels) ≡ false → are_labels old.rate old.drop event.labels ≡ false
     → fault_behind rate past (Event (event_said event)) ≡ Some (Timecode old.line)
 unfolding tests
@@ -234,7 +234,7 @@ event_unread rate past event old h e f =
     behind rate past said false false (runs_back rate (block_behind past said)) (misses rate (block_behind past said) (blocks_in past)) (lone_is rate past said old false h e) (labels_read rate past event old false h f) refl refl
     ∙ ap (λ n. Some (Timecode n)) (sym h.line)
 
-pub event_back : (rate : Rate) (past : List Statement) (event : lines.EventLine) (old : Said) (frames : Frames) → StandsBefore rate past old
+pub event_back : (rate : Rate) (past : List Statement) (event : lines.EventLine) (old : Said) (frames : Frames) → StandsAtNext rate past old
     → not (is_cut event.kind) && not (is_first_line old.pending event.number event.channels) ≡ false → are_labels old.rate old.drop event.labels ≡ true → AreFrames old.rate old.drop event.labels frames
     → run_back frames ≡ true → fault_behind rate past (Event (event_said event)) ≡ Some (Order old.line)
 unfolding tests
@@ -244,7 +244,7 @@ event_back rate past event old frames h e f g b =
     (sym (back_is rate (block_behind past said) frames (has_frames rate past event old frames h g)) ∙ b) refl
     ∙ ap (λ n. Some (Order n)) (sym h.line)
 
-pub event_apart : (rate : Rate) (past : List Statement) (event : lines.EventLine) (old : Said) (frames : Frames) → StandsBefore rate past old
+pub event_apart : (rate : Rate) (past : List Statement) (event : lines.EventLine) (old : Said) (frames : Frames) → StandsAtNext rate past old
     → not (is_cut event.kind) && not (is_first_line old.pending event.number event.channels) ≡ false → are_labels old.rate old.drop event.labels ≡ true → AreFrames old.rate old.drop event.labels frames
     → run_back frames ≡ false → misses_by old.pending event.kind frames ≡ true → fault_behind rate past (Event (event_said event)) ≡ Some (Order old.line)
 unfolding tests
@@ -255,7 +255,7 @@ event_apart rate past event old frames h e f g b m =
     (sym (back_is rate (block_behind past said) frames are) ∙ b) (sym (misses_is rate old.pending old.events.items (blocks_in past) (block_behind past said) frames h.holds.lines are) ∙ m)
     ∙ ap (λ n. Some (Order n)) (sym h.line)
 
-pub took_event : (rate : Rate) (past : List Statement) (event : lines.EventLine) (old new : Said) (frames : Frames) → StandsBefore rate past old
+pub took_event : (rate : Rate) (past : List Statement) (event : lines.EventLine) (old new : Said) (frames : Frames) → StandsAtNext rate past old
     → not (is_cut event.kind) && not (is_first_line old.pending event.number event.channels) ≡ false → are_labels old.rate old.drop event.labels ≡ true → AreFrames old.rate old.drop event.labels frames
     → run_back frames ≡ false → misses_by old.pending event.kind frames ≡ false → Begins (event_said event) frames old new
     → (fault_behind rate past (Event (event_said event)) ≡ None) × Stands rate (Event (event_said event) ∷ past) new

@@ -9,9 +9,10 @@ use Rattle.edl_text.specs.declared.faults.EdlFault.TheVariants.{Memory}
 use Rattle.edl_text.specs.declared.reader.EdlReader.{EdlReader}
 use Rattle.edl_text.specs.Lines.{IsSound, IsFaulty, AreSound}
 use Rattle.edl_text.specs.Late.{IsLateFault}
-use Rattle.edl_text.specs.Lists.{most_bytes, events_in, IsList, IsFault}
+use Rattle.edl_text.specs.Lists.{events_in, IsList, IsFault}
+use Rattle.limits.specs.Limits.{most_bytes}
 use Rattle.edl_text.specs.Reader.{HasRead}
-use Rattle.edl_text.specs.Stands.{AreSaid, Gives}
+use Rattle.edl_text.specs.StateSaid.{AreSaid, Gives}
 use Rattle.edl_text.proofs.Reading.{sound_append, fault_append}
 use Rattle.edl_text.proofs.LineByLine.{sound_said}
 

@@ -13,6 +13,7 @@ use Rattle.std.proofs.lemmas.List.Quantifiers.{position-Some}
 use Rattle.std.proofs.lemmas.List.Sorted.{All-permutation}
 use Rattle.std.proofs.Math.Nat.{pow-le-pow_right}
 use Rattle.tick_time.specs.declared.rates.Rate.{Rate}
+use Rattle.text_lines.specs.ReelNames.{IsReelName}
 use Rattle.smpte_tc.specs.declared.modes.Mode.{Mode}
 use Rattle.smpte_tc.specs.Answers.{ninth, means_drop}
 use Rattle.smpte_tc.specs.Day.{counted_of, labels_with, spelled}
@@ -31,14 +32,15 @@ use Rattle.edl_list.specs.Speeds.{day_of}
 use Rattle.edl_list.specs.declared.list.Event as listed
 use Rattle.edl_list.specs.declared.list.EventList.{EventList}
 use Rattle.edl_list.specs.declared.list.Reel.{Reel}
-use Rattle.edl_text.specs.Frames.{place_in_day, place_by, frame_of}
+use Rattle.smpte_tc.specs.Frames.{is_mark, label_index, index_by, label_frame, label_frame_at}
 use Rattle.edl_text.specs.Past.{Block, block_behind, blocks_in, noted}
 use Rattle.edl_text.specs.Sides.{reel_of, reel_at, is_one_reel, duration, is_cut, has_labels, frame_at, source_in, source_out, record_in, record_out, speeds_of, latest, outgoing_speed, incoming, outgoing, from_side, begun}
 use Rattle.edl_text.specs.Events.{channels_of, event_on, events_at, events_of}
 use Rattle.edl_text.specs.Lines.{IsSound, follows_cut, runs_back, misses}
-use Rattle.edl_text.specs.Lists.{events_in, IsSaid, StandsBefore}
-use Rattle.edl_text.specs.Stands.{AreSaid}
-use Rattle.edl_text.proofs.Labels.{mode_is}
+use Rattle.edl_text.specs.Lists.{events_in, IsSaid}
+use Rattle.edl_order.specs.Order.{StandsBefore}
+use Rattle.edl_text.specs.StateSaid.{AreSaid}
+use Rattle.smpte_tc.proofs.Written.{mode_fair}
 use Rattle.edl_text.proofs.LineByLine.{none_of_four}
 use Rattle.edl_text.proofs.Noting.{with_note}
 
@@ -76,7 +78,7 @@ in_mode rate true m n e h =
     let plain : mode_of rate false ≡ Some (mode m.nominal 0) =
     dropped_mode rate.num rate.den (unsigned_abs rate.den == 1001) (unsigned_abs rate.num == 30000) (unsigned_abs rate.num == 60000) m refl refl refl e in
     let day = plain_day rate (mode m.nominal 0) plain in
-    let fair = mode_is rate true m e in
+    let fair = mode_fair rate true m e in
     let most = day_count m fair.some fair.fewer in
     let all = day_count (mode m.nominal 0) fair.some (omega arith) in
     let more : length (counted_of m) ≤ length (counted_of (mode m.nominal 0)) = omega (arith, most, all) in
@@ -86,29 +88,29 @@ marked_place : (t : Bool) (o : Option ℕ) (n : ℕ) → cond t o None ≡ Some 
 marked_place true o n e = e
 marked_place false o n e = cc e
 
-placed : (m : Mode) (label : List ℕ) (n : ℕ) → place_in_day m label ≡ Some n → n < length (counted_of m)
-unfolding place_in_day labels_with
+placed : (m : Mode) (label : List ℕ) (n : ℕ) → label_index m label ≡ Some n → n < length (counted_of m)
+unfolding label_index labels_with
 placed m label n e =
     let labels = labels_with (ninth label) m in
-    let at : position (λ l. bytes_eq l label) labels ≡ Some n = marked_place ((ninth label == 58) || (ninth label == 59)) (position (λ l. bytes_eq l label) labels) n e in
-    let found = position-Some (λ l. bytes_eq l label) labels n label at in
+    let at : position (bytes_eq label) labels ≡ Some n = marked_place (is_mark (ninth label)) (position (bytes_eq label) labels) n e in
+    let found = position-Some (bytes_eq label) labels n label at in
     let count : length labels ≡ length (counted_of m) = length-map (counted_of m) (spelled (ninth label)) in
     omega (arith, found.0, count)
 
-by_mode : (rate : Rate) (drop : Bool) (o : Option Mode) (label : List ℕ) (n : ℕ) → mode_of rate drop ≡ o → place_by o label ≡ Some n → InDay rate n
+by_mode : (rate : Rate) (drop : Bool) (o : Option Mode) (label : List ℕ) (n : ℕ) → mode_of rate drop ≡ o → index_by o label ≡ Some n → InDay rate n
 by_mode rate drop None label n e h = cc h
 by_mode rate drop (Some m) label n e h = in_mode rate drop m n e (placed m label n h)
 
-named_day : (rate : Rate) (drop : Bool) (label : List ℕ) (n : ℕ) → frame_of rate drop label ≡ Some n → InDay rate n
-unfolding frame_of
+named_day : (rate : Rate) (drop : Bool) (label : List ℕ) (n : ℕ) → label_frame rate drop label ≡ Some n → InDay rate n
+unfolding label_frame_at
 named_day rate drop label n e = by_mode rate (means_drop label drop) (mode_of rate (means_drop label drop)) label n refl e
 
-read_day : (rate : Rate) (drop : Bool) (label : List ℕ) (o : Option ℕ) → frame_of rate drop label ≡ o → is_some o ≡ true → InDay rate (unwrap_or o 0)
+read_day : (rate : Rate) (drop : Bool) (label : List ℕ) (o : Option ℕ) → label_frame rate drop label ≡ o → is_some o ≡ true → InDay rate (unwrap_or o 0)
 read_day rate drop label None e h = cc h
 read_day rate drop label (Some n) e h = named_day rate drop label n e
 
-label_day : (rate : Rate) (block : Block) (label : List ℕ) → is_some (frame_of rate block.drop label) ≡ true → InDay rate (frame_at rate block label)
-label_day rate block label h = read_day rate block.drop label (frame_of rate block.drop label) refl h
+label_day : (rate : Rate) (block : Block) (label : List ℕ) → is_some (label_frame rate block.drop label) ≡ true → InDay rate (frame_at rate block label)
+label_day rate block label h = read_day rate block.drop label (label_frame rate block.drop label) refl h
 
 and_both : (a b : Bool) → a && b ≡ true → (a ≡ true) × (b ≡ true)
 and_both true b e = (refl, e)
@@ -139,9 +141,7 @@ few_codes fields (kinds.Wipe code frames) h = let b = below_number 3 h.is_kind.d
 
 good_reel : (field : List ℕ) (r : said.Reel) → numbers.IsReel field r → IsReel (reel_of r)
 good_reel field said.Black h = tt
-good_reel field (said.Named name) h =
-    let n = subst (λ (x : List ℕ). numbers.IsReelName x) (sym h.1) h.0 in
-    record { some = n.some; short = n.short; prints = n.prints; not_black = n.not_black }
+good_reel field (said.Named name) h = subst IsReelName (sym h.1) h.0
 
 few_tenths : (text : List ℕ) (n : ℕ) → speeds.IsTenths text n → n ≤ 9999
 few_tenths text n h =
@@ -257,10 +257,10 @@ formed_event rate past line event sound =
     let says = sound.says in
     let four = none_of_four (not (is_cut event.kind) && not (follows_cut block (blocks_in past))) (not (has_labels rate block)) (runs_back rate block) (misses rate block (blocks_in past)) _ _ _ _ sound.sound in
     let labels = not_false (has_labels rate block) four.1 in
-    let a = and_both (is_some (frame_of rate block.drop event.source_in)) _ labels in
-    let b = and_both (is_some (frame_of rate block.drop event.source_out)) _ a.1 in
-    let c = and_both (is_some (frame_of rate block.drop event.record_in)) _ b.1 in
-    let d = and_both (is_some (frame_of rate block.drop event.record_out)) _ c.1 in
+    let a = and_both (is_some (label_frame rate block.drop event.source_in)) _ labels in
+    let b = and_both (is_some (label_frame rate block.drop event.source_out)) _ a.1 in
+    let c = and_both (is_some (label_frame rate block.drop event.record_in)) _ b.1 in
+    let d = and_both (is_some (label_frame rate block.drop event.record_out)) _ c.1 in
     let back = or_neither (nat_lt (source_out rate block) (source_in rate block)) (nat_lt (record_out rate block) (record_in rate block)) four.2 in (
       record {
         reel = good_reel says.reel event.reel says.is_reel;

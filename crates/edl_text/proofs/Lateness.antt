@@ -6,11 +6,11 @@ use Rattle.std.proofs.lemmas.Grind.{common_steps}
 use Rattle.std.proofs.lemmas.Bool.Decides.{nat_tests}
 use Rattle.std.proofs.lemmas.List.Elements.{All-contains}
 use Rattle.edl_list.specs.declared.list.Event.{Event}
-use Rattle.edl_order.specs.Overlaps as order
 use Rattle.edl_order.specs.Overlaps.{AreRead, WasReadBefore}
 use Rattle.edl_text.specs.declared.faults.EdlFault.TheVariants.{Unequal, Overlap}
-use Rattle.edl_text.specs.Late.{IsUnequal, IsUnequalAt, IsOverlapAt, AreFine, AreFineBefore, IsLateFault}
-use Rattle.edl_text.specs.Ends.{IsEven, IsEqual, IsFirstUnequal, late_of}
+use Rattle.edl_order.specs.Overlaps.{IsOverlap, IsFirstOverlap}
+use Rattle.edl_text.specs.Late.{IsUnequal, IsUnequalAt, AreFine, AreFineBefore, IsLateFault}
+use Rattle.edl_text.specs.StateLate.{IsEven, IsEqual, IsFirstUnequal, late_of}
 
 pub unequal_by : (event : Event) (t : Bool) → event.to.speed ≡ None → MatchBool t (IsEven event) (IsEven event → ⊥) → MatchBool (not t) (IsUnequal event) (IsEqual event)
 unequal_by event true e h = λ u. u.differ h
@@ -66,37 +66,12 @@ least events n read first m h u = least_by (nat_lt u.among.0 first.index) events
 unequal_at : (events : List Event) (n : ℕ) → IsFirstUnequal events n → IsUnequalAt events n
 unequal_at events n first = record { event = first.event; among = (first.index, first.within, first.at); line = first.line; unequal = first.unequal }
 
--- an overlap, as the order of events has it
-to_order : (events : List Event) (n : ℕ) → IsOverlapAt events n → order.IsOverlap events n
-to_order events n o = record {
-  earlier = o.overlap.other;
-  later = o.event;
-  has_earlier = o.overlap.among;
-  has_later = o.among;
-  is = o.line;
-  before = omega (arith, o.overlap.earlier, o.line);
-  meet = record { channel = o.overlap.channel; first = o.overlap.begins; second = o.overlap.ends };
-}
-
-from_order : (events : List Event) (n : ℕ) → order.IsOverlap events n → IsOverlapAt events n
-from_order events n o = record {
-  event = o.later;
-  among = o.has_later;
-  line = o.is;
-  overlap = record { other = o.earlier; among = o.has_earlier; earlier = omega (arith, o.before, o.is); channel = o.meet.channel; begins = o.meet.first; ends = o.meet.second };
-}
-
--- the least line with an overlap
-record IsFirstOverlap (events : List Event) (line : ℕ) : Type 0 where
-  is : IsOverlapAt events line
-  least : (other : ℕ) → IsOverlapAt events other → line ≤ other
-
 -- the faults before a line
-none_before : (events : List Event) (n : ℕ) → ((m : ℕ) → m < n → IsUnequalAt events m → ⊥) → ((m : ℕ) → m < n → IsOverlapAt events m → ⊥) → AreFineBefore events n
+none_before : (events : List Event) (n : ℕ) → ((m : ℕ) → m < n → IsUnequalAt events m → ⊥) → ((m : ℕ) → m < n → IsOverlap events m → ⊥) → AreFineBefore events n
 none_before events n u o m h (inl e) = u m h e
 none_before events n u o m h (inr e) = o m h e
 
-above : (events : List Event) (m n : ℕ) → IsFirstOverlap events m → n ≤ m → (k : ℕ) → k < n → IsOverlapAt events k → ⊥
+above : (events : List Event) (m n : ℕ) → IsFirstOverlap events m → n ≤ m → (k : ℕ) → k < n → IsOverlap events k → ⊥
 above events m n over h k s e = let least : m ≤ k = over.least k e in absurd (omega arith)
 
 both : (events : List Event) (n m : ℕ) (t : Bool) → nat_lt m n ≡ t → AreRead events → IsFirstUnequal events n → IsFirstOverlap events m
@@ -113,16 +88,12 @@ both events n m false e read first over =
       none_before events n (least events n read first) (above events m n over past),
     )
 
-fine : (events : List Event) → All IsEqual events → ((line : ℕ) → IsOverlapAt events line → ⊥) → AreFine events
+fine : (events : List Event) → All IsEqual events → ((line : ℕ) → IsOverlap events line → ⊥) → AreFine events
 fine events equal over n (inl u) = none_unequal events n equal u
 fine events equal over n (inr o) = over n o
 
 abbrev Overlaps : List Event → Option ℕ → Type 0
-Overlaps events o = MatchOption o ((line : ℕ) → IsOverlapAt events line → ⊥) (IsFirstOverlap events)
-
-found : (events : List Event) (o : Option ℕ) → MatchOption o ((line : ℕ) → order.IsOverlap events line → ⊥) (order.IsFirstOverlap events) → Overlaps events o
-found events None h = λ n e. h n (to_order events n e)
-found events (Some m) h = record { is = from_order events m h.is; least = λ n e. h.least n (to_order events n e) }
+Overlaps events o = MatchOption o ((line : ℕ) → IsOverlap events line → ⊥) (IsFirstOverlap events)
 
 late_by : (events : List Event) (u o : Option ℕ) → AreRead events → MatchOption u (All IsEqual events) (IsFirstUnequal events) → Overlaps events o
     → MatchOption (late_of u o) (AreFine events) (IsLateFault events)
@@ -133,5 +104,5 @@ late_by events None (Some m) read equal over =
 late_by events (Some n) (Some m) read first over = both events n m (nat_lt m n) refl read first over
 
 pub late_is : (events : List Event) (u o : Option ℕ) → AreRead events → MatchOption u (All IsEqual events) (IsFirstUnequal events)
-    → MatchOption o ((line : ℕ) → order.IsOverlap events line → ⊥) (order.IsFirstOverlap events) → MatchOption (late_of u o) (AreFine events) (IsLateFault events)
-late_is events u o read unequal over = late_by events u o read unequal (found events o over)
+    → MatchOption o ((line : ℕ) → IsOverlap events line → ⊥) (IsFirstOverlap events) → MatchOption (late_of u o) (AreFine events) (IsLateFault events)
+late_is events u o read unequal over = late_by events u o read unequal over

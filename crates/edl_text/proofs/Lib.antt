@@ -1,4 +1,3 @@
-pub mod Labels
 pub mod Noting
 pub mod Taking
 pub mod Speeding

@@ -17,7 +17,7 @@ use Rattle.edl_text.specs.Sides.{is_cut, has_labels, source_in, source_out, reco
 use Rattle.edl_text.specs.Events.{where_set, channels_of, event_on, events_at, events_of}
 use Rattle.edl_text.specs.Lines.{AreSound, follows_cut, runs_back, misses, first_of, fault_behind}
 use Rattle.edl_text.specs.Lists.{events_in}
-use Rattle.edl_text.specs.Stands.{AreSaid}
+use Rattle.edl_text.specs.StateSaid.{AreSaid}
 
 -- pairs in lists
 pairs_head : {X : Type 0} (R : X → X → Type 0) (x : X) (xs : List X) → AllPairs R (x ∷ xs) → All (R x) xs

@@ -13,8 +13,9 @@ use Rattle.edl_list.specs.declared.list.EventList.{EventList}
 use Rattle.edl_order.specs.Overlaps.{AreRead, WasReadBefore}
 use Rattle.edl_text.specs.declared.said.Said.{Said}
 use Rattle.edl_text.specs.Past.{blocks_in}
-use Rattle.edl_text.specs.Lists.{events_in, IsSaid, StandsBefore}
-use Rattle.edl_text.specs.Stands.{Stands, closed_events}
+use Rattle.edl_text.specs.Lists.{events_in, IsSaid}
+use Rattle.edl_order.specs.Order.{StandsBefore}
+use Rattle.edl_text.specs.StateSaid.{Stands, closed_events}
 use Rattle.edl_text.proofs.EventLines.{closed_is}
 
 -- the events, once the latest event line is done

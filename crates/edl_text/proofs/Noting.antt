@@ -8,7 +8,7 @@ use Rattle.edl_list.specs.declared.list.Side.{Side}
 use Rattle.edl_text.specs.declared.pending.Pending.{Pending}
 use Rattle.edl_text.specs.Past.{Block, noted}
 use Rattle.edl_text.specs.Sides.{duration, from_name, to_name, speeds_of, reel_at, incoming, outgoing, from_side}
-use Rattle.edl_text.specs.Stands.{IsPending, Hold, with_name, named_by, named_from, named_to}
+use Rattle.edl_text.specs.StateSaid.{IsPending, Hold, with_name, named_by, named_from, named_to}
 
 -- the block with one more note
 abbrev pub with_note : Statement → Block → Block

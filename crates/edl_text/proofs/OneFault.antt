@@ -11,8 +11,10 @@ use Rattle.edl_text.specs.declared.faults.EdlFault.TheVariants.{Form, Timecode, 
 use Rattle.edl_text.specs.declared.reader.EdlReader.{EdlReader}
 use Rattle.edl_text.specs.Past.{line_behind}
 use Rattle.edl_text.specs.Lines.{IsSound, IsFaulty, by_form, by_rule, AreSound, HasFirstFault, fault_behind, named}
-use Rattle.edl_text.specs.Late.{IsUnequalAt, IsOverlapAt, IsLateAt, AreFineBefore, IsLateFault}
-use Rattle.edl_text.specs.Lists.{most_bytes, events_in, IsList, IsEarlyFault, IsFault}
+use Rattle.edl_order.specs.Overlaps.{IsOverlap}
+use Rattle.edl_text.specs.Late.{IsUnequalAt, IsLateAt, AreFineBefore, IsLateFault}
+use Rattle.edl_text.specs.Lists.{events_in, IsList, IsEarlyFault, IsFault}
+use Rattle.limits.specs.Limits.{most_bytes}
 use Rattle.edl_text.specs.Reader.{HasRead}
 use Rattle.edl_text.proofs.OneList.{one_past}
 use Rattle.edl_text.proofs.Reading.{fault_more, all_taken}
@@ -61,7 +63,7 @@ record IsEqualLate (events : List Event) (f : EdlFault) : Type 0 where
 record IsOverLate (events : List Event) (f : EdlFault) : Type 0 where
   n : ℕ
   is : f ≡ Overlap n
-  here : IsOverlapAt events n
+  here : IsOverlap events n
   not : IsUnequalAt events n → ⊥
   before : AreFineBefore events n
 

@@ -11,7 +11,8 @@ use Rattle.edl_list.specs.declared.list.Event.{Event}
 use Rattle.edl_list.specs.declared.list.EventList.{EventList}
 use Rattle.edl_list.specs.Formed.{rank}
 use Rattle.edl_text.specs.Lines.{AreSound}
-use Rattle.edl_text.specs.Lists.{IsList, IsSaid, StandsBefore, AreOrdered, events_in}
+use Rattle.edl_text.specs.Lists.{IsList, IsSaid, AreOrdered, events_in}
+use Rattle.edl_order.specs.Order.{StandsBefore}
 
 -- lines say one list of statements
 pub one_past : (rate : Rate) (past : List Statement) (lines : List (List ℕ)) (p q : List Statement) → AreSound rate past lines p → AreSound rate past lines q → p ≡ q

@@ -11,9 +11,10 @@ use Rattle.edl_text.specs.declared.faults.EdlFault.{EdlFault}
 use Rattle.edl_text.specs.declared.faults.EdlFault.TheVariants.{Large, Memory}
 use Rattle.edl_text.specs.declared.reader.EdlReader.{EdlReader}
 use Rattle.edl_text.specs.Lines.{IsSound, IsFaulty, AreSound, HasFirstFault}
-use Rattle.edl_text.specs.Lists.{most_bytes, IsEarlyFault}
+use Rattle.edl_text.specs.Lists.{IsEarlyFault}
+use Rattle.limits.specs.Limits.{most_bytes}
 use Rattle.edl_text.specs.Reader.{HasRead}
-use Rattle.edl_text.specs.Stands.{Stands}
+use Rattle.edl_text.specs.StateSaid.{Stands}
 
 pub sound_append : (rate : Rate) (p q r : List Statement) (xs ys : List (List ℕ)) → AreSound rate p xs q → AreSound rate q ys r → AreSound rate p (xs ++ ys) r
 sound_append rate p q r [] ys h k = subst (λ s. AreSound rate s ys r) h k

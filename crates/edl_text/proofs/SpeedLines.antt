@@ -7,12 +7,12 @@ use Rattle.edl_text.specs.declared.faults.EdlFault.{EdlFault}
 use Rattle.edl_text.specs.declared.faults.EdlFault.TheVariants.{Form, Timecode, Reverse}
 use Rattle.edl_text.specs.declared.pending.Pending.{Pending}
 use Rattle.edl_text.specs.declared.said.Said.{Said}
-use Rattle.edl_text.specs.Frames.{frame_of}
+use Rattle.smpte_tc.specs.Frames.{label_frame}
 use Rattle.edl_text.specs.Past.{Block, line_behind, mode_in, blocks_in, noted}
 use Rattle.edl_text.specs.Sides.{reel_of}
 use Rattle.edl_text.specs.Events.{events_of}
 use Rattle.edl_text.specs.Lines.{has_side, first_of, fault_behind}
-use Rattle.edl_text.specs.Stands.{Hold, Stands, StandsBefore, sped_up}
+use Rattle.edl_text.specs.StateSaid.{Hold, Stands, StandsAtNext, sped_up}
 use Rattle.edl_text.proofs.Taking.{KeepsRest, noted_more, held}
 use Rattle.edl_text.proofs.Speeding.{Outcome, outcome}
 
@@ -37,24 +37,24 @@ found rate s p events (block ∷ before) o e h =
 tests : (a b r : Bool) (form code back : EdlFault) → Option EdlFault
 tests a b r form code back = first_of ((not a, form) ∷ (b, code) ∷ (r, back) ∷ [])
 
-behind : (rate : Rate) (past : List Statement) (s : SpeedLine) (a b : Bool) → has_side (reel_of s.reel) (blocks_in past) ≡ a → is_none (frame_of rate (mode_in past) s.label) ≡ b
+behind : (rate : Rate) (past : List Statement) (s : SpeedLine) (a b : Bool) → has_side (reel_of s.reel) (blocks_in past) ≡ a → is_none (label_frame rate (mode_in past) s.label) ≡ b
     → fault_behind rate past (Speed s) ≡ tests a b s.reverse (Form (line_behind past)) (Timecode (line_behind past)) (Reverse (line_behind past))
 unfolding tests
 behind rate past s a b e f = rw (e, f) refl
 
-pub speed_wrong : (rate : Rate) (past : List Statement) (s : SpeedLine) (old : Said) (p : Pending) → StandsBefore rate past old → Some p ≡ old.pending → sped_up (reel_of s.reel) s.tenths p ≡ None
+pub speed_wrong : (rate : Rate) (past : List Statement) (s : SpeedLine) (old : Said) (p : Pending) → StandsAtNext rate past old → Some p ≡ old.pending → sped_up (reel_of s.reel) s.tenths p ≡ None
     → fault_behind rate past (Speed s) ≡ Some (Form old.line)
 unfolding Found tests
 speed_wrong rate past s old p h e o =
     let none : has_side (reel_of s.reel) (blocks_in past) ≡ false = found rate s p old.events.items (blocks_in past) None o (held rate past old p h e) in
-    behind rate past s false (is_none (frame_of rate (mode_in past) s.label)) none refl ∙ ap (λ n. Some (Form n)) (sym h.line)
+    behind rate past s false (is_none (label_frame rate (mode_in past) s.label)) none refl ∙ ap (λ n. Some (Form n)) (sym h.line)
 
-same_frame : (rate : Rate) (past : List Statement) (s : SpeedLine) (old : Said) (b : Bool) → StandsBefore rate past old → is_none (frame_of old.rate old.drop s.label) ≡ b
-    → is_none (frame_of rate (mode_in past) s.label) ≡ b
-same_frame rate past s old b h e = ap (λ d. is_none (frame_of rate d s.label)) (sym h.holds.drop) ∙ ap (λ (r : Rate). is_none (frame_of r old.drop s.label)) (sym h.holds.counted) ∙ e
+same_frame : (rate : Rate) (past : List Statement) (s : SpeedLine) (old : Said) (b : Bool) → StandsAtNext rate past old → is_none (label_frame old.rate old.drop s.label) ≡ b
+    → is_none (label_frame rate (mode_in past) s.label) ≡ b
+same_frame rate past s old b h e = ap (λ d. is_none (label_frame rate d s.label)) (sym h.holds.drop) ∙ ap (λ (r : Rate). is_none (label_frame r old.drop s.label)) (sym h.holds.counted) ∙ e
 
-pub speed_unread : (rate : Rate) (past : List Statement) (s : SpeedLine) (old : Said) (p q : Pending) → StandsBefore rate past old → Some p ≡ old.pending → sped_up (reel_of s.reel) s.tenths p ≡ Some q
-    → is_none (frame_of old.rate old.drop s.label) ≡ true → fault_behind rate past (Speed s) ≡ Some (Timecode old.line)
+pub speed_unread : (rate : Rate) (past : List Statement) (s : SpeedLine) (old : Said) (p q : Pending) → StandsAtNext rate past old → Some p ≡ old.pending → sped_up (reel_of s.reel) s.tenths p ≡ Some q
+    → is_none (label_frame old.rate old.drop s.label) ≡ true → fault_behind rate past (Speed s) ≡ Some (Timecode old.line)
 unfolding Found tests
 speed_unread rate past s old p q h e o f =
     let has : has_side (reel_of s.reel) (blocks_in past) ≡ true = (found rate s p old.events.items (blocks_in past) (Some q) o (held rate past old p h e)).0 in
@@ -64,8 +64,8 @@ turned : (r : Bool) (n : ℕ) → r ≡ true → tests true false r (Form n) (Ti
 unfolding tests
 turned r n e = rw e refl
 
-pub speed_reverse : (rate : Rate) (past : List Statement) (s : SpeedLine) (old : Said) (p q : Pending) → StandsBefore rate past old → Some p ≡ old.pending → sped_up (reel_of s.reel) s.tenths p ≡ Some q
-    → is_none (frame_of old.rate old.drop s.label) ≡ false → s.reverse ≡ true → fault_behind rate past (Speed s) ≡ Some (Reverse old.line)
+pub speed_reverse : (rate : Rate) (past : List Statement) (s : SpeedLine) (old : Said) (p q : Pending) → StandsAtNext rate past old → Some p ≡ old.pending → sped_up (reel_of s.reel) s.tenths p ≡ Some q
+    → is_none (label_frame old.rate old.drop s.label) ≡ false → s.reverse ≡ true → fault_behind rate past (Speed s) ≡ Some (Reverse old.line)
 unfolding Found
 speed_reverse rate past s old p q h e o f g =
     let has : has_side (reel_of s.reel) (blocks_in past) ≡ true = (found rate s p old.events.items (blocks_in past) (Some q) o (held rate past old p h e)).0 in
@@ -75,8 +75,8 @@ straight : (r : Bool) (n : ℕ) → r ≡ false → tests true false r (Form n) 
 unfolding tests
 straight r n e = rw e refl
 
-pub took_speed : (rate : Rate) (past : List Statement) (s : SpeedLine) (old new : Said) (p q : Pending) → StandsBefore rate past old → Some p ≡ old.pending → sped_up (reel_of s.reel) s.tenths p ≡ Some q
-    → is_none (frame_of old.rate old.drop s.label) ≡ false → s.reverse ≡ false → KeepsRest old new (Some q) → (fault_behind rate past (Speed s) ≡ None) × Stands rate (Speed s ∷ past) new
+pub took_speed : (rate : Rate) (past : List Statement) (s : SpeedLine) (old new : Said) (p q : Pending) → StandsAtNext rate past old → Some p ≡ old.pending → sped_up (reel_of s.reel) s.tenths p ≡ Some q
+    → is_none (label_frame old.rate old.drop s.label) ≡ false → s.reverse ≡ false → KeepsRest old new (Some q) → (fault_behind rate past (Speed s) ≡ None) × Stands rate (Speed s ∷ past) new
 unfolding Found
 took_speed rate past s old new p q h e o f g k =
     let made = found rate s p old.events.items (blocks_in past) (Some q) o (held rate past old p h e) in (

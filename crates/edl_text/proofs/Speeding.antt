@@ -12,7 +12,7 @@ use Rattle.edl_text.specs.declared.pending.Pending.{Pending}
 use Rattle.edl_text.specs.Past.{Block}
 use Rattle.edl_text.specs.Sides.{reel_of, reel_at, is_one_reel, duration, latest, outgoing_speed, speeds_of, incoming, outgoing, from_side}
 use Rattle.edl_text.specs.Lines.{one_if, has_side}
-use Rattle.edl_text.specs.Stands.{IsPending, at_speed, given, with_outgoing, at_speed_with, sped_by, sped_up}
+use Rattle.edl_text.specs.StateSaid.{IsPending, at_speed, given, with_outgoing, at_speed_with, sped_by, sped_up}
 use Rattle.edl_text.proofs.Noting.{with_note, rebuilt}
 
 -- two reels that a test finds the same

@@ -8,10 +8,10 @@ use Rattle.edl_text.specs.declared.faults.EdlFault.{EdlFault}
 use Rattle.edl_text.specs.declared.said.Said.{Said}
 use Rattle.edl_text.specs.Past.{line_behind}
 use Rattle.edl_text.specs.Lines.{named, IsFaulty, by_form, by_rule}
-use Rattle.edl_text.specs.Stands.{Stands, StandsBefore, Takes, TakesLine}
+use Rattle.edl_text.specs.StateSaid.{Stands, StandsAtNext, Takes, TakesLine}
 
 pub next_line : (rate : Rate) (past : List Statement) (old : Said) (n : ℕ) → Stands rate past old → length past < 2 ^ 32 - 1 → n ≡ min (old.line + 1) (2 ^ 32 - 1)
-    → StandsBefore rate past (record old { line = n })
+    → StandsAtNext rate past (record old { line = n })
 next_line rate past old n h few e = record {
   line = omega (arith, h.line, few, e);
   holds = record { counted = h.holds.counted; title = h.holds.title; drop = h.holds.drop; first = h.holds.first; lines = h.holds.lines };

@@ -11,7 +11,7 @@ use Rattle.edl_text.specs.declared.pending.Pending.{Pending}
 use Rattle.edl_text.specs.declared.said.Said.{Said}
 use Rattle.edl_text.specs.Past.{Block, line_behind, mode_in, title_in, first_mode_in, blocks_in}
 use Rattle.edl_text.specs.Lines.{fault_behind, title_fault, note_fault}
-use Rattle.edl_text.specs.Stands.{Hold, Stands, StandsBefore, named_from, named_to}
+use Rattle.edl_text.specs.StateSaid.{Hold, Stands, StandsAtNext, named_from, named_to}
 use Rattle.edl_text.proofs.Noting.{hold_plain, hold_from, hold_to, title_plain}
 
 -- all is as it was but the latest event line
@@ -24,7 +24,7 @@ pub record KeepsRest (old new : Said) (o : Option Pending) : Type 0 where
   pub events : new.events.items ≡ old.events.items
   pub pending : new.pending ≡ o
 
-pub noted_more : (rate : Rate) (past : List Statement) (said : Statement) (old new : Said) (o : Option Pending) → StandsBefore rate past old → KeepsRest old new o
+pub noted_more : (rate : Rate) (past : List Statement) (said : Statement) (old new : Said) (o : Option Pending) → StandsAtNext rate past old → KeepsRest old new o
     → title_in (said ∷ past) ≡ title_in past → mode_in (said ∷ past) ≡ mode_in past → first_mode_in (said ∷ past) ≡ first_mode_in past
     → Hold rate o old.events.items (blocks_in (said ∷ past)) → Stands rate (said ∷ past) new
 noted_more rate past said old new o h k t m f lines = record {
@@ -43,10 +43,10 @@ pub no_note_fault : (rate : Rate) (p : Pending) (events : List Event) (blocks : 
 no_note_fault rate p events [] n h = absurd h
 no_note_fault rate p events (block ∷ before) n h = let e : (length (block ∷ before) == 0) ≡ false = grind (arith, nat_tests) in rw e refl
 
-pub held : (rate : Rate) (past : List Statement) (old : Said) (p : Pending) → StandsBefore rate past old → Some p ≡ old.pending → Hold rate (Some p) old.events.items (blocks_in past)
+pub held : (rate : Rate) (past : List Statement) (old : Said) (p : Pending) → StandsAtNext rate past old → Some p ≡ old.pending → Hold rate (Some p) old.events.items (blocks_in past)
 held rate past old p h e = subst (λ o. Hold rate o old.events.items (blocks_in past)) (sym e) h.holds.lines
 
-pub took_from : (rate : Rate) (past : List Statement) (name : List ℕ) (old new : Said) (p q : Pending) → StandsBefore rate past old → Some p ≡ old.pending → q ≡ named_from name p → KeepsRest old new (Some q)
+pub took_from : (rate : Rate) (past : List Statement) (name : List ℕ) (old new : Said) (p q : Pending) → StandsAtNext rate past old → Some p ≡ old.pending → q ≡ named_from name p → KeepsRest old new (Some q)
     → (fault_behind rate past (FromName name) ≡ None) × Stands rate (FromName name ∷ past) new
 took_from rate past name old new p q h e f k =
     let lines = held rate past old p h e in (
@@ -55,7 +55,7 @@ took_from rate past name old new p q h e f k =
           (subst (λ r. Hold rate (Some r) old.events.items (blocks_in (FromName name ∷ past))) (sym f) (hold_from rate name p old.events.items (blocks_in past) lines)),
     )
 
-pub took_to : (rate : Rate) (past : List Statement) (name : List ℕ) (old new : Said) (p q : Pending) → StandsBefore rate past old → Some p ≡ old.pending → q ≡ named_to name p → KeepsRest old new (Some q)
+pub took_to : (rate : Rate) (past : List Statement) (name : List ℕ) (old new : Said) (p q : Pending) → StandsAtNext rate past old → Some p ≡ old.pending → q ≡ named_to name p → KeepsRest old new (Some q)
     → (fault_behind rate past (ToName name) ≡ None) × Stands rate (ToName name ∷ past) new
 took_to rate past name old new p q h e f k =
     let lines = held rate past old p h e in (
@@ -69,7 +69,7 @@ first_title : (title : List ℕ) (o p : Option (List ℕ)) (n : ℕ) → o ≡ N
 first_title title o None n e f h = rw (is_utf8-from_IsUtf8 title h) refl
 first_title title o (Some t) n e f h = let g : None ≡ Some t = sym e ∙ f in cc g
 
-pub took_title : (rate : Rate) (past : List Statement) (title : List ℕ) (old new : Said) → StandsBefore rate past old → old.title ≡ None → IsUtf8 title
+pub took_title : (rate : Rate) (past : List Statement) (title : List ℕ) (old new : Said) → StandsAtNext rate past old → old.title ≡ None → IsUtf8 title
     → new ≡ record old { title = Some title } → (fault_behind rate past (Title title) ≡ None) × Stands rate (Title title ∷ past) new
 took_title rate past title old new h e u k =
     let is : None ≡ title_in past = sym e ∙ h.holds.title in
@@ -91,7 +91,7 @@ title_wrong : (title : List ℕ) (o p : Option (List ℕ)) (n m : ℕ) → o ≡
 title_wrong title o None n m e f g h = rw (no_title title (is_utf8 title) refl h, g) refl
 title_wrong title o (Some t) n m e f g h = let x : None ≡ Some t = sym e ∙ f in cc x
 
-pub title_refused : (rate : Rate) (past : List Statement) (title : List ℕ) (old : Said) → StandsBefore rate past old → old.title ≡ None → (IsUtf8 title → ⊥)
+pub title_refused : (rate : Rate) (past : List Statement) (title : List ℕ) (old : Said) → StandsAtNext rate past old → old.title ≡ None → (IsUtf8 title → ⊥)
     → fault_behind rate past (Title title) ≡ Some (Form old.line)
 title_refused rate past title old h e u = title_wrong title old.title (title_in past) old.line (line_behind past) e h.holds.title h.line u
 

@@ -14,7 +14,9 @@ where_set set channel = if set then channel ∷ [] else []
 
 -- the channels of a line
 abbrev pub channels_of : Channels → List Channel
-channels_of channels = where_set channels.picture V ++ (where_set channels.first_sound A ++ where_set channels.second_sound A2)
+channels_of channels =
+    where_set channels.picture V ++ (where_set channels.first_sound A
+    ++ where_set channels.second_sound A2)
 
 -- the event of a line on one channel, with the event lines before it
 abbrev pub event_on : Rate → Block → List Block → Channel → Event
@@ -29,7 +31,9 @@ event_on rate block before channel = record {
 
 -- the events of a line, one for each of its channels; none where its record length is 0
 abbrev pub events_at : Rate → Block → List Block → List Event
-events_at rate block before = if record_in rate block == record_out rate block then [] else map (event_on rate block before) (channels_of block.says.channels)
+events_at rate block before =
+    if record_in rate block == record_out rate block then []
+    else map (event_on rate block before) (channels_of block.says.channels)
 
 -- the events of the lines, in the order of the lines
 abbrev pub events_of : Rate → List Block → List Event

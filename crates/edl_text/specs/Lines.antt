@@ -1,4 +1,5 @@
--- The lines of a list: what is wrong with a line behind those before it, and the first line that has a fault.
+-- The lines of a list: what is wrong with a line behind those before it, and the first line that
+-- has a fault.
 use Rattle.std.specs.Prelude.{◌≡◌, ◌⊎◌, ℕ, ◌+◌, ◌-◌, ◌==◌, ◌&&◌, ◌||◌, Bool, true, false, not, cond, nat_lt, List, [], ◌∷◌, Option, Some, None, is_none, length, if◌then◌else◌}
 use Rattle.std.specs.Str.{is_utf8}
 use Rattle.tick_time.specs.declared.rates.Rate.{Rate}
@@ -9,7 +10,7 @@ use Rattle.edl_line.specs.declared.statement.LineFault.{LineFault}
 use Rattle.edl_line.specs.declared.statement.LineFault.TheVariants as line_faults
 use Rattle.edl_text.specs.declared.faults.EdlFault.{EdlFault}
 use Rattle.edl_text.specs.declared.faults.EdlFault.TheVariants.{Form, Timecode, Order, Key, Split, Reverse}
-use Rattle.edl_text.specs.Frames.{frame_of}
+use Rattle.smpte_tc.specs.Frames.{label_frame}
 use Rattle.edl_text.specs.Past.{Block, line_behind, mode_in, title_in, block_behind, blocks_in}
 use Rattle.edl_list.specs.declared.list.Reel.{Reel}
 use Rattle.edl_text.specs.Sides.{reel_of, reel_at, latest, is_one_reel, duration, is_cut, is_pair, has_labels, source_in, source_out, record_in, record_out, speeds_of}
@@ -21,37 +22,48 @@ is_same false b = not b
 
 -- whether two lines have the same channels
 abbrev pub are_same_channels : Channels → Channels → Bool
-are_same_channels a b = is_same a.picture b.picture && is_same a.first_sound b.first_sound && is_same a.second_sound b.second_sound
+are_same_channels a b =
+    is_same a.picture b.picture && is_same a.first_sound b.first_sound
+    && is_same a.second_sound b.second_sound
 
 -- whether the event line before this one is a `C` line of the same number and channels
 abbrev pub follows_cut : Block → List Block → Bool
 follows_cut block [] = false
-follows_cut block (before ∷ blocks) = is_cut before.says.kind && (before.says.number == block.says.number) && are_same_channels before.says.channels block.says.channels
+follows_cut block (before ∷ blocks) =
+    is_cut before.says.kind && (before.says.number == block.says.number)
+    && are_same_channels before.says.channels block.says.channels
 
 -- whether an out lies before its in
 abbrev pub runs_back : Rate → Block → Bool
-runs_back rate block = nat_lt (source_out rate block) (source_in rate block) || nat_lt (record_out rate block) (record_in rate block)
+runs_back rate block =
+    nat_lt (source_out rate block) (source_in rate block)
+    || nat_lt (record_out rate block) (record_in rate block)
 
--- whether a `D` or `W` line begins elsewhere in the record than the line before it ends, or lasts longer than its record length
+-- whether a `D` or `W` line begins elsewhere in the record than the line before it ends, or lasts
+-- longer than its record length
 abbrev pub misses : Rate → Block → List Block → Bool
 misses rate block [] = false
 misses rate block (before ∷ blocks) = not (is_cut block.says.kind)
-    && (not (record_out rate before == record_in rate block) || nat_lt (record_out rate block - record_in rate block) (duration block.says.kind))
+    && (not (record_out rate before == record_in rate block)
+    || nat_lt (record_out rate block - record_in rate block) (duration block.says.kind))
 
 -- 1 where it holds, else 0
 abbrev pub one_if : Bool → ℕ
 one_if b = cond b 1 0
 
--- how many sides of that reel M2 lines behind the line may give a speed: its own, and the outgoing one where no M2 line stands between the two lines of the pair
+-- how many sides of that reel M2 lines behind the line may give a speed: its own, and the outgoing
+-- one where no M2 line stands between the two lines of the pair
 abbrev pub sides_with : Reel → Block → List Block → ℕ
 sides_with reel block [] = one_if (is_one_reel reel (reel_at block))
 sides_with reel block (before ∷ blocks) = one_if (is_one_reel reel (reel_at block))
-    + one_if (is_pair block (before ∷ blocks) && is_one_reel reel (reel_at before) && is_none (latest (speeds_of (reel_at before) before.notes)))
+    + one_if (is_pair block (before ∷ blocks) && is_one_reel reel (reel_at before)
+    && is_none (latest (speeds_of (reel_at before) before.notes)))
 
 -- whether a side of the latest event line has that reel and no M2 line yet
 abbrev pub has_side : Reel → List Block → Bool
 has_side reel [] = false
-has_side reel (block ∷ before) = nat_lt (length (speeds_of reel block.notes)) (sides_with reel block before)
+has_side reel (block ∷ before) =
+    nat_lt (length (speeds_of reel block.notes)) (sides_with reel block before)
 
 -- the first of the faults whose test holds
 abbrev pub first_of : List (Bool × EdlFault) → Option EdlFault
@@ -70,7 +82,7 @@ event_fault rate n block before = first_of (
 abbrev pub speed_fault : Rate → ℕ → Bool → SpeedLine → List Block → Option EdlFault
 speed_fault rate n drop speed blocks = first_of (
     (not (has_side (reel_of speed.reel) blocks), Form n)
-    ∷ (is_none (frame_of rate drop speed.label), Timecode n)
+    ∷ (is_none (label_frame rate drop speed.label), Timecode n)
     ∷ (speed.reverse, Reverse n) ∷ [])
 
 -- a name note needs an event line before it
@@ -86,8 +98,10 @@ abbrev pub fault_behind : Rate → List Statement → Statement → Option EdlFa
 fault_behind rate past Nothing = None
 fault_behind rate past (Title title) = title_fault (line_behind past) title (title_in past)
 fault_behind rate past (Mode drop) = None
-fault_behind rate past (Event event) = event_fault rate (line_behind past) (block_behind past event) (blocks_in past)
-fault_behind rate past (Speed speed) = speed_fault rate (line_behind past) (mode_in past) speed (blocks_in past)
+fault_behind rate past (Event event) =
+    event_fault rate (line_behind past) (block_behind past event) (blocks_in past)
+fault_behind rate past (Speed speed) =
+    speed_fault rate (line_behind past) (mode_in past) speed (blocks_in past)
 fault_behind rate past (FromName name) = note_fault (line_behind past) (blocks_in past)
 fault_behind rate past (ToName name) = note_fault (line_behind past) (blocks_in past)
 
@@ -98,22 +112,29 @@ named line_faults.Split n = Split n
 named line_faults.Form n = Form n
 
 -- the line says this, behind what the lines before it say, and has no fault
-pub record IsSound (rate : Rate) (past : List Statement) (line : List ℕ) (statement : Statement) : Type 0 where
+pub record IsSound (rate : Rate) (past : List Statement) (line : List ℕ)
+    (statement : Statement) : Type 0 where
   pub says : Says line statement
   pub sound : fault_behind rate past statement ≡ None
 
 -- the line has this fault, by its form, or by what it says behind what the lines before it say
-pub data IsFaulty (rate : Rate) (past : List Statement) (line : List ℕ) (fault : EdlFault) : Type 0 where
-  by_form : (why : LineFault) → HasFault line why → fault ≡ named why (line_behind past) → IsFaulty rate past line fault
-  by_rule : (statement : Statement) → Says line statement → fault_behind rate past statement ≡ Some fault → IsFaulty rate past line fault
+pub data IsFaulty (rate : Rate) (past : List Statement) (line : List ℕ)
+    (fault : EdlFault) : Type 0 where
+  by_form : (why : LineFault) → HasFault line why → fault ≡ named why (line_behind past)
+      → IsFaulty rate past line fault
+  by_rule : (statement : Statement) → Says line statement
+      → fault_behind rate past statement ≡ Some fault → IsFaulty rate past line fault
 
 -- no line has a fault, and with them all that is said grows from `past` to `now`
 abbrev pub AreSound : Rate → List Statement → List (List ℕ) → List Statement → Type 0
 AreSound rate past [] now = now ≡ past
-AreSound rate past (line ∷ lines) now = (statement : Statement) × IsSound rate past line statement × AreSound rate (statement ∷ past) lines now
+AreSound rate past (line ∷ lines) now =
+    (statement : Statement) × IsSound rate past line statement
+    × AreSound rate (statement ∷ past) lines now
 
 -- the first line that has a fault has this one
 abbrev pub HasFirstFault : Rate → List Statement → List (List ℕ) → EdlFault → Type 0
 HasFirstFault rate past [] fault = ⊥
 HasFirstFault rate past (line ∷ lines) fault =
-    IsFaulty rate past line fault ⊎ ((statement : Statement) × IsSound rate past line statement × HasFirstFault rate (statement ∷ past) lines fault)
+    IsFaulty rate past line fault ⊎ ((statement : Statement) × IsSound rate past line statement
+    × HasFirstFault rate (statement ∷ past) lines fault)

@@ -1,4 +1,5 @@
--- What the lines before one say. A list of statements has the latest first, and so has each list of blocks.
+-- What the lines before one say. A list of statements has the latest first, and so has each list of
+-- blocks.
 use Rattle.std.specs.Prelude.{ℕ, suc, Bool, false, List, [], ◌∷◌, Option, Some, None, length, unwrap_or}
 use Rattle.edl_line.specs.Statements.{Statement, EventLine, Title, Mode, Event}
 
@@ -6,7 +7,8 @@ use Rattle.edl_line.specs.Statements.{Statement, EventLine, Title, Mode, Event}
 abbrev pub line_behind : List Statement → ℕ
 line_behind past = suc (length past)
 
--- whether drop-frame mode is in force: as the latest `FCM` line says, and non-drop where there is none
+-- whether drop-frame mode is in force: as the latest `FCM` line says, and non-drop where there is
+-- none
 abbrev pub mode_in : List Statement → Bool
 mode_in [] = false
 mode_in (Mode drop ∷ past) = drop
@@ -18,7 +20,8 @@ title_in [] = None
 title_in (Title title ∷ past) = Some (unwrap_or (title_in past) title)
 title_in (said ∷ past) = title_in past
 
--- An event line: its number among the lines, whether drop-frame mode is in force there, what it says, and what is said behind it, up to the next event line.
+-- An event line: its number among the lines, whether drop-frame mode is in force there, what it
+-- says, and what is said behind it, up to the next event line.
 pub record Block : Type 0 where
   pub line : ℕ
   pub drop : Bool
@@ -27,7 +30,8 @@ pub record Block : Type 0 where
 
 -- the event line behind these lines
 abbrev pub block_behind : List Statement → EventLine → Block
-block_behind past event = record { line = line_behind past; drop = mode_in past; says = event; notes = [] }
+block_behind past event =
+    record { line = line_behind past; drop = mode_in past; says = event; notes = [] }
 
 -- the latest event line has one more note
 abbrev pub noted : Statement → List Block → List Block

@@ -7,7 +7,7 @@ use Rattle.edl_line.specs.Statements.{Statement}
 use Rattle.edl_text.specs.declared.faults.EdlFault.{EdlFault}
 use Rattle.edl_text.specs.declared.reader.EdlReader.{EdlReader}
 use Rattle.edl_text.specs.Lines.{AreSound}
-use Rattle.edl_text.specs.Stands.{Stands}
+use Rattle.edl_text.specs.StateSaid.{Stands}
 
 -- The reader was fed these bytes of a list at that rate, in whatever pieces, and met no fault.
 pub record HasRead (rate : Rate) (bytes : List ℕ) (reader : EdlReader) : Type 0 where

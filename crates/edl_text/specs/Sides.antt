@@ -1,5 +1,6 @@
--- The sides of an event line: their reels, frames, names and speeds. A pair is a `D` or `W` line with a duration, which gives the incoming side, and the event
--- line before it, a `C` line, which gives the outgoing side.
+-- The sides of an event line: their reels, frames, names and speeds. A pair is a `D` or `W` line
+-- with a duration, which gives the incoming side, and the event line before it, a `C` line, which
+-- gives the outgoing side.
 use Rattle.std.specs.Prelude.{ℕ, Bool, true, false, nat_lt, pos, List, [], ◌∷◌, Option, Some, None, is_some, unwrap_or, bytes_eq, if◌then◌else◌}
 use Rattle.std.specs.Option.{option_or}
 use Rattle.std.specs.List.{list_all}
@@ -13,7 +14,7 @@ use Rattle.edl_list.specs.declared.list.Reel.TheVariants.{Black, Named}
 use Rattle.edl_list.specs.declared.list.Side.{Side}
 use Rattle.edl_list.specs.declared.list.Cross.{Cross}
 use Rattle.edl_list.specs.declared.list.Cross.TheVariants.{Cut, Dissolve, Wipe}
-use Rattle.edl_text.specs.Frames.{frame_of}
+use Rattle.smpte_tc.specs.Frames.{label_frame}
 use Rattle.edl_text.specs.Past.{Block}
 
 -- the reel that a line names
@@ -40,18 +41,20 @@ is_cut kinds.Cut = true
 is_cut (kinds.Dissolve frames) = false
 is_cut (kinds.Wipe code frames) = false
 
--- whether the line is the second one of a pair, with the event lines before it; a `D` or `W` line with a duration of 0 is a cut
+-- whether the line is the second one of a pair, with the event lines before it; a `D` or `W` line
+-- with a duration of 0 is a cut
 abbrev pub is_pair : Block → List Block → Bool
 is_pair block [] = false
 is_pair block (before ∷ blocks) = nat_lt 0 (duration block.says.kind)
 
 -- whether the four labels of the line are labels of the day, in the mode in force at the line
 abbrev pub has_labels : Rate → Block → Bool
-has_labels rate block = list_all (λ label. is_some (frame_of rate block.drop label)) (labels_of block.says)
+has_labels rate block =
+    list_all (λ label. is_some (label_frame rate block.drop label)) (labels_of block.says)
 
 -- the frame number that a label of the line names
 abbrev pub frame_at : Rate → Block → List ℕ → ℕ
-frame_at rate block label = unwrap_or (frame_of rate block.drop label) 0
+frame_at rate block label = unwrap_or (label_frame rate block.drop label) 0
 
 abbrev pub source_in : Rate → Block → ℕ
 source_in rate block = frame_at rate block block.says.source_in
@@ -85,7 +88,9 @@ to_name (note ∷ notes) = to_name notes
 -- the speeds that M2 lines give a reel, in tenths of a frame a second, the latest first
 abbrev pub speeds_of : Reel → List Statement → List ℕ
 speeds_of reel [] = []
-speeds_of reel (Speed speed ∷ notes) = if is_one_reel (reel_of speed.reel) reel then speed.tenths ∷ speeds_of reel notes else speeds_of reel notes
+speeds_of reel (Speed speed ∷ notes) =
+    if is_one_reel (reel_of speed.reel) reel then speed.tenths ∷ speeds_of reel notes
+    else speeds_of reel notes
 speeds_of reel (note ∷ notes) = speeds_of reel notes
 
 -- the latest of some speeds
@@ -93,8 +98,9 @@ abbrev pub latest : List ℕ → Option ℕ
 latest [] = None
 latest (speed ∷ speeds) = Some speed
 
--- Of the speeds that M2 lines behind a pair give the reel of its outgoing side, the one of that side. Where both sides have that reel, a lone one is the incoming
--- side's, and of two the earlier is the outgoing side's.
+-- Of the speeds that M2 lines behind a pair give the reel of its outgoing side, the one of that
+-- side. Where both sides have that reel, a lone one is the incoming side's, and of two the earlier
+-- is the outgoing side's.
 abbrev pub outgoing_speed : Bool → List ℕ → Option ℕ
 outgoing_speed false speeds = latest speeds
 outgoing_speed true [] = None
@@ -104,7 +110,8 @@ outgoing_speed true (speed ∷ speeds) = latest speeds
 abbrev pub reel_at : Block → Reel
 reel_at block = reel_of block.says.reel
 
--- The incoming side of a pair, or the side of a cut, with the event lines before it. A pair names it by a `TO` note, and a cut by a `FROM` note.
+-- The incoming side of a pair, or the side of a cut, with the event lines before it. A pair names
+-- it by a `TO` note, and a cut by a `FROM` note.
 abbrev pub incoming : Rate → Block → List Block → Side
 incoming rate block before = record {
   reel = reel_at block;
@@ -114,8 +121,8 @@ incoming rate block before = record {
   speed = latest (speeds_of (reel_at block) block.notes);
 }
 
--- The outgoing side of a pair, whose lines are these two. It begins and ends at the first line's source out. An M2 line or a `FROM` note between the lines
--- counts for it too.
+-- The outgoing side of a pair, whose lines are these two. It begins and ends at the first line's
+-- source out. An M2 line or a `FROM` note between the lines counts for it too.
 abbrev pub outgoing : Rate → Block → Block → Side
 outgoing rate block before = record {
   reel = reel_at before;
@@ -123,13 +130,15 @@ outgoing rate block before = record {
   src_in = pos (source_out rate before);
   src_out = pos (source_out rate before);
   speed = option_or (latest (speeds_of (reel_at before) before.notes))
-      (outgoing_speed (is_one_reel (reel_at before) (reel_at block)) (speeds_of (reel_at before) block.notes));
+      (outgoing_speed (is_one_reel (reel_at before) (reel_at block))
+      (speeds_of (reel_at before) block.notes));
 }
 
 -- the outgoing side of a line that is the second one of a pair, with the event lines before it
 abbrev pub from_side : Rate → Block → List Block → Option Side
 from_side rate block [] = None
-from_side rate block (before ∷ blocks) = if nat_lt 0 (duration block.says.kind) then Some (outgoing rate block before) else None
+from_side rate block (before ∷ blocks) =
+    if nat_lt 0 (duration block.says.kind) then Some (outgoing rate block before) else None
 
 -- how an event of this kind begins, with its outgoing side
 abbrev pub begun : Kind → Option Side → Cross

@@ -1,10 +1,11 @@
 //! The frames of the four labels of an event line.
 
 ghost use Rattle.std.specs.Prelude.{◌≡◌, ◌≤ℤ◌, ◌<ℤ◌, pos, false, true, is_some, MatchOption};
-ghost use Rattle.edl_text.specs.Frames.{frame_of as frame_named};
-ghost use Rattle.edl_text.specs.Stands.{AreFrames, are_labels, run_back as runs_back};
+ghost use Rattle.smpte_tc.specs.Frames.{label_frame as frame_named};
+ghost use Rattle.edl_text.specs.StateSaid.{AreFrames, are_labels, run_back as runs_back};
 
 use edl_line::Labels;
+use smpte_tc::label_frame;
 use tick_time::Rate;
 
 /// The frame numbers of the labels of an event line.
@@ -16,41 +17,24 @@ pub(crate) struct Frames {
     pub(crate) record_out: u32,
 }
 
-/// The frame number that a label names at a rate; none where it is no label of the day.
-pub(crate) fn frame_of(label: &[u8], rate: Rate, drop: bool) -> Option<u32>
-    ensures { result ≡ frame_named rate drop label.now }
-{
-    match smpte_tc::read(label, rate, drop) {
-        Ok(frame) => Some(small(frame)),
-        Err(_) => None,
-    }
-}
-
 /// Whether a label is one of the day at a rate.
 pub(crate) fn is_label(label: &[u8], rate: Rate, drop: bool) -> bool
     ensures { result ≡ is_some (frame_named rate drop label.now) }
 {
-    frame_of(label, rate, drop).is_some()
-}
-
-/// A frame number of a day in fewer bits.
-fn small(frame: i64) -> u32
-    requires low { pos 0 ≤ℤ frame }
-    requires high { frame <ℤ pos 5184000 }
-    ensures { pos result ≡ frame }
-{
-    frame as u32
+    label_frame(label, rate, drop).is_some()
 }
 
 /// The frame numbers of four labels; none where one of them is no label of the day.
 pub(crate) fn frames_of(labels: &Labels<'_>, rate: Rate, drop: bool) -> Option<Frames>
-    ensures { MatchOption result (are_labels rate drop labels.now ≡ false)
-        (λ frames. (are_labels rate drop labels.now ≡ true) × AreFrames rate drop labels.now frames) }
+    ensures { MatchOption result
+        (are_labels rate drop labels.now ≡ false)
+        (λ frames. (are_labels rate drop labels.now ≡ true)
+        × AreFrames rate drop labels.now frames) }
 {
-    let source_in = frame_of(labels.source_in, rate, drop)?;
-    let source_out = frame_of(labels.source_out, rate, drop)?;
-    let record_in = frame_of(labels.record_in, rate, drop)?;
-    let record_out = frame_of(labels.record_out, rate, drop)?;
+    let source_in = label_frame(labels.source_in, rate, drop)?;
+    let source_out = label_frame(labels.source_out, rate, drop)?;
+    let record_in = label_frame(labels.record_in, rate, drop)?;
+    let record_out = label_frame(labels.record_out, rate, drop)?;
     Some(Frames {
         source_in,
         source_out,

@@ -4,7 +4,7 @@ ghost use Rattle.std.specs.Prelude.{◌≡◌, All, AllPairs, IfOk, MatchBool, M
 ghost use Rattle.edl_list.specs.Formed.{AreApart};
 ghost use Rattle.edl_order.specs.Overlaps.{AreRead};
 ghost use Rattle.edl_text.specs.Late.{IsUnequal, AreFine, IsLateFault};
-ghost use Rattle.edl_text.specs.Ends.{IsEven, IsEqual, IsFirstUnequal, late_of as late_by};
+ghost use Rattle.edl_text.specs.StateLate.{IsEven, IsEqual, IsFirstUnequal, late_of as late_by};
 
 use crate::faults::EdlFault;
 use edl_list::Event;
@@ -62,8 +62,10 @@ fn late_of(unequal: Option<u32>, overlap: Option<u32>) -> Option<EdlFault>
 
 /// The first fault of events that come in the order of their lines.
 pub(crate) fn late_fault(alloc: Global, events: &[Event]) -> Result<Option<EdlFault>, AllocError>
-    ensures fine { AreRead events.now → IfOk result (λ late. MatchOption late (AreFine events.now) (IsLateFault events.now)) }
-    ensures apart { AreRead events.now → IfOk result (λ late. MatchOption late (AllPairs AreApart events.now) (λ fault. Unit {0})) }
+    ensures fine { AreRead events.now → IfOk result
+        (λ late. MatchOption late (AreFine events.now) (IsLateFault events.now)) }
+    ensures apart { AreRead events.now → IfOk result
+        (λ late. MatchOption late (AllPairs AreApart events.now) (λ fault. Unit {0})) }
 {
     let overlap = first_overlap(alloc, events)?;
     Ok(late_of(first_unequal(events), overlap))

@@ -1,8 +1,11 @@
-//! The reader of edit decision lists in the general form of CMX 3600: from their bytes, in pieces of any size, to their events.
+//! The reader of edit decision lists in the general form of CMX 3600: from their bytes, in pieces
+//! of any size, to their events.
 //!
-//! [`EdlReader`] takes a list piece by piece, at a rate, and keeps of it only the events and the line in hand. It gives exactly the list
-//! that the lines say together, or their first fault: a line is judged by what it says by itself and by what the lines before it say, and
-//! once all lines are sound the events are judged. What lines say together, their faults and the order of these stand in `specs/`.
+//! [`EdlReader`] takes a list piece by piece, at a rate, and keeps of it only the events and the
+//! line in hand. It gives exactly the list that the lines say together, or their first fault: a
+//! line is judged by what it says by itself and by what the lines before it say, and once all lines
+//! are sound the events are judged. What lines say together, their faults and the order of these
+//! stand in `specs/`.
 #![tactic(auto)]
 
 ghost use Rattle.std.specs.Prelude.{◌≡◌, ℕ, List};
@@ -25,9 +28,13 @@ pub use reader::EdlReader;
 #[cfg(test)]
 mod tests;
 
-/// Law: at a rate bytes are one list at most, or have one fault at most, and never both. It does nothing.
+/// Law: at a rate bytes are one list at most, or have one fault at most, and never both. It does
+/// nothing.
 pub fn one_outcome()
-    ensures list { (rate : Rate) (bytes : List ℕ) (a b : EventList) → IsList rate bytes a → IsList rate bytes b → a ≡ b }
-    ensures fault { (rate : Rate) (bytes : List ℕ) (f g : Fault) → IsFault rate bytes f → IsFault rate bytes g → f ≡ g }
-    ensures either { (rate : Rate) (bytes : List ℕ) (list : EventList) (fault : Fault) → IsList rate bytes list → IsFault rate bytes fault → ⊥ }
+    ensures list { (rate : Rate) (bytes : List ℕ) (a b : EventList) → IsList rate bytes a
+        → IsList rate bytes b → a ≡ b }
+    ensures fault { (rate : Rate) (bytes : List ℕ) (f g : Fault) → IsFault rate bytes f
+        → IsFault rate bytes g → f ≡ g }
+    ensures either { (rate : Rate) (bytes : List ℕ) (list : EventList) (fault : Fault)
+        → IsList rate bytes list → IsFault rate bytes fault → ⊥ }
 {}

@@ -5,7 +5,7 @@ ghost use Rattle.edl_line.specs.Views.{reel_said};
 ghost use Rattle.edl_text.specs.Events.{where_set};
 ghost use Rattle.edl_text.specs.Sides.{reel_of as reel_named, begun as begun_by, duration as duration_of, is_cut as is_cut_kind};
 ghost use Rattle.edl_text.specs.Lines.{are_same_channels as same_channels};
-ghost use Rattle.edl_text.specs.Stands.{wants, at_speed, given as given_by};
+ghost use Rattle.edl_text.specs.StateSaid.{wants, at_speed, given as given_by};
 
 use crate::frames::Frames;
 use crate::sides::{copy_side, is_reel};
@@ -52,8 +52,10 @@ fn copy_from(alloc: Global, from: &Option<Side>) -> Result<Option<Side>, AllocEr
 
 /// The side at that speed, where it has the reel and no speed yet.
 fn sped(side: Side, reel: ReelName<'_>, tenths: u16) -> Option<Side>
-    ensures { MatchOption result (wants (reel_named (reel_said reel.entry)) side ≡ false)
-        (λ given. (wants (reel_named (reel_said reel.entry)) side ≡ true) × (given ≡ at_speed tenths side)) }
+    ensures { MatchOption result
+        (wants (reel_named (reel_said reel.entry)) side ≡ false)
+        (λ given. (wants (reel_named (reel_said reel.entry)) side ≡ true)
+        × (given ≡ at_speed tenths side)) }
 {
     let mut side = side;
     if side.speed.is_none() && is_reel(reel, &side.reel) {
@@ -100,10 +102,10 @@ pub(crate) fn are_same_channels(a: Channels, b: Channels) -> bool
 }
 
 impl Pending {
-    ghost use Rattle.edl_text.specs.Stands.{event_of, events_given, sped_up, sped_by, named_from, named_to, from_end};
+    ghost use Rattle.edl_text.specs.StateSaid.{event_of, events_given, sped_up, sped_by, named_from, named_to, from_end};
 
-    /// The line with a speed for that reel, where one of its sides wants it. Where both have the reel, a lone speed is the incoming
-    /// side's, and of two the first is the outgoing side's.
+    /// The line with a speed for that reel, where one of its sides wants it. Where both have the
+    /// reel, a lone speed is the incoming side's, and of two the first is the outgoing side's.
     pub(crate) fn with_speed(self, reel: ReelName<'_>, tenths: u16) -> Option<Pending>
         ensures { result ≡ sped_up (reel_named (reel_said reel.entry)) tenths self }
     {
@@ -148,7 +150,8 @@ impl Pending {
         Ok(pending)
     }
 
-    /// The line with the name of the clip that it goes to, which only a pair has. An empty name is none.
+    /// The line with the name of the clip that it goes to, which only a pair has. An empty name is
+    /// none.
     pub(crate) fn with_to(self, alloc: Global, name: &str) -> Result<Pending, AllocError>
         ensures { IfOk result (λ pending. pending ≡ named_to name.now self) }
     {
@@ -193,7 +196,8 @@ impl Pending {
         channel: Channel,
         events: &mut Vec<Event>,
     ) -> Result<(), AllocError>
-        ensures { OnOk result (events.new.items ≡ events.old.items ++ map (event_of self.now) (where_set set channel)) }
+        ensures { OnOk result (events.new.items
+            ≡ events.old.items ++ map (event_of self.now) (where_set set channel)) }
     {
         if set {
             let event = self.event(alloc, channel)?;

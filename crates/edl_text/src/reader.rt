@@ -1,31 +1,35 @@
 //! The reader of lists.
 
 ghost use Rattle.std.specs.Prelude.{◌≡◌, ◌⊎◌, ◌++◌, ◌∷◌, ◌+◌, ◌<◌, ◌≤◌, [], List, ℕ, IfOk, IfErr, OnOk, Err, length, take as bytes_before};
+ghost use Rattle.limits.specs.Limits.{most_bytes};
 ghost use Rattle.text_lines.specs.First.{HasNone};
 ghost use Rattle.text_lines.specs.Lines.{ended_lines};
 
 use crate::faults::EdlFault;
 use crate::said::Said;
 use edl_list::EventList;
+use limits::MOST_BYTES;
 use std::alloc::Global;
 use text_lines::{after, before, first_byte, strip_return};
 use tick_time::Rate;
 
 /// How many bytes a list may have.
-const LIMIT: usize = 33_554_432;
+const LIMIT: usize = MOST_BYTES as usize;
 
-/// A reader of one edit decision list in the general form of CMX 3600, at a rate, that takes it in pieces of any size.
+/// A reader of one edit decision list in the general form of CMX 3600, at a rate, that takes it in
+/// pieces of any size.
 ///
-/// Lines end with a line feed or with a carriage return and a line feed; the last may lack its end. A list has at most 33 554 432 bytes.
-/// Its events are pairs and cuts on the channels V, A and A2, with the frame numbers of their labels (SMPTE ST 12-1), the names that notes
-/// give their sides, and the speeds that M2 lines give them.
+/// Lines end with a line feed or with a carriage return and a line feed; the last may lack its end.
+/// A list has at most 33 554 432 bytes. Its events are pairs and cuts on the channels V, A and A2,
+/// with the frame numbers of their labels (SMPTE ST 12-1), the names that notes give their sides,
+/// and the speeds that M2 lines give them.
 #[derive(Drop)]
 pub struct EdlReader {
     said: Said,
     held: Vec<u8>,
     taken: usize,
     fault: Option<EdlFault>,
-    ghost within: { taken ≤ 33_554_432 },
+    ghost within: { taken ≤ most_bytes },
 }
 
 impl EdlReader {
@@ -50,14 +54,20 @@ impl EdlReader {
     /// Reads the next bytes.
     ///
     /// # Errors
-    /// The first fault that shows in all bytes so far: that of the first line that has one, where its line feed has come, or
-    /// [`EdlFault::Large`] where there are more bytes than a list may have and no line that ends within that many has a fault. Any
-    /// later call answers the same fault again, want of memory included.
+    /// The first fault that shows in all bytes so far: that of the first line that has one, where
+    /// its line feed has come, or [`EdlFault::Large`] where there are more bytes than a list may
+    /// have and no line that ends within that many has a fault. Any later call answers the same
+    /// fault again, want of memory included.
     pub fn feed(&mut self, piece: &[u8]) -> Result<(), EdlFault>
-        ensures read { OnOk result ((rate : RateSaid) (bytes : List ℕ) → HasRead rate bytes self.old → HasRead rate (bytes ++ piece.now) self.new) }
-        ensures live { OnOk result ((rate : RateSaid) (bytes : List ℕ) → HasRead rate bytes self.old
-            → (length (bytes ++ piece.now) ≤ 33_554_432) × ((fault : EdlFault) → IsEarlyFault rate (bytes ++ piece.now) fault → ⊥)) }
-        ensures fault { IfErr result (λ fault. (rate : RateSaid) (bytes : List ℕ) → HasRead rate bytes self.old → (fault ≡ EdlFault.Memory) ⊎ IsEarlyFault rate (bytes ++ piece.now) fault) }
+        ensures read { OnOk result ((rate : RateSaid) (bytes : List ℕ)
+            → HasRead rate bytes self.old → HasRead rate (bytes ++ piece.now) self.new) }
+        ensures live { OnOk result ((rate : RateSaid) (bytes : List ℕ)
+            → HasRead rate bytes self.old
+            → (length (bytes ++ piece.now) ≤ most_bytes)
+            × ((fault : EdlFault) → IsEarlyFault rate (bytes ++ piece.now) fault → ⊥)) }
+        ensures fault { IfErr result (λ fault. (rate : RateSaid) (bytes : List ℕ)
+            → HasRead rate bytes self.old → (fault ≡ EdlFault.Memory)
+            ⊎ IsEarlyFault rate (bytes ++ piece.now) fault) }
         ensures failed { IfErr result (λ fault. HasFailed fault self.new) }
         ensures again { (fault : EdlFault) → HasFailed fault self.old → result ≡ Err fault }
     {
@@ -76,12 +86,16 @@ impl EdlReader {
     /// The list that was read.
     ///
     /// # Errors
-    /// The fault of the last line where that has no end, and then the first of [`EdlFault::Unequal`] and [`EdlFault::Overlap`] by line,
-    /// on one line in this order. After a fault of [`EdlReader::feed`] the same fault.
+    /// The fault of the last line where that has no end, and then the first of
+    /// [`EdlFault::Unequal`] and [`EdlFault::Overlap`] by line, on one line in this order. After a
+    /// fault of [`EdlReader::feed`] the same fault.
     pub fn finish(self) -> Result<EventList, EdlFault>
-        ensures list { IfOk result (λ list. (rate : RateSaid) (bytes : List ℕ) → HasRead rate bytes self → IsList rate bytes list) }
-        ensures well_formed { IfOk result (λ list. (rate : RateSaid) (bytes : List ℕ) → HasRead rate bytes self → IsWellFormed list) }
-        ensures fault { IfErr result (λ fault. (rate : RateSaid) (bytes : List ℕ) → HasRead rate bytes self → (fault ≡ EdlFault.Memory) ⊎ IsFault rate bytes fault) }
+        ensures list { IfOk result (λ list. (rate : RateSaid) (bytes : List ℕ)
+            → HasRead rate bytes self → IsList rate bytes list) }
+        ensures well_formed { IfOk result (λ list. (rate : RateSaid) (bytes : List ℕ)
+            → HasRead rate bytes self → IsWellFormed list) }
+        ensures fault { IfErr result (λ fault. (rate : RateSaid) (bytes : List ℕ)
+            → HasRead rate bytes self → (fault ≡ EdlFault.Memory) ⊎ IsFault rate bytes fault) }
         ensures again { (fault : EdlFault) → HasFailed fault self → result ≡ Err fault }
     {
         let EdlReader {
@@ -106,10 +120,15 @@ impl EdlReader {
 
     /// Reads the next bytes where no fault came before.
     fn take(&mut self, piece: &[u8]) -> Result<(), EdlFault>
-        ensures read { OnOk result ((rate : RateSaid) (bytes : List ℕ) → HasRead rate bytes self.old → HasRead rate (bytes ++ piece.now) self.new) }
-        ensures live { OnOk result ((rate : RateSaid) (bytes : List ℕ) → HasRead rate bytes self.old
-            → (length (bytes ++ piece.now) ≤ 33_554_432) × ((fault : EdlFault) → IsEarlyFault rate (bytes ++ piece.now) fault → ⊥)) }
-        ensures fault { IfErr result (λ fault. (rate : RateSaid) (bytes : List ℕ) → HasRead rate bytes self.old → (fault ≡ EdlFault.Memory) ⊎ IsEarlyFault rate (bytes ++ piece.now) fault) }
+        ensures read { OnOk result ((rate : RateSaid) (bytes : List ℕ)
+            → HasRead rate bytes self.old → HasRead rate (bytes ++ piece.now) self.new) }
+        ensures live { OnOk result ((rate : RateSaid) (bytes : List ℕ)
+            → HasRead rate bytes self.old
+            → (length (bytes ++ piece.now) ≤ most_bytes)
+            × ((fault : EdlFault) → IsEarlyFault rate (bytes ++ piece.now) fault → ⊥)) }
+        ensures fault { IfErr result (λ fault. (rate : RateSaid) (bytes : List ℕ)
+            → HasRead rate bytes self.old → (fault ≡ EdlFault.Memory)
+            ⊎ IsEarlyFault rate (bytes ++ piece.now) fault) }
     {
         let room = LIMIT - self.taken;
         match self.take_within(first(piece, room)) {
@@ -124,9 +143,12 @@ impl EdlReader {
 
     /// Reads bytes that there is room for.
     fn take_within(&mut self, piece: &[u8]) -> Result<(), EdlFault>
-        requires { self.old.taken + length piece.now ≤ 33_554_432 }
-        ensures read { OnOk result ((rate : RateSaid) (bytes : List ℕ) → HasRead rate bytes self.old → HasRead rate (bytes ++ piece.now) self.new) }
-        ensures fault { IfErr result (λ fault. (rate : RateSaid) (bytes : List ℕ) → HasRead rate bytes self.old → (fault ≡ EdlFault.Memory) ⊎ HasFirstFault rate [] (ended_lines (bytes ++ piece.now)) fault) }
+        requires { self.old.taken + length piece.now ≤ most_bytes }
+        ensures read { OnOk result ((rate : RateSaid) (bytes : List ℕ)
+            → HasRead rate bytes self.old → HasRead rate (bytes ++ piece.now) self.new) }
+        ensures fault { IfErr result (λ fault. (rate : RateSaid) (bytes : List ℕ)
+            → HasRead rate bytes self.old → (fault ≡ EdlFault.Memory)
+            ⊎ HasFirstFault rate [] (ended_lines (bytes ++ piece.now)) fault) }
     {
         let mut rest = piece;
         'lines: while let Some(end) = first_byte(rest, b'\n') {
@@ -144,8 +166,9 @@ impl EdlReader {
     /// Reads bytes of a line without its end.
     fn hold(&mut self, piece: &[u8]) -> Result<(), EdlFault>
         requires none { HasNone 10 piece.now }
-        requires room { self.old.taken + length piece.now ≤ 33_554_432 }
-        ensures read { OnOk result ((rate : RateSaid) (bytes : List ℕ) → HasRead rate bytes self.old → HasRead rate (bytes ++ piece.now) self.new) }
+        requires room { self.old.taken + length piece.now ≤ most_bytes }
+        ensures read { OnOk result ((rate : RateSaid) (bytes : List ℕ)
+            → HasRead rate bytes self.old → HasRead rate (bytes ++ piece.now) self.new) }
         ensures taken { OnOk result (self.new.taken ≡ self.old.taken + length piece.now) }
         ensures fault { IfErr result (λ fault. fault ≡ EdlFault.Memory) }
     {
@@ -157,11 +180,14 @@ impl EdlReader {
     /// Reads the rest of a line with the line feed behind it.
     fn end_line(&mut self, piece: &[u8]) -> Result<(), EdlFault>
         requires none { HasNone 10 piece.now }
-        requires room { self.old.taken + length piece.now < 33_554_432 }
-        ensures read { OnOk result ((rate : RateSaid) (bytes : List ℕ) → HasRead rate bytes self.old → HasRead rate (bytes ++ (piece.now ++ 10 ∷ [])) self.new) }
+        requires room { self.old.taken + length piece.now < most_bytes }
+        ensures read { OnOk result ((rate : RateSaid) (bytes : List ℕ)
+            → HasRead rate bytes self.old
+            → HasRead rate (bytes ++ (piece.now ++ 10 ∷ [])) self.new) }
         ensures taken { OnOk result (self.new.taken ≡ self.old.taken + (length piece.now + 1)) }
-        ensures fault { IfErr result (λ fault. (rate : RateSaid) (bytes : List ℕ) → HasRead rate bytes self.old
-            → (fault ≡ EdlFault.Memory) ⊎ HasFirstFault rate [] (ended_lines (bytes ++ (piece.now ++ 10 ∷ []))) fault) }
+        ensures fault { IfErr result (λ fault. (rate : RateSaid) (bytes : List ℕ)
+            → HasRead rate bytes self.old → (fault ≡ EdlFault.Memory)
+            ⊎ HasFirstFault rate [] (ended_lines (bytes ++ (piece.now ++ 10 ∷ []))) fault) }
     {
         self.hold(piece)?;
         match self.said.take_line(strip_return(self.held.as_slice())) {

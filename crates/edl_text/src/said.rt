@@ -5,7 +5,7 @@ ghost use Rattle.edl_line.specs.Statements as plain;
 ghost use Rattle.edl_line.specs.Views.{said as view, event_said, speed_said};
 ghost use Rattle.edl_text.specs.Lines.{named as named_by};
 ghost use Rattle.edl_text.specs.Sides.{is_cut as is_cut_kind};
-ghost use Rattle.edl_text.specs.Fresh.{side_of as new_side};
+ghost use Rattle.edl_text.specs.StateSides.{side_of as new_side};
 
 use crate::faults::EdlFault;
 use crate::frames::{Frames, frames_of, is_label};
@@ -40,7 +40,7 @@ pub(crate) struct Said {
 
 impl Said {
     ghost use Rattle.tick_time.specs.declared.rates.Rate.{Rate as RateSaid};
-    ghost use Rattle.edl_text.specs.Stands.{Stands, StandsBefore, Takes, TakesLine, is_first_line, misses_by, closed_from, closed_events, Begins, IsSameButLines, AreSaid, Gives};
+    ghost use Rattle.edl_text.specs.StateSaid.{Stands, StandsAtNext, Takes, TakesLine, is_first_line, misses_by, closed_from, closed_events, Begins, IsSameButLines, AreSaid, Gives};
 
     /// What no line says.
     pub(crate) fn new(alloc: Global, rate: Rate) -> Said
@@ -60,7 +60,8 @@ impl Said {
 
     /// Takes the next line, or answers its fault.
     pub(crate) fn take_line(&mut self, line: &[u8]) -> Result<(), EdlFault>
-        ensures { (rate : RateSaid) (past : List plain.Statement) → length past < 2 ^ 32 - 1 → Stands rate past self.old → TakesLine result rate past line.now self.new }
+        ensures { (rate : RateSaid) (past : List plain.Statement) → length past < 2 ^ 32 - 1
+            → Stands rate past self.old → TakesLine result rate past line.now self.new }
     {
         self.line = self.line.saturating_add(1);
         match statement_of(line) {
@@ -71,7 +72,8 @@ impl Said {
 
     /// Takes what the next line says.
     fn take(&mut self, statement: Statement<'_>) -> Result<(), EdlFault>
-        ensures { (rate : RateSaid) (past : List plain.Statement) → StandsBefore rate past self.old → Takes result rate past (view statement.entry) self.new }
+        ensures { (rate : RateSaid) (past : List plain.Statement) → StandsAtNext rate past self.old
+            → Takes result rate past (view statement.entry) self.new }
     {
         match statement {
             Statement::Nothing => Ok(()),
@@ -86,7 +88,8 @@ impl Said {
 
     /// Takes a title, the first of which counts.
     fn take_title(&mut self, title: &[u8]) -> Result<(), EdlFault>
-        ensures { (rate : RateSaid) (past : List plain.Statement) → StandsBefore rate past self.old → Takes result rate past (plain.Title title.now) self.new }
+        ensures { (rate : RateSaid) (past : List plain.Statement) → StandsAtNext rate past self.old
+            → Takes result rate past (plain.Title title.now) self.new }
     {
         if self.title.is_some() {
             return Ok(());
@@ -102,7 +105,8 @@ impl Said {
 
     /// Takes the frame code mode.
     fn take_mode(&mut self, drop: bool) -> Result<(), EdlFault>
-        ensures { (rate : RateSaid) (past : List plain.Statement) → StandsBefore rate past self.old → Takes result rate past (plain.Mode drop) self.new }
+        ensures { (rate : RateSaid) (past : List plain.Statement) → StandsAtNext rate past self.old
+            → Takes result rate past (plain.Mode drop) self.new }
     {
         self.drop = drop;
         Ok(())
@@ -110,7 +114,8 @@ impl Said {
 
     /// Takes an M2 line.
     fn take_speed(&mut self, speed: SpeedLine<'_>) -> Result<(), EdlFault>
-        ensures { (rate : RateSaid) (past : List plain.Statement) → StandsBefore rate past self.old → Takes result rate past (plain.Speed (speed_said speed.entry)) self.new }
+        ensures { (rate : RateSaid) (past : List plain.Statement) → StandsAtNext rate past self.old
+            → Takes result rate past (plain.Speed (speed_said speed.entry)) self.new }
     {
         let Some(pending) = self.pending.take() else {
             return Err(EdlFault::Form(self.line));
@@ -131,7 +136,8 @@ impl Said {
 
     /// Takes a note of the name of the clip that an event comes from.
     fn take_from(&mut self, name: &str) -> Result<(), EdlFault>
-        ensures { (rate : RateSaid) (past : List plain.Statement) → StandsBefore rate past self.old → Takes result rate past (plain.FromName name.now) self.new }
+        ensures { (rate : RateSaid) (past : List plain.Statement) → StandsAtNext rate past self.old
+            → Takes result rate past (plain.FromName name.now) self.new }
     {
         let Some(pending) = self.pending.take() else {
             return Err(EdlFault::Form(self.line));
@@ -142,7 +148,8 @@ impl Said {
 
     /// Takes a note of the name of the clip that an event goes to.
     fn take_to(&mut self, name: &str) -> Result<(), EdlFault>
-        ensures { (rate : RateSaid) (past : List plain.Statement) → StandsBefore rate past self.old → Takes result rate past (plain.ToName name.now) self.new }
+        ensures { (rate : RateSaid) (past : List plain.Statement) → StandsAtNext rate past self.old
+            → Takes result rate past (plain.ToName name.now) self.new }
     {
         let Some(pending) = self.pending.take() else {
             return Err(EdlFault::Form(self.line));
@@ -153,7 +160,8 @@ impl Said {
 
     /// Takes an event line.
     fn take_event(&mut self, event: EventLine<'_>) -> Result<(), EdlFault>
-        ensures { (rate : RateSaid) (past : List plain.Statement) → StandsBefore rate past self.old → Takes result rate past (plain.Event (event_said event.entry)) self.new }
+        ensures { (rate : RateSaid) (past : List plain.Statement) → StandsAtNext rate past self.old
+            → Takes result rate past (plain.Event (event_said event.entry)) self.new }
     {
         if self.is_lone(&event) {
             return Err(EdlFault::Form(self.line));
@@ -173,7 +181,8 @@ impl Said {
 
     /// The list that the lines say, once all were taken, or the first fault of its events.
     pub(crate) fn list(self) -> Result<EventList, EdlFault>
-        ensures { (rate : RateSaid) (past : List plain.Statement) → AreSaid rate past → Stands rate past self → Gives result rate past }
+        ensures { (rate : RateSaid) (past : List plain.Statement) → AreSaid rate past
+            → Stands rate past self → Gives result rate past }
     {
         let mut said = self;
         let _ = said.close(Kind::Cut)?;
@@ -202,7 +211,8 @@ impl Said {
 
     /// Whether this is a `D` or `W` line without the first line of its pair.
     fn is_lone(&self, event: &EventLine<'_>) -> bool
-        ensures { result ≡ (not (is_cut_kind event.now.kind) && not (is_first_line self.now.pending event.now.number event.now.channels)) }
+        ensures { result ≡ (not (is_cut_kind event.now.kind)
+            && not (is_first_line self.now.pending event.now.number event.now.channels)) }
     {
         !is_cut(event.kind) && !self.has_first_line(event)
     }
@@ -221,7 +231,8 @@ impl Said {
         }
     }
 
-    /// Whether a line of this kind doesn't meet the latest event line in the record, or lasts longer than its record length.
+    /// Whether a line of this kind doesn't meet the latest event line in the record, or lasts
+    /// longer than its record length.
     fn misses(&self, kind: Kind, frames: &Frames) -> bool
         ensures { result ≡ misses_by self.now.pending kind frames.now }
     {
@@ -257,10 +268,12 @@ impl Said {
         Ok(())
     }
 
-    /// Adds the events of the latest event line, and gives the outgoing side that it is for a line of this kind.
+    /// Adds the events of the latest event line, and gives the outgoing side that it is for a line
+    /// of this kind.
     fn close(&mut self, kind: Kind) -> Result<Option<Side>, AllocError>
         ensures from { IfOk result (λ from. from ≡ closed_from self.old.pending kind) }
-        ensures events { OnOk result (self.new.events.items ≡ self.old.events.items ++ closed_events self.old.pending) }
+        ensures events { OnOk result (self.new.events.items ≡ self.old.events.items
+            ++ closed_events self.old.pending) }
         ensures same { OnOk result (IsSameButLines self.old self.new) }
     {
         let Some(pending) = self.pending.take() else {

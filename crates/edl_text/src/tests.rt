@@ -3,6 +3,7 @@ ghost use Rattle.std.specs.Prelude.{◌<◌};
 
 use crate::{EdlFault, EdlReader};
 use edl_list::{Channel, Cross, Event, EventList, Reel};
+use smpte_tc::label;
 use std::alloc::Global;
 use std::test::Fail;
 use tick_time::{Decimal, Rate, is_numeral};
@@ -197,6 +198,35 @@ fn faults_of_order(rt: HostRuntime) -> Result<(), Fail> {
     ];
     for (text, fault) in table {
         assert!(rt; fault_of(rt.alloc(), rate, text) == Some(fault), "{text}");
+    }
+    Ok(())
+}
+
+/// The reader fed the label of a frame and the bytes behind it.
+fn feed_label(reader: &mut EdlReader, rate: Rate, n: u32, end: &[u8]) -> Result<(), EdlFault> {
+    match label(i64::from(n), rate, false) {
+        Ok(bytes) => reader.feed(bytes.as_slice())?,
+        Err(_) => return Err(EdlFault::Large),
+    }
+    reader.feed(end)
+}
+
+/// How many events there are in a list of so many cuts, each of one frame.
+fn cuts_read(alloc: Global, rate: Rate, count: u32) -> Result<usize, EdlFault> {
+    let mut reader = EdlReader::new(alloc, rate);
+    for n in 0..count {
+        reader.feed(b"001 TAPE1 V C 00:00:00:00 00:00:00:01 ")?;
+        feed_label(&mut reader, rate, n, b" ")?;
+        feed_label(&mut reader, rate, n + 1, b"\n")?;
+    }
+    let list = reader.finish()?;
+    Ok(list.events.len())
+}
+
+#[test]
+fn many_events(rt: HostRuntime) -> Result<(), Fail> {
+    for (count, events) in [(999u32, 999usize), (1_000, 1_000), (20_000, 20_000)] {
+        assert_eq!(rt; cuts_read(rt.alloc(), rate_of("24")?, count), Ok(events));
     }
     Ok(())
 }

@@ -1,1 +1,2 @@
-pub mod Adding
+-- Lemmas on the texts of messages.
+pub mod Indexes

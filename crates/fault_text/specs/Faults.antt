@@ -1,25 +1,75 @@
--- How the fault of a value that stands for no object is told behind the name of its file.
-use Rattle.std.specs.Prelude.{ℕ, List, [], ◌++◌, codes}
+-- The table of messages: what is told of each fault behind the name of its file. Want of memory has
+-- a message of its own.
+use Rattle.std.specs.Prelude.{ℕ, List, [], codes}
+use Rattle.json_text.specs.declared.faults.JsonFault.{JsonFault}
+use Rattle.json_text.specs.declared.faults.JsonFault.TheVariants as json
+use Rattle.edl_text.specs.declared.faults.EdlFault.{EdlFault}
+use Rattle.edl_text.specs.declared.faults.EdlFault.TheVariants as edl
 use Rattle.schema_rows.specs.declared.faults.SchemaFault.{SchemaFault}
-use Rattle.schema_rows.specs.declared.faults.SchemaFault.TheVariants.{NotObject, UnknownChild, Newer, Field, Rate, Range, Transitions, Items, Memory}
-use Rattle.fault_text.specs.Places.{place_text}
+use Rattle.schema_rows.specs.declared.faults.SchemaFault.TheVariants as schema
+use Rattle.coord.specs.declared.faults.CoordFault.{CoordFault}
+use Rattle.coord.specs.declared.faults.CoordFault.TheVariants as coord
+use Rattle.fault_text.specs.Reasons.{refusal, number_text, item_text, member_text}
 
--- a code and a word, the place, and the end of the line
-abbrev pub line_at : List ℕ → List ℕ → List ℕ
-line_at why place = why ++ (place_text place ++ codes "\n")
+-- bytes that are no JSON text
+abbrev pub json_fault_text : JsonFault → List ℕ
+json_fault_text (json.Syntax offset) = refusal (codes "J1") (codes "Syntax") (number_text offset)
+json_fault_text (json.Utf8 offset) = refusal (codes "J2") (codes "Utf8") (number_text offset)
+json_fault_text (json.Depth offset) = refusal (codes "J3") (codes "Depth") (number_text offset)
+json_fault_text json.Large = refusal (codes "J4") (codes "Large") []
+json_fault_text json.Memory = []
 
--- the same with the name of a member behind the place
-abbrev pub line_of_member : List ℕ → List ℕ → List ℕ → List ℕ
-line_of_member why place member = why ++ (place_text place ++ (codes " " ++ (member ++ codes "\n")))
+-- bytes that are no list of events
+abbrev pub list_fault_text : EdlFault → List ℕ
+list_fault_text (edl.Form line) = refusal (codes "L1") (codes "Form") (number_text line)
+list_fault_text (edl.Timecode line) = refusal (codes "L2") (codes "Timecode") (number_text line)
+list_fault_text (edl.Order line) = refusal (codes "L3") (codes "Order") (number_text line)
+list_fault_text (edl.Unequal line) = refusal (codes "L4") (codes "Unequal") (number_text line)
+list_fault_text (edl.Key line) = refusal (codes "L5") (codes "Key") (number_text line)
+list_fault_text (edl.Split line) = refusal (codes "L6") (codes "Split") (number_text line)
+list_fault_text (edl.Overlap line) = refusal (codes "L7") (codes "Overlap") (number_text line)
+list_fault_text (edl.Reverse line) = refusal (codes "L8") (codes "Reverse") (number_text line)
+list_fault_text edl.Large = refusal (codes "L9") (codes "Large") []
+list_fault_text edl.Memory = []
 
--- want of memory has a message of its own
+-- a value that stands for no object
 abbrev pub fault_text : SchemaFault → List ℕ
-fault_text (NotObject place) = line_at (codes ": S1 NotObject at ") place
-fault_text (UnknownChild place) = line_at (codes ": S2 UnknownChild at ") place
-fault_text (Newer place) = line_at (codes ": S3 Newer at ") place
-fault_text (Field place member) = line_of_member (codes ": S4 Field at ") place member
-fault_text (Rate place) = line_at (codes ": S5 Rate at ") place
-fault_text (Range place) = line_at (codes ": S6 Range at ") place
-fault_text (Transitions place) = line_at (codes ": S7 Transitions at ") place
-fault_text Items = codes ": G1 Items\n"
-fault_text Memory = []
+fault_text (schema.NotObject place) = refusal (codes "S1") (codes "NotObject") (item_text place)
+fault_text (schema.UnknownChild place) =
+    refusal (codes "S2") (codes "UnknownChild") (item_text place)
+fault_text (schema.Newer place) = refusal (codes "S3") (codes "Newer") (item_text place)
+fault_text (schema.Field place member) =
+    refusal (codes "S4") (codes "Field") (member_text place member)
+fault_text (schema.Rate place) = refusal (codes "S5") (codes "Rate") (item_text place)
+fault_text (schema.Range place) = refusal (codes "S6") (codes "Range") (item_text place)
+fault_text (schema.Transitions place) = refusal (codes "S7") (codes "Transitions") (item_text place)
+fault_text schema.Items = refusal (codes "G1") (codes "Items") []
+fault_text schema.Memory = []
+
+-- a timeline that isn't sound
+abbrev pub coord_fault_text : CoordFault → List ℕ
+coord_fault_text coord.StartOffFrame = refusal (codes "K2") (codes "StartOffFrame") []
+coord_fault_text (coord.NoLength place) = refusal (codes "K1") (codes "NoLength") (item_text place)
+coord_fault_text (coord.Speed place) = refusal (codes "K5") (codes "Speed") (item_text place)
+coord_fault_text (coord.Long place) = refusal (codes "K4") (codes "Long") (item_text place)
+coord_fault_text coord.Memory = []
+
+-- a list whose rate has no timecode, or none with drop-frame where that is written
+abbrev pub no_timecode_text : List ℕ
+no_timecode_text = refusal (codes "N15") (codes "NoTimecode") (item_text [])
+
+-- a list with more events than one that is written may have
+abbrev pub events_text : List ℕ
+events_text = refusal (codes "N13") (codes "Events") (item_text [])
+
+-- a list whose event of that line has a label past the day
+abbrev pub day_text : ℕ → List ℕ
+day_text line = refusal (codes "L10") (codes "Day") (number_text line)
+
+-- a collection or an item where a timeline is asked for
+abbrev pub not_timeline_text : List ℕ
+not_timeline_text = refusal (codes "G3") (codes "NotTimeline") []
+
+-- a record point that is no label at the record rate
+abbrev pub range_text : List ℕ
+range_text = refusal (codes "X4") (codes "Range") []

@@ -1,3 +1,4 @@
+-- The texts of messages.
 pub mod Places
+pub mod Reasons
 pub mod Faults
-pub mod Shows

@@ -1,78 +1,180 @@
-//! Texts of faults.
+//! The reason of each fault.
 
-ghost use Rattle.std.specs.Prelude.{◌≡◌, ◌≢◌, codes, string_bytes, IfOk};
-ghost use Rattle.fault_text.specs.Faults.{fault_text, line_at as line_is, line_of_member as member_line_is};
-ghost use Rattle.fault_text.specs.Shows.{coord_fault_text};
+ghost use Rattle.std.specs.Prelude.{◌≡◌, ◌≢◌, [], MatchOption};
+ghost use Rattle.fault_text.specs.Reasons.{reason_text, refusal, number_text, item_text, member_text};
+ghost use Rattle.fault_text.specs.Faults.{json_fault_text, list_fault_text, fault_text, coord_fault_text, no_timecode_text, events_text, day_text, not_timeline_text, range_text};
 
-use crate::places::put_place;
+use crate::reasons::{Detail, Reason};
 use coord::CoordFault;
+use edl_text::EdlFault;
+use json_text::JsonFault;
 use otio_model::Place;
 use schema_rows::SchemaFault;
-use std::alloc::{AllocError, Global};
+use sequences::Text;
 
-/// What a message tells behind the name of the file: a code, a word, the place and, for a member, its name, up to the end of the line.
-/// An error comes for `Memory`, which has a message of its own, and where memory runs out.
-pub fn text_of_fault(alloc: Global, fault: &SchemaFault) -> Result<String, AllocError>
-    ensures text { IfOk result (λ text. string_bytes text ≡ fault_text fault.now) }
-    ensures told { IfOk result (λ _. fault.now ≢ SchemaFault.Memory) }
+/// What is told of bytes that are no JSON text, with the offset in bytes; `None` exactly for want
+/// of memory.
+pub fn json_reason(fault: JsonFault) -> Option<Reason>
+    ensures { MatchOption result (fault ≡ JsonFault.Memory)
+        (λ reason. (fault ≢ JsonFault.Memory) × (reason_text reason ≡ json_fault_text fault)) }
 {
     match fault {
-        SchemaFault::NotObject(place) => line_at(alloc, ": S1 NotObject at ", place),
-        SchemaFault::UnknownChild(place) => line_at(alloc, ": S2 UnknownChild at ", place),
-        SchemaFault::Newer(place) => line_at(alloc, ": S3 Newer at ", place),
-        SchemaFault::Field(place, member) => line_of_member(alloc, place, member.as_str()),
-        SchemaFault::Rate(place) => line_at(alloc, ": S5 Rate at ", place),
-        SchemaFault::Range(place) => line_at(alloc, ": S6 Range at ", place),
-        SchemaFault::Transitions(place) => line_at(alloc, ": S7 Transitions at ", place),
-        SchemaFault::Items => line(alloc, ": G1 Items\n"),
-        SchemaFault::Memory => Err(AllocError),
+        JsonFault::Syntax(offset) => Some(number_reason("J1", "Syntax", offset)),
+        JsonFault::Utf8(offset) => Some(number_reason("J2", "Utf8", offset)),
+        JsonFault::Depth(offset) => Some(number_reason("J3", "Depth", offset)),
+        JsonFault::Large => Some(bare_reason("J4", "Large")),
+        JsonFault::Memory => None,
     }
 }
 
-/// What a message tells of a timeline that isn't sound behind the name of the file: a code, a word and, but for the start, the place of
-/// the item, up to the end of the line. An error comes for `Memory`, which has a message of its own, and where memory runs out.
-pub fn text_of_coord_fault(alloc: Global, fault: &CoordFault) -> Result<String, AllocError>
-    ensures text { IfOk result (λ text. string_bytes text ≡ coord_fault_text fault.now) }
-    ensures told { IfOk result (λ _. fault.now ≢ CoordFault.Memory) }
+/// What is told of bytes that are no list of events, with the line; `None` exactly for want of
+/// memory.
+pub fn list_reason(fault: EdlFault) -> Option<Reason>
+    ensures { MatchOption result (fault ≡ EdlFault.Memory)
+        (λ reason. (fault ≢ EdlFault.Memory) × (reason_text reason ≡ list_fault_text fault)) }
 {
     match fault {
-        CoordFault::StartOffFrame => line(alloc, ": K2 StartOffFrame\n"),
-        CoordFault::NoLength(place) => line_at(alloc, ": K1 NoLength at ", place),
-        CoordFault::Speed(place) => line_at(alloc, ": K5 Speed at ", place),
-        CoordFault::Long(place) => line_at(alloc, ": K4 Long at ", place),
-        CoordFault::Memory => Err(AllocError),
+        EdlFault::Form(line) => Some(line_reason("L1", "Form", line)),
+        EdlFault::Timecode(line) => Some(line_reason("L2", "Timecode", line)),
+        EdlFault::Order(line) => Some(line_reason("L3", "Order", line)),
+        EdlFault::Unequal(line) => Some(line_reason("L4", "Unequal", line)),
+        EdlFault::Key(line) => Some(line_reason("L5", "Key", line)),
+        EdlFault::Split(line) => Some(line_reason("L6", "Split", line)),
+        EdlFault::Overlap(line) => Some(line_reason("L7", "Overlap", line)),
+        EdlFault::Reverse(line) => Some(line_reason("L8", "Reverse", line)),
+        EdlFault::Large => Some(bare_reason("L9", "Large")),
+        EdlFault::Memory => None,
     }
 }
 
-// A line as it stands.
-fn line(alloc: Global, whole: &str) -> Result<String, AllocError>
-    ensures { IfOk result (λ text. string_bytes text ≡ whole.now) }
+/// What is told of a value that stands for no object, with the place of an item and, for a member,
+/// its name; `None` exactly for want of memory.
+pub fn schema_reason(fault: SchemaFault) -> Option<Reason>
+    ensures { MatchOption result (fault ≡ SchemaFault.Memory)
+        (λ reason. (fault ≢ SchemaFault.Memory) × (reason_text reason ≡ fault_text fault)) }
 {
-    let mut text = String::new(alloc);
-    text.push_str(whole)?;
-    Ok(text)
+    match fault {
+        SchemaFault::NotObject(place) => Some(item_reason("S1", "NotObject", place)),
+        SchemaFault::UnknownChild(place) => Some(item_reason("S2", "UnknownChild", place)),
+        SchemaFault::Newer(place) => Some(item_reason("S3", "Newer", place)),
+        SchemaFault::Field(place, member) => Some(member_reason("S4", "Field", place, member)),
+        SchemaFault::Rate(place) => Some(item_reason("S5", "Rate", place)),
+        SchemaFault::Range(place) => Some(item_reason("S6", "Range", place)),
+        SchemaFault::Transitions(place) => Some(item_reason("S7", "Transitions", place)),
+        SchemaFault::Items => Some(bare_reason("G1", "Items")),
+        SchemaFault::Memory => None,
+    }
 }
 
-// A code and a word, the place, and the end of the line.
-fn line_at(alloc: Global, why: &str, place: &Place) -> Result<String, AllocError>
-    ensures { IfOk result (λ text. string_bytes text ≡ line_is why.now place.now) }
+/// What is told of a timeline that isn't sound, with the place of the item but for the start;
+/// `None` exactly for want of memory.
+pub fn coord_reason(fault: CoordFault) -> Option<Reason>
+    ensures { MatchOption result (fault ≡ CoordFault.Memory)
+        (λ reason. (fault ≢ CoordFault.Memory) × (reason_text reason ≡ coord_fault_text fault)) }
 {
-    let mut text = String::new(alloc);
-    text.push_str(why)?;
-    put_place(&mut text, place)?;
-    text.push_str("\n")?;
-    Ok(text)
+    match fault {
+        CoordFault::StartOffFrame => Some(bare_reason("K2", "StartOffFrame")),
+        CoordFault::NoLength(place) => Some(item_reason("K1", "NoLength", place)),
+        CoordFault::Speed(place) => Some(item_reason("K5", "Speed", place)),
+        CoordFault::Long(place) => Some(item_reason("K4", "Long", place)),
+        CoordFault::Memory => None,
+    }
 }
 
-// The line of a member that is absent or of the wrong kind.
-fn line_of_member(alloc: Global, place: &Place, member: &str) -> Result<String, AllocError>
-    ensures { IfOk result (λ text. string_bytes text ≡ member_line_is (codes ": S4 Field at ") place.now member.now) }
+/// A list is to be written, and its rate has no timecode, or none with drop-frame where that is
+/// asked.
+pub fn no_timecode_reason() -> Reason
+    ensures { reason_text result ≡ no_timecode_text }
 {
-    let mut text = String::new(alloc);
-    text.push_str(": S4 Field at ")?;
-    put_place(&mut text, place)?;
-    text.push_str(" ")?;
-    text.push_str(member)?;
-    text.push_str("\n")?;
-    Ok(text)
+    root_reason("N15", "NoTimecode")
+}
+
+/// A list is to be written, and it has more events than one may have.
+pub fn events_reason() -> Reason
+    ensures { reason_text result ≡ events_text }
+{
+    root_reason("N13", "Events")
+}
+
+/// A list is to be written, and the event of that line has a label past the day.
+pub fn day_reason(line: u32) -> Reason
+    ensures { reason_text result ≡ day_text line }
+{
+    line_reason("L10", "Day", line)
+}
+
+/// A collection or an item stands where a timeline is asked for.
+pub fn not_timeline_reason() -> Reason
+    ensures { reason_text result ≡ not_timeline_text }
+{
+    bare_reason("G3", "NotTimeline")
+}
+
+/// A record point is no label at the record rate.
+pub fn range_reason() -> Reason
+    ensures { reason_text result ≡ range_text }
+{
+    bare_reason("X4", "Range")
+}
+
+// A code and a word alone.
+fn bare_reason(code: &'static str, word: &'static str) -> Reason
+    ensures { reason_text result ≡ refusal code.now word.now [] }
+{
+    Reason {
+        code,
+        word,
+        detail: Detail::Nothing,
+    }
+}
+
+// A fault of the whole object.
+fn root_reason(code: &'static str, word: &'static str) -> Reason
+    ensures { reason_text result ≡ refusal code.now word.now (item_text []) }
+{
+    Reason {
+        code,
+        word,
+        detail: Detail::Root,
+    }
+}
+
+// A fault at an offset.
+fn number_reason(code: &'static str, word: &'static str, number: u64) -> Reason
+    ensures { reason_text result ≡ refusal code.now word.now (number_text number) }
+{
+    Reason {
+        code,
+        word,
+        detail: Detail::Number(number),
+    }
+}
+
+// A fault at a line.
+fn line_reason(code: &'static str, word: &'static str, line: u32) -> Reason
+    ensures { reason_text result ≡ refusal code.now word.now (number_text line) }
+{
+    number_reason(code, word, u64::from(line))
+}
+
+// A fault of the item at a place.
+fn item_reason(code: &'static str, word: &'static str, place: Place) -> Reason
+    ensures { reason_text result ≡ refusal code.now word.now (item_text place) }
+{
+    Reason {
+        code,
+        word,
+        detail: Detail::At(place),
+    }
+}
+
+// A fault of a member of the item at a place.
+fn member_reason(code: &'static str, word: &'static str, place: Place, member: Text) -> Reason
+    ensures { reason_text result ≡ refusal code.now word.now (member_text place member) }
+{
+    Reason {
+        code,
+        word,
+        detail: Detail::Member(place, member),
+    }
 }

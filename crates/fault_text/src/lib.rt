@@ -1,11 +1,18 @@
-//! Texts of faults at places in a tree of objects, as messages have them.
+//! The table of messages: what is told of each fault behind the name of its file.
+//!
+//! A fault of a format or of a command becomes a [`Reason`]: a code, a word and where it lies. Its
+//! text is handed over part by part, so a message takes no memory, whatever it tells.
 #![tactic(auto)]
 
 mod faults;
 mod places;
+mod reasons;
 
-pub use faults::{text_of_coord_fault, text_of_fault};
-pub use places::put_place;
+pub use faults::{
+    coord_reason, day_reason, events_reason, json_reason, list_reason, no_timecode_reason,
+    not_timeline_reason, range_reason, schema_reason,
+};
+pub use reasons::{Detail, Reason, put_reason};
 
 #[cfg(test)]
 mod tests;

@@ -1,26 +1,36 @@
 //! Places in messages.
 
-ghost use Rattle.std.specs.Prelude.{◌≡◌, ◌<◌, ◌++◌, Some, length, slice_get, decimal, string_bytes, OnOk};
+ghost use Rattle.std.specs.Prelude.{◌≡◌, ◌<◌, Some, length, slice_get, decimal};
+ghost use Rattle.dev_io.specs.Buffer.{HandsOver};
 ghost use Rattle.fault_text.specs.Places.{place_text};
 
+use dev_io::{Out, OutBuffer};
 use itoa::Buffer;
 use otio_model::Place;
-use std::alloc::AllocError;
 
-/// Adds a place to a text: its indexes from the root on with `/` between them, and `.` for the root itself. An error comes where
-/// memory runs out.
-pub fn put_place(text: &mut String, place: &Place) -> Result<(), AllocError>
-    ensures { OnOk result (string_bytes text.new ≡ string_bytes text.old ++ place_text place.now) }
+/// Hands over a place: its indexes from the root on with `/` between them, and `.` for the root
+/// itself.
+pub fn put_place<W: Out>(buffer: &mut OutBuffer, out: &mut W, place: &Place)
+    ensures { HandsOver W.known W.faults out.old out.new buffer.old buffer.new
+        (place_text place.now) }
 {
     let Some(first) = place.index(0) else {
-        return text.push_str(".");
+        buffer.put(out, b".");
+        return;
     };
-    put_index(text, first)?;
+    put_number(buffer, out, u64::from(first));
     for at in 1..place.len() {
-        text.push_str("/")?;
-        put_index(text, index_at(place, at))?;
+        buffer.put(out, b"/");
+        put_number(buffer, out, u64::from(index_at(place, at)));
     }
-    Ok(())
+}
+
+/// Hands over a number in decimal digits.
+pub fn put_number<W: Out>(buffer: &mut OutBuffer, out: &mut W, number: u64)
+    ensures { HandsOver W.known W.faults out.old out.new buffer.old buffer.new (decimal number) }
+{
+    let mut digits = Buffer::new();
+    buffer.put(out, digits.format(number).as_bytes());
 }
 
 // The index at that depth.
@@ -32,12 +42,4 @@ fn index_at(place: &Place, at: usize) -> u32
         Some(index) => index,
         None => unreachable!(),
     }
-}
-
-// Adds an index in decimal digits.
-fn put_index(text: &mut String, index: u32) -> Result<(), AllocError>
-    ensures { OnOk result (string_bytes text.new ≡ string_bytes text.old ++ decimal index) }
-{
-    let mut digits = Buffer::new();
-    text.push_str(digits.format(index))
 }

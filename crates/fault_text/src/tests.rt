@@ -1,48 +1,84 @@
 //! The texts of messages.
 
-use crate::{put_place, text_of_coord_fault, text_of_fault};
+use crate::{
+    Reason, coord_reason, day_reason, json_reason, list_reason, no_timecode_reason, put_reason,
+    schema_reason,
+};
 use coord::CoordFault;
+use dev_io::{MemOut, OutBuffer};
+use edl_text::EdlFault;
+use json_text::JsonFault;
 use otio_model::Place;
 use schema_rows::SchemaFault;
 use sequences::Text;
+use std::alloc::Global;
+use std::process::Abort;
 use std::test::Fail;
 
-#[test]
-fn a_place_is_its_indexes(rt: HostRuntime) -> Result<(), Fail> {
-    let mut place = Place::new(rt.alloc());
-    let mut text = String::new(rt.alloc());
-    put_place(&mut text, &place)?;
-    place.push(10)?;
-    put_place(&mut text, &place)?;
-    place.push(0)?;
-    put_place(&mut text, &place)?;
-    assert_eq!(rt; text.as_str(), ".1010/0");
+// Compares what is told with a text.
+fn check(rt: &impl Abort, alloc: Global, reason: &Option<Reason>, want: &str) -> Result<(), Fail> {
+    let mut out = MemOut::new(alloc, 100)?;
+    let mut buffer = OutBuffer::new();
+    if let Some(reason) = reason {
+        put_reason(&mut buffer, &mut out, reason);
+    }
+    buffer.flush(&mut out)?;
+    assert_eq!(rt; out.sent(), want.as_bytes());
     Ok(())
 }
 
 #[test]
-fn a_fault_is_a_line(rt: HostRuntime) -> Result<(), Fail> {
-    let place = Place::new(rt.alloc());
-    let text = text_of_fault(rt.alloc(), &SchemaFault::Newer(place))?;
-    assert_eq!(rt; text.as_str(), ": S3 Newer at .\n");
-    Ok(())
+fn numbers(rt: HostRuntime) -> Result<(), Fail> {
+    let alloc = rt.alloc();
+    check(
+        &rt,
+        alloc,
+        &json_reason(JsonFault::Syntax(33_554_431)),
+        ": J1 Syntax at 33554431\n",
+    )?;
+    check(&rt, alloc, &json_reason(JsonFault::Large), ": J4 Large\n")?;
+    check(&rt, alloc, &json_reason(JsonFault::Memory), "")?;
+    check(
+        &rt,
+        alloc,
+        &list_reason(EdlFault::Split(10)),
+        ": L6 Split at 10\n",
+    )?;
+    check(
+        &rt,
+        alloc,
+        &Some(no_timecode_reason()),
+        ": N15 NoTimecode at .\n",
+    )?;
+    check(&rt, alloc, &Some(day_reason(7)), ": L10 Day at 7\n")
 }
 
 #[test]
-fn a_member_stands_behind_the_place(rt: HostRuntime) -> Result<(), Fail> {
-    let place = Place::new(rt.alloc());
-    let member = Text::of(rt.alloc(), "kind")?;
-    let text = text_of_fault(rt.alloc(), &SchemaFault::Field(place, member))?;
-    assert_eq!(rt; text.as_str(), ": S4 Field at . kind\n");
-    Ok(())
-}
-
-#[test]
-fn a_fault_of_what_is_shown_names_its_item(rt: HostRuntime) -> Result<(), Fail> {
-    let mut place = Place::new(rt.alloc());
+fn places(rt: HostRuntime) -> Result<(), Fail> {
+    let alloc = rt.alloc();
+    let newer = SchemaFault::Newer(Place::new(alloc));
+    check(&rt, alloc, &schema_reason(newer), ": S3 Newer at .\n")?;
+    let mut place = Place::new(alloc);
     place.push(0)?;
     place.push(12)?;
-    let text = text_of_coord_fault(rt.alloc(), &CoordFault::Long(place))?;
-    assert_eq!(rt; text.as_str(), ": K4 Long at 0/12\n");
-    Ok(())
+    check(
+        &rt,
+        alloc,
+        &coord_reason(CoordFault::Long(place)),
+        ": K4 Long at 0/12\n",
+    )
+}
+
+#[test]
+fn members(rt: HostRuntime) -> Result<(), Fail> {
+    let alloc = rt.alloc();
+    let mut place = Place::new(alloc);
+    place.push(4_294_967_295)?;
+    let fault = SchemaFault::Field(place, Text::of(alloc, "kind")?);
+    check(
+        &rt,
+        alloc,
+        &schema_reason(fault),
+        ": S4 Field at 4294967295 kind\n",
+    )
 }

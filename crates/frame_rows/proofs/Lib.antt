@@ -1,7 +1,6 @@
 pub mod Spare
 pub mod Starts
 pub mod Counted
-pub mod Named
 pub mod Pieces
 pub mod Sent
 pub mod Pairs

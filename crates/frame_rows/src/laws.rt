@@ -9,6 +9,9 @@ ghost use Rattle.frame_rows.specs.Rows.{listing_of, listing_text};
 
 /// Law: of timelines that differ in their spare memory alone the same is listed, in the same lines.
 pub fn bare_is_listed()
-    ensures listing { (a b : AnyTimeline) (child : Option ℕ) (start : Option AnyPoint) (count : Option ℕ) → bare a ≡ bare b → listing_of a child start count ≡ listing_of b child start count }
-    ensures text { (a b : AnyTimeline) (l : AnyListing) → bare a ≡ bare b → listing_text a l ≡ listing_text b l }
+    ensures listing { (a b : AnyTimeline) (child : Option ℕ) (start : Option AnyPoint)
+        (count : Option ℕ) → bare a ≡ bare b →
+        listing_of a child start count ≡ listing_of b child start count }
+    ensures text { (a b : AnyTimeline) (l : AnyListing) → bare a ≡ bare b →
+        listing_text a l ≡ listing_text b l }
 {}

@@ -2,11 +2,12 @@
 
 ghost use Rattle.std.specs.Prelude.{◌≡◌, ◌<◌, ◌≤◌, ◌^◌, ◌+ℤ◌, ◌-ℤ◌, ◌≤ℤ◌, pos, Some, length, decimal};
 ghost use Rattle.std.specs.Fmt.{signed_decimal};
-ghost use Rattle.dev_io.specs.Buffer.{standing, Puts};
+ghost use Rattle.dev_io.specs.Buffer.{standing, HandsOver};
 ghost use Rattle.dev_io.specs.Calls.{Tells, SendsAll};
 ghost use Rattle.otio_model.specs.Counts.{count as count_all};
 ghost use Rattle.otio_model.specs.Trees.{items_of};
-ghost use Rattle.coord.specs.Soundness.{IsSound};
+ghost use Rattle.coord.specs.Soundness.{IsFaultless};
+ghost use Rattle.show_prog.specs.Clocks.{IsClockOf};
 ghost use Rattle.frame_rows.specs.Rows.{line, lines_at, rows, children_listed as listed, listing_text};
 ghost use Rattle.frame_rows.specs.Faults.{HasRowCause};
 ghost use Rattle.frame_rows.specs.Handing.{PutsAll, indexes};
@@ -15,7 +16,7 @@ use crate::listing::{Listing, RowFault};
 use dev_io::{Out, OutBuffer};
 use itoa::Buffer;
 use otio_model::Timeline;
-use show_prog::{put_show, show};
+use show_prog::{Clock, clock_of, put_show, show_at};
 use std::alloc::{AllocError, Global};
 
 /// How many frames are handed over before a flush shows whether the stream has failed.
@@ -71,7 +72,8 @@ fn frame_after(from: i128, count: u32) -> i128
 
 // Hands over the number of a frame.
 fn put_frame_number<W: Out>(buffer: &mut OutBuffer, out: &mut W, frame: i128)
-    ensures { Puts (standing W.known W.faults out.old buffer.old) (standing W.known W.faults out.new buffer.new) (signed_decimal frame) }
+    ensures { HandsOver W.known W.faults out.old out.new buffer.old buffer.new
+        (signed_decimal frame) }
 {
     let mut digits = Buffer::new();
     buffer.put(out, digits.format(frame).as_bytes());
@@ -79,7 +81,7 @@ fn put_frame_number<W: Out>(buffer: &mut OutBuffer, out: &mut W, frame: i128)
 
 // Hands over the index of a child.
 fn put_index<W: Out>(buffer: &mut OutBuffer, out: &mut W, child: usize)
-    ensures { Puts (standing W.known W.faults out.old buffer.old) (standing W.known W.faults out.new buffer.new) (decimal child) }
+    ensures { HandsOver W.known W.faults out.old out.new buffer.old buffer.new (decimal child) }
 {
     let mut digits = Buffer::new();
     buffer.put(out, digits.format(child).as_bytes());
@@ -91,15 +93,18 @@ fn put_line<W: Out>(
     buffer: &mut OutBuffer,
     out: &mut W,
     timeline: &Timeline,
+    clock: Clock,
     frame: i128,
     child: usize,
 ) -> Result<(), AllocError>
     requires few { count_all timeline.now.tracks.children < 2 ^ 32 }
-    requires sound { IsSound timeline.now }
+    requires sound { IsFaultless timeline.now }
+    requires clock { IsClockOf timeline.now clock }
     requires there { child < length (items_of timeline.now.tracks.children) }
-    ensures { PutsAll (standing W.known W.faults out.old buffer.old) (standing W.known W.faults out.new buffer.new) (line timeline.now frame child) result }
+    ensures { PutsAll (standing W.known W.faults out.old buffer.old)
+        (standing W.known W.faults out.new buffer.new) (line timeline.now frame child) result }
 {
-    let picture = match show(alloc, timeline, child, frame) {
+    let picture = match show_at(alloc, timeline, clock, child, frame) {
         Ok(picture) => picture,
         Err(error) => return Err(error),
     };
@@ -118,17 +123,21 @@ fn put_lines<W: Out>(
     buffer: &mut OutBuffer,
     out: &mut W,
     timeline: &Timeline,
+    clock: Clock,
     children: Indexes,
     frame: i128,
 ) -> Result<(), AllocError>
     requires few { count_all timeline.now.tracks.children < 2 ^ 32 }
-    requires sound { IsSound timeline.now }
+    requires sound { IsFaultless timeline.now }
+    requires clock { IsClockOf timeline.now clock }
     requires ordered { children.first ≤ children.past }
     requires within { children.past ≤ length (items_of timeline.now.tracks.children) }
-    ensures { PutsAll (standing W.known W.faults out.old buffer.old) (standing W.known W.faults out.new buffer.new) (lines_at timeline.now (indexes children) frame) result }
+    ensures { PutsAll (standing W.known W.faults out.old buffer.old)
+        (standing W.known W.faults out.new buffer.new)
+        (lines_at timeline.now (indexes children) frame) result }
 {
     'children: for child in children.first..children.past {
-        match put_line(alloc, buffer, out, timeline, frame, child) {
+        match put_line(alloc, buffer, out, timeline, clock, frame, child) {
             Ok(()) => {}
             Err(error) => return Err(error),
         }
@@ -142,17 +151,21 @@ fn put_rows<W: Out>(
     buffer: &mut OutBuffer,
     out: &mut W,
     timeline: &Timeline,
+    clock: Clock,
     children: Indexes,
     from: i128,
     count: u32,
 ) -> Result<(), AllocError>
     requires few { count_all timeline.now.tracks.children < 2 ^ 32 }
-    requires sound { IsSound timeline.now }
+    requires sound { IsFaultless timeline.now }
+    requires clock { IsClockOf timeline.now clock }
     requires ordered { children.first ≤ children.past }
     requires within { children.past ≤ length (items_of timeline.now.tracks.children) }
     requires low { (pos 0 -ℤ pos (2 ^ 64)) ≤ℤ from }
     requires high { from ≤ℤ pos (2 ^ 64) }
-    ensures { PutsAll (standing W.known W.faults out.old buffer.old) (standing W.known W.faults out.new buffer.new) (rows timeline.now (indexes children) from count) result }
+    ensures { PutsAll (standing W.known W.faults out.old buffer.old)
+        (standing W.known W.faults out.new buffer.new)
+        (rows timeline.now (indexes children) from count) result }
 {
     'frames: for index in 0..count {
         match put_lines(
@@ -160,6 +173,7 @@ fn put_rows<W: Out>(
             buffer,
             out,
             timeline,
+            clock,
             children,
             frame_after(from, index),
         ) {
@@ -174,22 +188,34 @@ fn put_rows<W: Out>(
 fn send_rows<W: Out>(
     alloc: Global,
     timeline: &Timeline,
+    clock: Clock,
     children: Indexes,
     from: i128,
     count: u32,
     out: &mut W,
 ) -> Result<(), RowFault>
     requires few { count_all timeline.now.tracks.children < 2 ^ 32 }
-    requires sound { IsSound timeline.now }
+    requires sound { IsFaultless timeline.now }
+    requires clock { IsClockOf timeline.now clock }
     requires ordered { children.first ≤ children.past }
     requires within { children.past ≤ length (items_of timeline.now.tracks.children) }
     requires low { (pos 0 -ℤ pos (2 ^ 64)) ≤ℤ from }
     requires high { from ≤ℤ pos (2 ^ 64) }
-    ensures told { Tells (SendsAll (rows timeline.now (indexes children) from count) result) (W.known out.old) (W.known out.new) }
+    ensures told { Tells (SendsAll (rows timeline.now (indexes children) from count) result)
+        (W.known out.old) (W.known out.new) }
     ensures cause { HasRowCause (W.faults out.old) (W.faults out.new) result }
 {
     let mut buffer = OutBuffer::new();
-    match put_rows(alloc, &mut buffer, out, timeline, children, from, count) {
+    match put_rows(
+        alloc,
+        &mut buffer,
+        out,
+        timeline,
+        clock,
+        children,
+        from,
+        count,
+    ) {
         Ok(()) => {}
         Err(_) => return Err(RowFault::Memory),
     }
@@ -199,10 +225,12 @@ fn send_rows<W: Out>(
     }
 }
 
-/// Sends the lines of what is listed, frame by frame and at each frame child by child: the record frame, the child's index, what is
-/// seen there, and a line feed. A child that doesn't exist has no lines.
+/// Sends the lines of what is listed, frame by frame and at each frame child by child: the record
+/// frame, the child's index, what is seen there, and a line feed. A child that doesn't exist has no
+/// lines.
 ///
-/// `Sink` comes where a write failed, and `Memory` where memory ran out for a mix. A prefix of the lines was sent then.
+/// `Sink` comes where a write failed, and `Memory` where memory ran out for a mix. A prefix of the
+/// lines was sent then.
 pub fn write_rows<W: Out>(
     alloc: Global,
     timeline: &Timeline,
@@ -210,10 +238,12 @@ pub fn write_rows<W: Out>(
     out: &mut W,
 ) -> Result<(), RowFault>
     requires few { count_all timeline.now.tracks.children < 2 ^ 32 }
-    requires sound { IsSound timeline.now }
-    ensures told { Tells (SendsAll (listing_text timeline.now listing.now) result) (W.known out.old) (W.known out.new) }
+    requires sound { IsFaultless timeline.now }
+    ensures told { Tells (SendsAll (listing_text timeline.now listing.now) result) (W.known out.old)
+        (W.known out.new) }
     ensures cause { HasRowCause (W.faults out.old) (W.faults out.new) result }
 {
+    let clock = clock_of(timeline);
     let children = children_listed(listing.child, timeline.tracks.children.len());
     let from = i128::from(listing.from);
     let mut sent: u32 = 0;
@@ -222,6 +252,7 @@ pub fn write_rows<W: Out>(
         match send_rows(
             alloc,
             timeline,
+            clock,
             children,
             frame_after(from, sent),
             count,

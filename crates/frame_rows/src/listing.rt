@@ -1,17 +1,13 @@
 //! Which record frames are listed.
 
-ghost use Rattle.std.specs.Prelude.{◌≡◌, ◌<◌, ◌≤◌, ◌^◌, pos, ◌≤ℤ◌, ◌-ℤ◌, min, Some, length, slice_get};
+ghost use Rattle.std.specs.Prelude.{◌≡◌, ◌<◌, ◌≤◌, ◌^◌, pos, ◌≤ℤ◌, ◌-ℤ◌, min};
 ghost use Rattle.std.specs.Int.{div_ceil};
-ghost use Rattle.otio_model.specs.Counts.{count as count_all, count_of};
-ghost use Rattle.otio_model.specs.Lengths.{lengths, length_of};
-ghost use Rattle.otio_model.specs.Sums.{greatest};
-ghost use Rattle.otio_model.specs.Trees.{items_of};
-ghost use Rattle.coord.specs.Sights.{known};
+ghost use Rattle.otio_model.specs.Counts.{count as count_all};
 ghost use Rattle.coord.specs.Programs as programs;
 ghost use Rattle.frame_rows.specs.Rows as rows;
 
 use coord::{record_rate, start_frame};
-use otio_model::{Children, Item, Timeline};
+use otio_model::Timeline;
 use record_points::{RecordPoint, frame_at};
 
 /// How many record frames are listed at most where no count is given.
@@ -35,41 +31,6 @@ pub enum RowFault {
     Sink,
     /// Memory ran out.
     Memory,
-}
-
-// The child at an index.
-fn child_at(children: &Children, index: usize) -> &Item
-    requires { index < length (items_of children.now) }
-    ensures { slice_get (items_of children.now) index ≡ Some result.now }
-{
-    match children.item(index) {
-        Some(item) => item,
-        None => unreachable!(),
-    }
-}
-
-// The length of an item in ticks, 0 where it has none.
-fn known_ticks(item: &Item) -> u128
-    requires few { count_of item.now < 2 ^ 32 }
-    ensures { result ≡ known (length_of item.now) }
-{
-    match item.length() {
-        Some(ticks) => ticks.unsigned_abs(),
-        None => 0,
-    }
-}
-
-#[tactic(auto, using(coord::proofs::Sums::longest_first, coord::proofs::Sums::longest_next, coord::proofs::Sums::longest_end, coord::proofs::Sums::child_few))]
-// The greatest length of children in ticks.
-fn longest(children: &Children) -> u128
-    requires few { count_all children.now < 2 ^ 32 }
-    ensures { result ≡ greatest (lengths children.now) }
-{
-    let mut longest: u128 = 0;
-    'children: for index in 0..children.len() {
-        longest = longest.max(known_ticks(child_at(children, index)));
-    }
-    longest
 }
 
 // The ticks of a record frame.
@@ -103,11 +64,15 @@ fn end_frame(timeline: &Timeline) -> i128
     ensures low { (pos 0 -ℤ pos (2 ^ 63)) ≤ℤ result }
     ensures high { result ≤ℤ pos (2 ^ 111) }
 {
-    let frames = frames_of(longest(&timeline.tracks.children), frame_ticks(timeline));
+    let frames = frames_of(
+        timeline.tracks.children.longest_ticks(),
+        frame_ticks(timeline),
+    );
     i128::from(first_of(timeline)) + frames
 }
 
-// How many frames there are from one up to, not including, another, and at most so many as are listed where no count is given.
+// How many frames there are from one up to, not including, another, and at most so many as are
+// listed where no count is given.
 fn frames_between(from: i64, end: i128) -> u32
     requires low { (pos 0 -ℤ pos (2 ^ 63)) ≤ℤ end }
     requires high { end ≤ℤ pos (2 ^ 111) }
@@ -128,7 +93,8 @@ fn frames_left(timeline: &Timeline, from: i64) -> u32
     frames_between(from, end_frame(timeline))
 }
 
-// The first frame that is listed: that of the start at the record rate, else the first of the timeline.
+// The first frame that is listed: that of the start at the record rate, else the first of the
+// timeline.
 fn first_frame(timeline: &Timeline, start: Option<RecordPoint>) -> Option<i64>
     ensures { result ≡ rows.first_frame timeline.now start }
 {
@@ -150,9 +116,11 @@ fn listing_from(timeline: &Timeline, child: Option<u64>, count: Option<u32>, fro
     Listing { child, from, count }
 }
 
-/// What is listed of a timeline for a child, a first frame and a count, each of which may be left out: all root children, from the
-/// timeline's start frame on, up to the end of its longest root child and at most 100 000 frames. A label is read at the record rate.
-/// `None` exactly where the start is a label that is none at that rate (SMPTE ST 12-1). It takes no memory.
+/// What is listed of a timeline for a child, a first frame and a count, each of which may be left
+/// out: all root children, from the timeline's start frame on, up to the end of its longest root
+/// child and at most 100 000 frames. A label is read at the record rate.
+/// `None` exactly where the start is a label that is none at that rate (SMPTE ST 12-1). It takes no
+/// memory.
 pub fn listing_of(
     timeline: &Timeline,
     child: Option<u64>,

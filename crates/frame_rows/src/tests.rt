@@ -133,7 +133,8 @@ fn listed(
     Ok(listing_of(&timeline, Some(1), start, count))
 }
 
-/// Sends what is listed of a clip of two frames at 24 frames a second. `None` where that isn't sound.
+/// Sends what is listed of a clip of two frames at 24 frames a second. `None` where that isn't
+/// sound.
 fn written(
     alloc: Global,
     listing: &Listing,
@@ -218,7 +219,8 @@ fn a_stream_that_fails_ends_the_lines(rt: HostRuntime) -> Result<(), Fail> {
     };
     let stopped = Some(Err(RowFault::Sink));
     assert_eq!(rt; written(rt.alloc(), &listing, &mut out)?, stopped);
-    // the lines of frames 0 to 255, of which the first 10, 90 and 156 have one, two and three digits
+    // the lines of frames 0 to 255, of which the first 10, 90 and 156 have one, two and three
+    // digits
     assert_eq!(rt; out.sent().len(), 10 * 6 + 90 * 7 + 156 * 8);
     Ok(())
 }

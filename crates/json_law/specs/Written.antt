@@ -9,26 +9,33 @@ use Rattle.json_text.specs.Grammar.{text_of}
 use Rattle.json_layout.specs.Layout.{layout}
 
 mutual
-  -- The numerals of the value are JSON numerals, its texts and names are UTF-8, the names of an object are distinct, and
-  -- at most `room` lists and objects stand in one another in it.
+  -- The numerals of the value are JSON numerals, its texts and names are UTF-8, the names of an
+  -- object are distinct, and at most `room` lists and objects stand in one another in it.
   pub data IsJson : ℕ → Json → Type 0 where
     null : (room : ℕ) (value : Json) → value ≡ Null → IsJson room value
     truth : (room : ℕ) (value : Json) (b : Bool) → value ≡ JsonOfBool b → IsJson room value
-    number : (room : ℕ) (value : Json) (numeral : List ℕ) → value ≡ Num numeral → IsNumeral numeral → IsJson room value
-    string : (room : ℕ) (value : Json) (text : List ℕ) → value ≡ Str text → IsUtf8 text → IsJson room value
-    list : (room : ℕ) (value : Json) (inner : ℕ) (items : List Json) → room ≡ suc inner → value ≡ JsonOfList items → AreJson inner items → IsJson room value
-    object : (room : ℕ) (value : Json) (inner : ℕ) (members : List (List ℕ × Json)) → room ≡ suc inner → value ≡ JsonOfMap members
+    number : (room : ℕ) (value : Json) (numeral : List ℕ) → value ≡ Num numeral → IsNumeral numeral
+        → IsJson room value
+    string : (room : ℕ) (value : Json) (text : List ℕ) → value ≡ Str text → IsUtf8 text
+        → IsJson room value
+    list : (room : ℕ) (value : Json) (inner : ℕ) (items : List Json) → room ≡ suc inner
+        → value ≡ JsonOfList items → AreJson inner items → IsJson room value
+    object : (room : ℕ) (value : Json) (inner : ℕ) (members : List (List ℕ × Json))
+        → room ≡ suc inner → value ≡ JsonOfMap members
         → AreDistinct (names_of members) → AreMembers inner members → IsJson room value
 
   -- each of these values is one
   pub data AreJson : ℕ → List Json → Type 0 where
     no_values : (room : ℕ) (items : List Json) → items ≡ [] → AreJson room items
-    more_values : (room : ℕ) (items : List Json) (first : Json) (others : List Json) → items ≡ first ∷ others → IsJson room first → AreJson room others → AreJson room items
+    more_values : (room : ℕ) (items : List Json) (first : Json) (others : List Json)
+        → items ≡ first ∷ others → IsJson room first → AreJson room others → AreJson room items
 
   -- each of these names is UTF-8, and each of the values is one
   pub data AreMembers : ℕ → List (List ℕ × Json) → Type 0 where
-    no_members : (room : ℕ) (members : List (List ℕ × Json)) → members ≡ [] → AreMembers room members
-    more_members : (room : ℕ) (members : List (List ℕ × Json)) (name : List ℕ) (value : Json) (others : List (List ℕ × Json)) → members ≡ (name, value) ∷ others
+    no_members : (room : ℕ) (members : List (List ℕ × Json)) → members ≡ []
+        → AreMembers room members
+    more_members : (room : ℕ) (members : List (List ℕ × Json)) (name : List ℕ) (value : Json)
+        (others : List (List ℕ × Json)) → members ≡ (name, value) ∷ others
         → IsUtf8 name → IsJson room value → AreMembers room others → AreMembers room members
 
 -- the layout of a value of at most 127 levels is a text of that value

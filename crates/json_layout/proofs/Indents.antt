@@ -15,6 +15,6 @@ deep-Inside outer = fold-roll-Level ℕ deep_step (Level-F.Inside outer)
 pub indent_more : (n : ℕ) → indent n ++ (32 ∷ 32 ∷ 32 ∷ 32 ∷ []) ≡ indent (n + 1)
 indent_more n = replicate-append-replicate (4 * n) 4 32 ∙ ap (λ k. replicate k 32) (omega arith)
 
--- the spaces of a few levels, of those of 32
-pub indent_of_many : (n : ℕ) → n < 33 → take (4 * n) (replicate 128 32) ≡ indent n
-indent_of_many n few = take-replicate (4 * n) 128 32 (omega arith)
+-- the spaces of a few levels, of those of 128
+pub indent_of_many : (n : ℕ) → n < 129 → take (4 * n) (replicate 512 32) ≡ indent n
+indent_of_many n few = take-replicate (4 * n) 512 32 (omega arith)

@@ -1,4 +1,3 @@
 pub mod Escaping
 pub mod Indents
-pub mod Leaving
 pub mod Lines

@@ -1,5 +1,5 @@
 -- The text of each kind of value, and of a list and of an object, member by member.
-use Rattle.std.proofs.Common.{◌≡◌, ℕ, zero, suc, ◌+◌, ◌<◌, ◌≤◌, Bool, List, [], ◌∷◌, ◌++◌, length, get_or, map, refl, ap, ◌∙◌, append_assoc, drop, drop-cons, add-one, arith}
+use Rattle.std.proofs.Common.{◌≡◌, ℕ, suc, ◌+◌, ◌<◌, Bool, List, [], ◌∷◌, ◌++◌, length, get_or, map, refl, ap, ◌∙◌, append_assoc, drop, drop-cons, add-one, arith}
 use Rattle.json_value.specs.declared.Json.{Json, Null, Bool as JsonOfBool, Num, Str, List as JsonOfList, Map as JsonOfMap}
 use Rattle.json_value.specs.declared.Json.TheOpen.{Json-F}
 use Rattle.json_value.specs.declared.Json.TheFolds.{fold-roll-Json}
@@ -59,9 +59,3 @@ list_text-lines n (item ∷ items) h = refl
 pub object_text-lines : (n : ℕ) (members : List (List ℕ × Json)) → 0 < length members → object_text n members ≡ member_lines 123 (n + 1) members ++ (newline n ++ 125 ∷ [])
 object_text-lines n [] h = absurd (omega arith)
 object_text-lines n (member ∷ members) h = refl
-
-pub drop_past : {A : Type 0} (xs : List A) (i : ℕ) → length xs ≤ i → drop i xs ≡ []
-drop_past [] zero h = refl
-drop_past [] (suc i) h = refl
-drop_past (x ∷ xs) zero h = absurd (omega arith)
-drop_past (x ∷ xs) (suc i) h = drop_past xs i (omega arith)

@@ -12,15 +12,18 @@ indent n = replicate (4 * n) 32
 abbrev pub newline : ℕ → List ℕ
 newline n = 10 ∷ indent n
 
--- each part on a line of this level: the line before the first ends with the byte `lead`, and the others with a comma
+-- each part on a line of this level: the line before the first ends with the byte `lead`, and the
+-- others with a comma
 abbrev pub lines_of : ℕ → ℕ → List (List ℕ) → List ℕ
 lines_of lead n [] = []
 lines_of lead n (part ∷ parts) = lead ∷ (newline n ++ (part ++ lines_of 44 n parts))
 
--- parts between two brackets: the closing one on a line of the level around them, and right behind the first where there are none
+-- parts between two brackets: the closing one on a line of the level around them, and right behind
+-- the first where there are none
 abbrev pub block : ℕ → ℕ → ℕ → List (List ℕ) → List ℕ
 block first last n [] = first ∷ last ∷ []
-block first last n (part ∷ parts) = lines_of first (n + 1) (part ∷ parts) ++ (newline n ++ last ∷ [])
+block first last n (part ∷ parts) =
+    lines_of first (n + 1) (part ∷ parts) ++ (newline n ++ last ∷ [])
 
 -- a member of an object: its name as a string, a colon, a space and the text of its value
 abbrev pub member_text : List ℕ → List ℕ → List ℕ
@@ -31,15 +34,17 @@ abbrev pub bool_text : Bool → List ℕ
 bool_text true = 116 ∷ 114 ∷ 117 ∷ 101 ∷ []
 bool_text false = 102 ∷ 97 ∷ 108 ∷ 115 ∷ 101 ∷ []
 
--- a value at a level, with the values right inside it known as texts at any level: `null`, a truth value, a numeral as it
--- is spelled, a string, a list between `[` and `]`, or an object between `{` and `}`
+-- a value at a level, with the values right inside it known as texts at any level: `null`, a truth
+-- value, a numeral as it is spelled, a string, a list between `[` and `]`, or an object between `{`
+-- and `}`
 abbrev pub text_step : Json-F (ℕ → List ℕ) → ℕ → List ℕ
 text_step Json-F.Null n = 110 ∷ 117 ∷ 108 ∷ 108 ∷ []
 text_step (Json-F.Bool b) n = bool_text b
 text_step (Json-F.Num numeral) n = numeral
 text_step (Json-F.Str text) n = quoted text
 text_step (Json-F.List items) n = block 91 93 n (map (λ item. item (n + 1)) items)
-text_step (Json-F.Map members) n = block 123 125 n (map (λ member. member_text member.0 (member.1 (n + 1))) members)
+text_step (Json-F.Map members) n =
+    block 123 125 n (map (λ member. member_text member.0 (member.1 (n + 1))) members)
 
 -- the text of a value at a level
 abbrev pub text_at : Json → ℕ → List ℕ
@@ -55,7 +60,8 @@ item_lines lead n items = lines_of lead n (map (λ item. text_at item n) items)
 
 -- the members of an object, each on a line of this level
 abbrev pub member_lines : ℕ → ℕ → List (List ℕ × Json) → List ℕ
-member_lines lead n members = lines_of lead n (map (λ member. member_text member.0 (text_at member.1 n)) members)
+member_lines lead n members = lines_of lead n
+    (map (λ member. member_text member.0 (text_at member.1 n)) members)
 
 -- the text of a list of items at a level
 abbrev pub list_text : ℕ → List Json → List ℕ
@@ -63,4 +69,5 @@ list_text n items = block 91 93 n (map (λ item. text_at item (n + 1)) items)
 
 -- the text of an object of members at a level
 abbrev pub object_text : ℕ → List (List ℕ × Json) → List ℕ
-object_text n members = block 123 125 n (map (λ member. member_text member.0 (text_at member.1 (n + 1))) members)
+object_text n members = block 123 125 n
+    (map (λ member. member_text member.0 (text_at member.1 (n + 1))) members)

@@ -7,15 +7,16 @@ use Rattle.std.specs.List.{flat_map}
 abbrev pub code_escape : ℕ → List ℕ
 code_escape b = 92 ∷ 117 ∷ 48 ∷ 48 ∷ digit_char (b / 16) ∷ digit_char (b % 16) ∷ []
 
--- a control character: U+0008, U+000C, U+000A, U+000D and U+0009 by a letter, each other by its code
+-- a control character: U+0008, U+000C, U+000A, U+000D and U+0009 by a letter, each other by its
+-- code
 abbrev pub control_escape : ℕ → List ℕ
 control_escape b =
     if b == 8 then 92 ∷ 98 ∷ [] else if b == 12 then 92 ∷ 102 ∷ []
     else if b == 10 then 92 ∷ 110 ∷ [] else if b == 13 then 92 ∷ 114 ∷ []
     else if b == 9 then 92 ∷ 116 ∷ [] else code_escape b
 
--- what stands in a string for a byte of its UTF-8: the quote and the backslash behind a backslash, a control character
--- below U+0020 as an escape, and each other byte as it is
+-- what stands in a string for a byte of its UTF-8: the quote and the backslash behind a backslash,
+-- a control character below U+0020 as an escape, and each other byte as it is
 abbrev pub escape : ℕ → List ℕ
 escape b =
     if b == 34 then 92 ∷ 34 ∷ [] else if b == 92 then 92 ∷ 92 ∷ []

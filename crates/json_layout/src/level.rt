@@ -1,28 +1,30 @@
 // How deep a line stands, and the spaces before it.
 ghost use Rattle.std.specs.Prelude.{◌≡◌, ◌+◌, ◌++◌};
-ghost use Rattle.dev_io.specs.Buffer.{standing, Puts};
+ghost use Rattle.dev_io.specs.Buffer.{HandsOver};
 ghost use Rattle.json_layout.specs.Levels.{deep};
 ghost use Rattle.json_layout.specs.Layout.{indent};
 
 use crate::shallow::Shallow;
 use dev_io::{Out, OutBuffer};
 
-// How many lists and objects stand around a value: a number while one slice holds the spaces of them all, and behind
-// that one link a level.
+/// How many lists and objects stand around a value: a number while one slice holds the spaces of
+/// them all, and behind that one link a level.
 #[derive(Drop)]
 pub enum Level<'a> {
+    /// So many that one slice holds their spaces.
     Few(Shallow),
+    /// One more than the level around it.
     Inside(&'a Level<'a>),
 }
 
-// The top level.
+/// The top level, with nothing around it.
 pub fn top<'a>() -> Level<'a>
     ensures { deep result ≡ 0 }
 {
     Level::Few(Shallow::top())
 }
 
-// One level more.
+/// One level more than that of the list or object around it.
 pub fn inside<'a>(outer: &'a Level<'a>) -> Level<'a>
     ensures { deep result ≡ deep outer.now + 1 }
 {
@@ -34,9 +36,10 @@ pub fn inside<'a>(outer: &'a Level<'a>) -> Level<'a>
     Level::Inside(&*outer)
 }
 
-// Hands over these bytes, and the spaces of a level behind them.
+/// Hands over these bytes, and the spaces of a level behind them: four a level.
 pub fn put_line<W: Out>(buffer: &mut OutBuffer, out: &mut W, lead: &[u8], level: &Level<'_>)
-    ensures { Puts (standing W.known W.faults out.old buffer.old) (standing W.known W.faults out.new buffer.new) (lead.now ++ indent (deep level.now)) }
+    ensures { HandsOver W.known W.faults out.old out.new buffer.old buffer.new
+        (lead.now ++ indent (deep level.now)) }
 {
     buffer.put(out, lead);
     put_indent(buffer, out, level);
@@ -44,7 +47,8 @@ pub fn put_line<W: Out>(buffer: &mut OutBuffer, out: &mut W, lead: &[u8], level:
 
 // Hands over the spaces of a level.
 fn put_indent<W: Out>(buffer: &mut OutBuffer, out: &mut W, level: &Level<'_>)
-    ensures { Puts (standing W.known W.faults out.old buffer.old) (standing W.known W.faults out.new buffer.new) (indent (deep level.now)) }
+    ensures { HandsOver W.known W.faults out.old out.new buffer.old buffer.new
+        (indent (deep level.now)) }
 {
     match level {
         Level::Few(shallow) => buffer.put(out, shallow.indent()),

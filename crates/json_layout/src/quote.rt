@@ -1,25 +1,26 @@
 // JSON strings as they are written.
 ghost use Rattle.std.specs.Prelude.{◌≡◌, ◌<◌, position};
 ghost use Rattle.std.specs.Char.{digit_char};
-ghost use Rattle.dev_io.specs.Buffer.{standing, Puts};
+ghost use Rattle.dev_io.specs.Buffer.{HandsOver};
 ghost use Rattle.json_layout.specs.Strings.{code_escape, escape, escaped, quoted, needs_escape};
 
 use dev_io::{Out, OutBuffer};
 
-/// Hands these bytes over as a JSON string (RFC 8259, section 7): between `"`, with `"` and `\` behind a `\`, the
-/// control characters below U+0020 as `\b`, `\f`, `\n`, `\r`, `\t` or `\u00xx`, and every other byte as it stands.
+/// Hands these bytes over as a JSON string (RFC 8259, section 7): between `"`, with `"` and `\`
+/// behind a `\`, the control characters below U+0020 as `\b`, `\f`, `\n`, `\r`, `\t` or `\u00xx`,
+/// and every other byte as it stands.
 pub fn put_string<W: Out>(buffer: &mut OutBuffer, out: &mut W, bytes: &[u8])
-    ensures { Puts (standing W.known W.faults out.old buffer.old) (standing W.known W.faults out.new buffer.new) (quoted bytes.now) }
+    ensures { HandsOver W.known W.faults out.old out.new buffer.old buffer.new (quoted bytes.now) }
 {
     buffer.put(out, b"\"");
     put_escaped(buffer, out, bytes);
     buffer.put(out, b"\"");
 }
 
-/// Hands these bytes over as they stand between the quotes of a JSON string (RFC 8259, section 7), so that a string can be put together from
-/// parts. Bytes that need no escape go in one slice.
+/// Hands these bytes over as they stand between the quotes of a JSON string (RFC 8259, section 7),
+/// so that a string can be put together from parts. Bytes that need no escape go in one slice.
 pub fn put_escaped<W: Out>(buffer: &mut OutBuffer, out: &mut W, bytes: &[u8])
-    ensures { Puts (standing W.known W.faults out.old buffer.old) (standing W.known W.faults out.new buffer.new) (escaped bytes.now) }
+    ensures { HandsOver W.known W.faults out.old out.new buffer.old buffer.new (escaped bytes.now) }
 {
     let mut rest = bytes;
     'runs: while let Some(index) = first_escaped(rest) {
@@ -41,7 +42,7 @@ fn first_escaped(bytes: &[u8]) -> Option<usize>
 
 // Hands over what stands for this byte in a JSON string.
 fn put_escape<W: Out>(buffer: &mut OutBuffer, out: &mut W, byte: u8)
-    ensures { Puts (standing W.known W.faults out.old buffer.old) (standing W.known W.faults out.new buffer.new) (escape byte) }
+    ensures { HandsOver W.known W.faults out.old out.new buffer.old buffer.new (escape byte) }
 {
     match byte {
         b'"' => buffer.put(out, b"\\\""),
@@ -58,7 +59,7 @@ fn put_escape<W: Out>(buffer: &mut OutBuffer, out: &mut W, byte: u8)
 
 // Hands over the escape of a byte by its code.
 fn put_code<W: Out>(buffer: &mut OutBuffer, out: &mut W, byte: u8)
-    ensures { Puts (standing W.known W.faults out.old buffer.old) (standing W.known W.faults out.new buffer.new) (code_escape byte) }
+    ensures { HandsOver W.known W.faults out.old out.new buffer.old buffer.new (code_escape byte) }
 {
     buffer.put(
         out,

@@ -1,29 +1,31 @@
 // Levels whose spaces are one slice.
 ghost use Rattle.std.specs.Prelude.{◌≡◌, ◌<◌, ◌+◌, MatchOption};
 
-static SPACES: [u8; 128] = [b' '; 128];
+static SPACES: [u8; 512] = [b' '; 512];
 
-// A number of levels, at most 32.
+/// A number of levels, at most 128, as deep as JSON is read.
 #[derive(Clone, Copy)]
 pub struct Shallow {
+    /// How many lists and objects stand around.
     pub levels: usize,
-    ghost few: { levels < 33 },
+    ghost few: { levels < 129 },
 }
 
 impl Shallow {
     ghost use Rattle.json_layout.specs.Layout.{indent};
 
+    /// No level.
     pub fn top() -> Shallow
         ensures { result.levels ≡ 0 }
     {
         Shallow { levels: 0 }
     }
 
-    // One level more, where its spaces are one slice too.
+    /// One level more, or `None` where its spaces are no slice of those here.
     pub fn inside(self) -> Option<Shallow>
-        ensures { MatchOption result (self.levels ≡ 32) (λ inner. inner.levels ≡ self.levels + 1) }
+        ensures { MatchOption result (self.levels ≡ 128) (λ inner. inner.levels ≡ self.levels + 1) }
     {
-        if self.levels < 32 {
+        if self.levels < 128 {
             Some(Shallow {
                 levels: self.levels + 1,
             })
@@ -32,7 +34,7 @@ impl Shallow {
         }
     }
 
-    // The spaces before a line.
+    /// The spaces before a line: four a level.
     pub fn indent(self) -> &'static [u8]
         ensures { result.now ≡ indent self.levels }
     {

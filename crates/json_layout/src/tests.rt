@@ -110,20 +110,20 @@ fn nested(alloc: Global, depth: u32) -> Result<Json, AllocError> {
 #[test]
 fn deep_values(rt: HostRuntime) -> Result<(), Fail> {
     let alloc = rt.alloc();
-    let mut out = MemOut::new(alloc, 50_000)?;
-    write_json(&nested(alloc, 100)?, &mut out)?;
+    let mut out = MemOut::new(alloc, 100_000)?;
+    write_json(&nested(alloc, 140)?, &mut out)?;
     let mut text = String::new(alloc);
-    for depth in 0..100usize {
+    for depth in 0..140usize {
         for _ in 0..depth {
             text.push_str("    ")?;
         }
         text.push_str("[\n")?;
     }
-    for _ in 0..100usize {
+    for _ in 0..140usize {
         text.push_str("    ")?;
     }
     text.push_str("null\n")?;
-    for depth in (0..100usize).rev() {
+    for depth in (0..140usize).rev() {
         for _ in 0..depth {
             text.push_str("    ")?;
         }

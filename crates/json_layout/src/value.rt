@@ -1,7 +1,7 @@
 // The text of a value.
 ghost use Rattle.dev_io.specs.Calls.{Tells, SendsAll};
 ghost use Rattle.dev_io.specs.Causes.{HasCause};
-ghost use Rattle.dev_io.specs.Buffer.{standing, Puts};
+ghost use Rattle.dev_io.specs.Buffer.{HandsOver};
 ghost use Rattle.json_layout.specs.Levels.{deep};
 ghost use Rattle.json_layout.specs.Layout.{layout, text_at, list_text, object_text, item_lines, member_lines};
 
@@ -10,11 +10,12 @@ use crate::quote::put_string;
 use dev_io::{Out, OutBuffer, WriteFault};
 use json_value::{Json, Members};
 
-/// Sends the layout of a value: four spaces a level, each member of a list or an object that isn't empty on a line of its
-/// own, and one line feed at the end. The text is JSON (RFC 8259) where the numerals are.
+/// Sends the layout of a value: four spaces a level, each member of a list or an object that isn't
+/// empty on a line of its own, and one line feed at the end. The text is JSON (RFC 8259) where the
+/// numerals are.
 ///
-/// It answers `Sink` where a write failed, and then a prefix of the text was sent and the count of faults rose. It takes
-/// no memory.
+/// It answers `Sink` where a write failed, and then a prefix of the text was sent and the count of
+/// faults rose. It takes no memory.
 pub fn write_json<W: Out>(value: &Json, out: &mut W) -> Result<(), WriteFault>
     ensures told { Tells (SendsAll (layout value.now) result) (W.known out.old) (W.known out.new) }
     ensures cause { HasCause (W.faults out.old) (W.faults out.new) result }
@@ -28,7 +29,8 @@ pub fn write_json<W: Out>(value: &Json, out: &mut W) -> Result<(), WriteFault>
 // Hands over the text of a value whose first line is begun.
 #[cycle(put)]
 fn put_value<W: Out>(buffer: &mut OutBuffer, out: &mut W, value: &Json, level: &Level<'_>)
-    ensures { Puts (standing W.known W.faults out.old buffer.old) (standing W.known W.faults out.new buffer.new) (text_at value.now (deep level.now)) }
+    ensures { HandsOver W.known W.faults out.old out.new buffer.old buffer.new
+        (text_at value.now (deep level.now)) }
 {
     match value {
         Json::Null => buffer.put(out, b"null"),
@@ -43,7 +45,8 @@ fn put_value<W: Out>(buffer: &mut OutBuffer, out: &mut W, value: &Json, level: &
 
 #[cycle(put)]
 fn put_list<W: Out>(buffer: &mut OutBuffer, out: &mut W, items: &[Json], level: &Level<'_>)
-    ensures { Puts (standing W.known W.faults out.old buffer.old) (standing W.known W.faults out.new buffer.new) (list_text (deep level.now) items.now) }
+    ensures { HandsOver W.known W.faults out.old out.new buffer.old buffer.new
+        (list_text (deep level.now) items.now) }
 {
     if items.is_empty() {
         buffer.put(out, b"[]");
@@ -56,7 +59,8 @@ fn put_list<W: Out>(buffer: &mut OutBuffer, out: &mut W, items: &[Json], level: 
 
 #[cycle(put)]
 fn put_items<W: Out>(buffer: &mut OutBuffer, out: &mut W, items: &[Json], level: &Level<'_>)
-    ensures { Puts (standing W.known W.faults out.old buffer.old) (standing W.known W.faults out.new buffer.new) (item_lines 91 (deep level.now) items.now) }
+    ensures { HandsOver W.known W.faults out.old out.new buffer.old buffer.new
+        (item_lines 91 (deep level.now) items.now) }
 {
     let mut lead: &[u8] = b"[\n";
     for item in items {
@@ -68,7 +72,8 @@ fn put_items<W: Out>(buffer: &mut OutBuffer, out: &mut W, items: &[Json], level:
 
 #[cycle(put)]
 fn put_object<W: Out>(buffer: &mut OutBuffer, out: &mut W, members: &Members, level: &Level<'_>)
-    ensures { Puts (standing W.known W.faults out.old buffer.old) (standing W.known W.faults out.new buffer.new) (object_text (deep level.now) members.now) }
+    ensures { HandsOver W.known W.faults out.old out.new buffer.old buffer.new
+        (object_text (deep level.now) members.now) }
 {
     if members.as_slice().is_empty() {
         buffer.put(out, b"{}");
@@ -81,7 +86,8 @@ fn put_object<W: Out>(buffer: &mut OutBuffer, out: &mut W, members: &Members, le
 
 #[cycle(put)]
 fn put_members<W: Out>(buffer: &mut OutBuffer, out: &mut W, members: &Members, level: &Level<'_>)
-    ensures { Puts (standing W.known W.faults out.old buffer.old) (standing W.known W.faults out.new buffer.new) (member_lines 123 (deep level.now) members.now) }
+    ensures { HandsOver W.known W.faults out.old out.new buffer.old buffer.new
+        (member_lines 123 (deep level.now) members.now) }
 {
     let mut lead: &[u8] = b"{\n";
     for member in members.as_slice() {

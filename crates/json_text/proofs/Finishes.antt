@@ -6,7 +6,7 @@ use Rattle.sequences.specs.Pairs.{merged}
 use Rattle.json_value.specs.declared.Json.{Json}
 use Rattle.json_value.specs.declared.Json.TheVariants.{Num, Str, List as JsonOfList, Map as JsonOfMap}
 use Rattle.json_text.specs.Grammar.{AreBlank, joined, IsHigh, IsLow, IsDigit16, FourDigits, Chars, Colon, Value, Items, MoreItems, Pairs, MorePairs, Pair}
-use Rattle.json_text.specs.Machine.{Part, plain, escape, code, high, slash, low, tail, Hand, value, first_item, first_name, next_name, colon, behind, done, word, number, text, State, next_place, ends}
+use Rattle.json_text.specs.State.Machine.{Part, plain, escape, code, high, slash, low, tail, Hand, value, first_item, first_name, next_name, colon, behind, done, word, number, text, State, next_place, ends}
 use Rattle.json_text.specs.declared.state.Stop.{Stop}
 use Rattle.json_text.specs.declared.state.Digits.{Digits}
 use Rattle.json_text.specs.declared.state.Digits.TheVariants.{Zero as NoDigit, One, Two, Three}

@@ -6,7 +6,7 @@ use Rattle.std.specs.Str.{IsUtf8}
 use Rattle.json_value.specs.declared.Json.{Json}
 use Rattle.json_value.specs.declared.Json.TheVariants.{Num}
 use Rattle.json_text.specs.Grammar.{FourDigits, Chars, close, plain as plain_of, short as short_of, code as code_of, pair as pair_of, Colon, colon_blank, colon_here, Value, blank, null, yes, no, number as number_of, string as string_of, list as list_of, map as map_of, Items, items_blank, items_none, items_some, MoreItems, more_items_blank, more_items_done, more_items_next, Pairs, pairs_blank, pairs_none, pairs_some, MorePairs, more_pairs_blank, more_pairs_done, more_pairs_next, Pair, pair_blank, pair_named, text_of}
-use Rattle.json_text.specs.Machine.{Part, plain, escape, code, high, slash, low, tail, Hand, value, first_item, first_name, next_name, colon, behind, done, word, number, text, State, start, run, at_last, at_last_in, numeral, ends}
+use Rattle.json_text.specs.State.Machine.{Part, plain, escape, code, high, slash, low, tail, Hand, value, first_item, first_name, next_name, colon, behind, done, word, number, text, State, start, run, at_last, at_last_in, numeral, ends}
 use Rattle.json_text.specs.declared.state.Digits.{Digits}
 use Rattle.json_text.specs.declared.state.Digits.TheVariants.{Zero as NoDigit, One, Two, Three}
 use Rattle.json_text.specs.declared.state.Place.{Place}

@@ -10,7 +10,7 @@ use Rattle.json_value.specs.declared.Json.{Json}
 use Rattle.json_value.specs.declared.Json.TheVariants.{Null, Num, Str, List as JsonOfList, Map as JsonOfMap}
 use Rattle.json_text.specs.Grammar.{IsDigit16, of_digits16, IsHigh, IsLow, joined, Chars, close, short as short_of, code as code_of, pair as pair_of, null as null_of, items_none, more_items_done, pairs_none, more_pairs_done, pair_named, colon_here}
 use Rattle.json_text.specs.Strings.{HasNoQuote}
-use Rattle.json_text.specs.Machine.{Part, plain, escape, code, high, slash, low, tail, Hand, value, first_item, first_name, next_name, colon, behind, done, word, number, text}
+use Rattle.json_text.specs.State.Machine.{Part, plain, escape, code, high, slash, low, tail, Hand, value, first_item, first_name, next_name, colon, behind, done, word, number, text}
 use Rattle.json_text.specs.declared.state.Digits.TheVariants.{Zero as NoDigit, One, Two, Three}
 use Rattle.json_text.specs.declared.state.Place.{Place}
 use Rattle.json_text.specs.declared.state.Place.TheVariants.{Minus, Nought, Whole, Point, Fraction, Exponent, Sign, Power}

@@ -8,8 +8,8 @@ use Rattle.json_text.specs.declared.state.Level.{Level}
 use Rattle.json_text.specs.Grammar.{IsLive, IsLiveWithin}
 use Rattle.json_text.specs.Strings.{BeginsUtf8, IsInString}
 use Rattle.json_text.specs.Faults.{IsDeadAt, BreaksUtf8, IsTooDeep, Names}
-use Rattle.json_text.specs.Machine.{Hand, value, first_item, first_name, next_name, colon, behind, done, word, number, text, State, state, start, step, run}
-use Rattle.json_text.specs.Runs.{StopsAt, named}
+use Rattle.json_text.specs.State.Machine.{Hand, value, first_item, first_name, next_name, colon, behind, done, word, number, text, State, state, start, step, run}
+use Rattle.json_text.specs.State.Runs.{StopsAt, named}
 use Rattle.json_text.specs.declared.state.Stop.{Stop}
 use Rattle.json_text.specs.declared.state.Stop.TheVariants.{Syntax, Utf8, Depth}
 use Rattle.json_text.proofs.RunLemmas.{run_then}

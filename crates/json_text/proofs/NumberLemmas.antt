@@ -4,7 +4,7 @@ use Rattle.std.proofs.lemmas.Bool.Decides.{nat_tests}
 use Rattle.std.specs.Prelude.{◌==◌}
 use Rattle.std.specs.Char.{is_ascii_digit}
 use Rattle.json_text.specs.Numeral.{AreDigits, SomeDigits, IsWhole, IsFraction, IsSigned, IsExponent, IsMinus, IsNumeral}
-use Rattle.json_text.specs.Machine.{next_place, behind_whole, ends}
+use Rattle.json_text.specs.State.Machine.{next_place, behind_whole, ends}
 use Rattle.json_text.specs.declared.state.Place.{Place}
 use Rattle.json_text.specs.declared.state.Place.TheVariants.{Minus, Nought, Whole, Point, Fraction, Exponent, Sign, Power}
 use Rattle.json_text.proofs.Basics.{is_byte, is_other, other_is}

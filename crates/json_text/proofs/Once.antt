@@ -5,7 +5,7 @@ use Rattle.json_value.specs.declared.Json.{Json}
 use Rattle.json_text.specs.Grammar.{text_of, IsLive, IsLiveWithin, IsTextWithin}
 use Rattle.json_text.specs.Strings.{IsInString}
 use Rattle.json_text.specs.Faults.{IsDeadAt, BreaksUtf8, IsTooDeep, IsFault}
-use Rattle.json_text.specs.Machine.{Hand, value, first_item, first_name, next_name, colon, behind, done, word, number, text, State, start, step, run, run_on, at_last}
+use Rattle.json_text.specs.State.Machine.{Hand, value, first_item, first_name, next_name, colon, behind, done, word, number, text, State, start, step, run, run_on, at_last}
 use Rattle.json_text.specs.declared.state.Level.{Level}
 use Rattle.json_text.specs.declared.state.Stop.{Stop}
 use Rattle.json_text.specs.declared.state.Stop.TheVariants as stops

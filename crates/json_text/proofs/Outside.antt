@@ -8,7 +8,7 @@ use Rattle.sequences.specs.Pairs.{merged}
 use Rattle.json_value.specs.declared.Json.{Json}
 use Rattle.json_value.specs.declared.Json.TheVariants.{Null, Bool as JsonOfBool, Num, List as JsonOfList, Map as JsonOfMap}
 use Rattle.json_text.specs.Grammar.{is_blank}
-use Rattle.json_text.specs.Machine.{plain, escape, code, high, slash, low, tail, Hand, value, first_item, first_name, next_name, colon, behind, done, word, number, text, State, state, placed, skipped, opened, begin, behind_in, at_end, behind_placed, name_begins, in_word, next_place, ends, number_goes, in_number, step}
+use Rattle.json_text.specs.State.Machine.{plain, escape, code, high, slash, low, tail, Hand, value, first_item, first_name, next_name, colon, behind, done, word, number, text, State, state, placed, skipped, opened, begin, behind_in, at_end, behind_placed, name_begins, in_word, next_place, ends, number_goes, in_number, step}
 use Rattle.json_text.specs.declared.state.Stop.{Stop}
 use Rattle.json_text.specs.declared.state.Stop.TheVariants.{Syntax, Utf8, Depth}
 use Rattle.json_text.specs.declared.state.Place.{Place}

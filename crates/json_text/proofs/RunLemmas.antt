@@ -5,7 +5,7 @@ use Rattle.std.proofs.lemmas.List.{take_more, take_all}
 use lib.Seq.{take-add}
 use Rattle.std.specs.Prelude.{◌==◌, nat_lt, true, false, drop}
 use Rattle.json_text.specs.Grammar.{is_blank, AreBlank}
-use Rattle.json_text.specs.Runs.{is_plain, ArePlain}
+use Rattle.json_text.specs.State.Runs.{is_plain, ArePlain}
 use Rattle.json_text.specs.Numeral.{AreDigits}
 use Rattle.std.specs.Char.{is_ascii_digit}
 use Rattle.json_text.specs.declared.state.Place.{Place}
@@ -14,7 +14,7 @@ use Rattle.json_text.specs.declared.state.Role.{Role}
 use Rattle.json_text.specs.declared.state.Level.{Level}
 use Rattle.json_text.proofs.Steps.{begin_blank, at_blank}
 use Rattle.json_text.specs.declared.state.Stop.{Stop}
-use Rattle.json_text.specs.Machine.{State, state, value, next_name, number, text, plain, name_next, next_place, number_goes, run, run_on, step}
+use Rattle.json_text.specs.State.Machine.{State, state, value, next_name, number, text, plain, name_next, next_place, number_goes, run, run_on, step}
 
 pub run_on-append : (limit : ℕ) (r : Result State Stop) (xs ys : List ℕ) → run_on limit r (xs ++ ys) ≡ run_on limit (run_on limit r xs) ys
 run_on-append limit (Err stop) xs ys = refl

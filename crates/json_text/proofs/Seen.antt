@@ -6,7 +6,7 @@ use lib.Utf8.{low_scalar}
 use Rattle.json_value.specs.declared.Json.{Json}
 use Rattle.json_text.specs.Grammar.{Chars, plain as plain_of, Value, IsTextWithin, IsLiveWithin}
 use Rattle.json_text.specs.Strings.{HasNoQuote}
-use Rattle.json_text.specs.Machine.{Part, Hand, value, first_item, first_name, next_name, colon, behind, done, word, number, text, State, state, start, step, run, run_on}
+use Rattle.json_text.specs.State.Machine.{Part, Hand, value, first_item, first_name, next_name, colon, behind, done, word, number, text, State, state, start, step, run, run_on}
 use Rattle.json_text.specs.declared.state.Stop.{Stop}
 use Rattle.json_text.specs.declared.state.Stop.TheVariants.{Syntax, Utf8, Depth}
 use Rattle.json_text.specs.declared.state.Role.{Role}

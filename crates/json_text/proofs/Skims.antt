@@ -2,10 +2,10 @@
 use Rattle.std.proofs.Common.{◌≡◌, ℕ, ◌≤◌, List, length, take, Result, Ok, Err, sym, ap, ◌∙◌, IfOk}
 use Rattle.std.specs.Prelude.{reverse}
 use Rattle.json_text.specs.Grammar.{AreBlank}
-use Rattle.json_text.specs.Machine.{state, run, value, next_name}
-use Rattle.json_text.specs.Runs.{Skims, ArePlain}
+use Rattle.json_text.specs.State.Machine.{state, run, value, next_name}
+use Rattle.json_text.specs.State.Runs.{Skims, ArePlain}
 use Rattle.json_text.specs.Numeral.{AreDigits}
-use Rattle.json_text.specs.Stands.{state_of, levels_of, open_in, hand_of, AddsText}
+use Rattle.json_text.specs.State.Stands.{state_of, levels_of, open_in, hand_of, AddsText}
 use Rattle.json_text.specs.declared.machine.Machine.{Machine}
 use Rattle.json_text.specs.declared.state.Role.{Role}
 use Rattle.json_text.specs.declared.state.Place.{Place}

@@ -9,7 +9,7 @@ use Rattle.sequences.specs.Pairs.{merged}
 use Rattle.json_value.specs.declared.Json.{Json}
 use Rattle.json_value.specs.declared.Json.TheVariants.{Null, Bool as JsonOfBool, Num, Str, List as JsonOfList, Map as JsonOfMap}
 use Rattle.json_text.specs.Grammar.{is_blank, Chars, Colon, colon_blank, colon_here, Value, blank, null, yes, no, number as number_of, string as string_of, list as list_of, map as map_of, Items, items_blank, items_none, items_some, MoreItems, more_items_blank, more_items_done, more_items_next, Pairs, pairs_blank, pairs_none, pairs_some, MorePairs, more_pairs_blank, more_pairs_done, more_pairs_next, Pair, pair_blank, pair_named}
-use Rattle.json_text.specs.Machine.{plain, Hand, value, first_item, first_name, next_name, colon, behind, done, word, number, text, State, state, placed, skipped, opened, begin, begin_word, begin_number, behind_in, at_end, behind_placed, item_first, name_begins, name_first, name_next, at_colon, in_word, next_place, ends, number_goes, in_number, step}
+use Rattle.json_text.specs.State.Machine.{plain, Hand, value, first_item, first_name, next_name, colon, behind, done, word, number, text, State, state, placed, skipped, opened, begin, begin_word, begin_number, behind_in, at_end, behind_placed, item_first, name_begins, name_first, name_next, at_colon, in_word, next_place, ends, number_goes, in_number, step}
 use Rattle.json_text.specs.declared.state.Stop.{Stop}
 use Rattle.json_text.specs.declared.state.Stop.TheVariants.{Syntax, Depth}
 use Rattle.json_text.specs.declared.state.Place.{Place}

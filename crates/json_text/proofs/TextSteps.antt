@@ -9,7 +9,7 @@ use Rattle.std.specs.Str.{IsUtf8, is_utf8}
 use lib.Utf8.{scalar, low_scalar, scalar_cases}
 use Rattle.json_value.specs.declared.Json.{Json}
 use Rattle.json_text.specs.Grammar.{escaped, IsDigit16, of_digits16, FourDigits, IsHigh, IsLow, joined, Chars, close, plain as plain_of, short as short_of, code as code_of, pair as pair_of}
-use Rattle.json_text.specs.Machine.{Part, plain, escape, code, high, slash, low, tail, text, state, tails, refused, refused_by, text_ends, text_goes, wide, in_plain, wanted, escape_goes, in_escape, paired, coded, digit_of_code, in_code, digit_of_low, in_low, behind_tail, in_tail, in_text}
+use Rattle.json_text.specs.State.Machine.{Part, plain, escape, code, high, slash, low, tail, text, state, tails, refused, refused_by, text_ends, text_goes, wide, in_plain, wanted, escape_goes, in_escape, paired, coded, digit_of_code, in_code, digit_of_low, in_low, behind_tail, in_tail, in_text}
 use Rattle.json_text.specs.declared.state.Stop.TheVariants.{Syntax, Utf8}
 use Rattle.json_text.specs.declared.state.Digits.{Digits}
 use Rattle.json_text.specs.declared.state.Digits.TheVariants.{Zero as NoDigit, One, Two, Three}

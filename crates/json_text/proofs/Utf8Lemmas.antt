@@ -5,7 +5,7 @@ use Rattle.std.specs.Prelude.{◌==◌, nat_lt}
 use Rattle.std.specs.Int.{is_in_range}
 use Rattle.std.specs.Char.{IsScalar, encode_utf8}
 use lib.Utf8.{next, encode, low_scalar, scalar_cases}
-use Rattle.json_text.specs.Machine.{tails}
+use Rattle.json_text.specs.State.Machine.{tails}
 use Rattle.json_text.proofs.Basics.{is_byte, is_other, other_is, is_below, is_least, below_is, least_is}
 
 pub order : (m n : ℕ) → (m < n) ⊎ (n ≤ m)

@@ -10,7 +10,7 @@ use lib.Utf8.{scalar, scalars, low_scalar}
 use Rattle.json_value.specs.declared.Json.{Json}
 use Rattle.json_value.specs.declared.Json.TheVariants.{Str}
 use Rattle.json_text.specs.Grammar.{escaped, of_digits16, joined}
-use Rattle.json_text.specs.Machine.{Part, plain, escape, code, high, slash, low, tail, Hand, value, first_item, first_name, next_name, colon, behind, done, word, number, text, State, state, placed, tails, refused, refused_by, text_ends, text_goes, wide, in_plain, wanted, escape_goes, in_escape, paired, coded, digit_of_code, in_code, digit_of_low, in_low, behind_tail, in_tail, in_text}
+use Rattle.json_text.specs.State.Machine.{Part, plain, escape, code, high, slash, low, tail, Hand, value, first_item, first_name, next_name, colon, behind, done, word, number, text, State, state, placed, tails, refused, refused_by, text_ends, text_goes, wide, in_plain, wanted, escape_goes, in_escape, paired, coded, digit_of_code, in_code, digit_of_low, in_low, behind_tail, in_tail, in_text}
 use Rattle.json_text.specs.declared.state.Stop.{Stop}
 use Rattle.json_text.specs.declared.state.Stop.TheVariants.{Syntax, Utf8, Depth}
 use Rattle.json_text.specs.declared.state.Digits.{Digits}

@@ -11,7 +11,7 @@ use Rattle.sequences.specs.Pairs.{merged}
 use Rattle.json_value.specs.declared.Json.{Json}
 use Rattle.json_value.specs.declared.Json.TheVariants.{Null, Bool as JsonOfBool, Num, Str, List as JsonOfList, Map as JsonOfMap}
 use Rattle.json_text.specs.Grammar.{is_blank, escaped, IsDigit16, of_digits16, IsHigh, joined}
-use Rattle.json_text.specs.Machine.{Part, plain, escape, code, high, slash, low, tail, Hand, value, first_item, first_name, next_name, colon, behind, done, word, number, text, State, state, placed, skipped, tails, refused, refused_by, opened, begin, behind_in, at_end, behind_placed, name_begins, in_word, next_place, ends, number_goes, in_number, text_ends, text_goes, wide, in_plain, wanted, escape_goes, in_escape, paired, coded, digit_of_code, in_code, digit_of_low, in_low, behind_tail, in_tail, in_text, step}
+use Rattle.json_text.specs.State.Machine.{Part, plain, escape, code, high, slash, low, tail, Hand, value, first_item, first_name, next_name, colon, behind, done, word, number, text, State, state, placed, skipped, tails, refused, refused_by, opened, begin, behind_in, at_end, behind_placed, name_begins, in_word, next_place, ends, number_goes, in_number, text_ends, text_goes, wide, in_plain, wanted, escape_goes, in_escape, paired, coded, digit_of_code, in_code, digit_of_low, in_low, behind_tail, in_tail, in_text, step}
 use Rattle.json_text.specs.declared.state.Stop.{Stop}
 use Rattle.json_text.specs.declared.state.Stop.TheVariants.{Syntax, Utf8, Depth}
 use Rattle.json_text.specs.declared.state.Digits.{Digits}

@@ -1,5 +1,6 @@
 -- The faults of a reader of JSON text.
 use Rattle.std.specs.Prelude.{◌≡◌, ℕ, ◌+◌, ◌<◌, ◌≤◌, ◌⊎◌, List, length, take}
+use Rattle.limits.specs.Limits.{most_bytes}
 use Rattle.json_value.specs.declared.Json.{Json}
 use Rattle.json_text.specs.Grammar.{IsLive, IsLiveWithin, text_of}
 use Rattle.json_text.specs.Strings.{BeginsUtf8, IsInString}
@@ -27,17 +28,21 @@ pub record BreaksGrammar (n : ℕ) (bytes : List ℕ) : Type 0 where
   pub utf8 : BreaksUtf8 n bytes → ⊥
   pub depth : IsTooDeep n bytes → ⊥
 
--- The fault is the one that the bytes have: the first dead byte and why it is dead, where that is among the first 33 554 432, and else that there are more.
+-- The fault is the one that the bytes have: the first dead byte and why it is dead, where that is
+-- among the first `most_bytes`, and else that there are more.
 abbrev pub Names : JsonFault → List ℕ → Type 0
-Names (Syntax n) bytes = BreaksGrammar n bytes × (n < 33_554_432)
-Names (Utf8 n) bytes = IsDeadAt n bytes × BreaksUtf8 n bytes × (n < 33_554_432)
-Names (Depth n) bytes = IsDeadAt n bytes × IsTooDeep n bytes × (n < 33_554_432)
-Names Large bytes = (33_554_432 < length bytes) × IsLive (take 33_554_432 bytes)
+Names (Syntax n) bytes = BreaksGrammar n bytes × (n < most_bytes)
+Names (Utf8 n) bytes = IsDeadAt n bytes × BreaksUtf8 n bytes × (n < most_bytes)
+Names (Depth n) bytes = IsDeadAt n bytes × IsTooDeep n bytes × (n < most_bytes)
+Names Large bytes = (most_bytes < length bytes) × IsLive (take most_bytes bytes)
 Names Memory bytes = Unit {0}
 
--- The fault of a whole file: its first dead byte and why it is dead; or that it ends too early; or that it is too long.
+-- The fault of a whole file: its first dead byte and why it is dead; or that it ends too early; or
+-- that it is too long.
 abbrev pub IsFault : JsonFault → List ℕ → Type 0
-IsFault (Syntax n) bytes = Names (Syntax n) bytes ⊎ ((n ≡ length bytes) × (length bytes ≤ 33_554_432) × IsLive bytes × ((value : Json) → text_of bytes value → ⊥))
+IsFault (Syntax n) bytes = Names (Syntax n) bytes
+    ⊎ ((n ≡ length bytes) × (length bytes ≤ most_bytes) × IsLive bytes
+    × ((value : Json) → text_of bytes value → ⊥))
 IsFault (Utf8 n) bytes = Names (Utf8 n) bytes
 IsFault (Depth n) bytes = Names (Depth n) bytes
 IsFault Large bytes = Names Large bytes

@@ -38,5 +38,6 @@ IsMinus minus = (minus ≡ []) ⊎ (minus ≡ 45 ∷ [])
 
 -- a numeral: a sign, an integer part, a fraction and an exponent
 abbrev pub IsNumeral : List ℕ → Type 0
-IsNumeral spelled = (minus : List ℕ) × (whole : List ℕ) × (fraction : List ℕ) × (exponent : List ℕ) × IsMinus minus × IsWhole whole × IsFraction fraction × IsExponent exponent
+IsNumeral spelled = (minus : List ℕ) × (whole : List ℕ) × (fraction : List ℕ) × (exponent : List ℕ)
+    × IsMinus minus × IsWhole whole × IsFraction fraction × IsExponent exponent
     × (spelled ≡ minus ++ (whole ++ (fraction ++ exponent)))

@@ -1,16 +1,17 @@
 -- What a reader of JSON text was fed.
 use Rattle.std.specs.Prelude.{◌≡◌, ℕ, ◌≤◌, List, Some, None, Ok, length}
+use Rattle.limits.specs.Limits.{most_bytes}
 use Rattle.json_text.specs.declared.faults.JsonFault.{JsonFault}
 use Rattle.json_text.specs.declared.reader.JsonReader.{JsonReader}
-use Rattle.json_text.specs.Machine.{start, run}
-use Rattle.json_text.specs.Stands.{state_of}
+use Rattle.json_text.specs.State.Machine.{start, run}
+use Rattle.json_text.specs.State.Stands.{state_of}
 
 -- The reader was fed these bytes, in whatever pieces, and met no fault.
 pub record HasRead (bytes : List ℕ) (reader : JsonReader) : Type 0 where
   pub ran : run 127 start bytes ≡ Ok (state_of reader.machine)
   pub sound : reader.fault ≡ None
   pub taken : length bytes ≡ reader.taken
-  pub few : length bytes ≤ 33_554_432
+  pub few : length bytes ≤ most_bytes
 
 -- The reader met this fault.
 abbrev pub HasFailed : JsonFault → JsonReader → Type 0

@@ -12,6 +12,7 @@ abbrev pub HasNoQuote : List ℕ → Type 0
 HasNoQuote [] = Unit {0}
 HasNoQuote (b ∷ bs) = (b ≢ 34) × HasNoQuote bs
 
--- The bytes end inside a string: without a quote, a `#` can be reached, which stands in strings alone.
+-- The bytes end inside a string: without a quote, a `#` can be reached, which stands in strings
+-- alone.
 abbrev pub IsInString : List ℕ → Type 0
 IsInString bytes = (on : List ℕ) × HasNoQuote on × IsLive (bytes ++ (on ++ (35 ∷ [])))

@@ -4,8 +4,8 @@ ghost use Rattle.std.specs.Prelude.{◌≡◌, ◌≤◌, ◌++◌, [], true, fa
 ghost use Rattle.std.specs.Char as chars;
 ghost use Rattle.std.specs.Str.{is_utf8, IsAscii};
 ghost use Rattle.json_text.specs.Grammar as grammar;
-ghost use Rattle.json_text.specs.Machine as spec;
-ghost use Rattle.json_text.specs.Runs.{is_plain};
+ghost use Rattle.json_text.specs.State.Machine as spec;
+ghost use Rattle.json_text.specs.State.Runs.{is_plain};
 
 use crate::state::Place;
 use sequences::Text;
@@ -72,7 +72,8 @@ pub(crate) fn digit_value(byte: u8) -> u8
     }
 }
 
-/// The ranges of the bytes behind the first byte of a character; none where no character of several bytes begins so.
+/// The ranges of the bytes behind the first byte of a character; none where no character of several
+/// bytes begins so.
 pub(crate) fn tails(byte: u8) -> &'static [(u8, u8)]
     ensures { result.now ≡ spec.tails byte }
 {
@@ -138,7 +139,8 @@ fn larger(one: u8, other: u8) -> u8
 
 /// The bytes as a text, where they are UTF-8. An error comes where memory runs out.
 pub(crate) fn text_from(alloc: Global, bytes: &[u8]) -> Result<Option<Text>, AllocError>
-    ensures { IfOk result (λ made. MatchOption made (is_utf8 bytes.now ≡ false) (λ text. (text ≡ bytes.now) × (is_utf8 bytes.now ≡ true))) }
+    ensures { IfOk result (λ made. MatchOption made (is_utf8 bytes.now ≡ false)
+        (λ text. (text ≡ bytes.now) × (is_utf8 bytes.now ≡ true))) }
 {
     if is_ascii(bytes) {
         let text = unsafe { std::str::from_utf8_unchecked(bytes) };

@@ -1,7 +1,8 @@
 //! The faults of a reader of JSON text.
 
-/// Why bytes are no text of JSON (RFC 8259) in UTF-8 of at most 127 levels and 33 554 432 bytes. An offset counts bytes from 0 and
-/// is that of the first byte after which no continuation is such a text.
+/// Why bytes are no text of JSON (RFC 8259) in UTF-8 of at most 127 levels and 33 554 432 bytes. An
+/// offset counts bytes from 0 and is that of the first byte after which no continuation is such a
+/// text.
 #[derive(Clone, Copy, Debug, PartialEq, Eq)]
 pub enum JsonFault {
     /// The byte at this offset breaks the grammar; or the bytes end here, and are no whole text.

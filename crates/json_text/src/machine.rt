@@ -1,7 +1,7 @@
 //! The steps of the machine that reads JSON text, but for those inside a string.
 
 ghost use Rattle.std.specs.Prelude.{◌≡◌, ◌++◌, ◌∷◌, [], List, ℕ, IfOk, OnOk, Some, None, length};
-ghost use Rattle.json_text.specs.Machine as spec;
+ghost use Rattle.json_text.specs.State.Machine as spec;
 
 use crate::bytes::{ends, is_blank, next_place, text_from};
 use crate::state::{Hand, Level, Part, Place, Role, Stop, Taken, Word};
@@ -31,7 +31,7 @@ pub(crate) struct Machine {
 }
 
 impl Machine {
-    ghost use Rattle.json_text.specs.Stands.{state_of, levels_of, hand_of, value_of, IsTaken};
+    ghost use Rattle.json_text.specs.State.Stands.{state_of, levels_of, hand_of, value_of, IsTaken};
 
     /// Where a text begins.
     pub(crate) fn new(alloc: Global) -> Machine
@@ -51,7 +51,9 @@ impl Machine {
 
     /// One step.
     pub(crate) fn step(&mut self, byte: u8) -> Result<Taken, AllocError>
-        ensures { IfOk result (λ taken. IsTaken taken (spec.step 127 (levels_of self.old) (state_of self.old).hand byte) (state_of self.new)) }
+        ensures { IfOk result (λ taken. IsTaken taken
+            (spec.step 127 (levels_of self.old) (state_of self.old).hand byte)
+            (state_of self.new)) }
     {
         match self.hand {
             Hand::Value => self.begin(Hand::Value, byte),
@@ -86,7 +88,9 @@ impl Machine {
 
     /// Opens a list or an object.
     fn open(&mut self, level: Level, hand: Hand) -> Result<Taken, AllocError>
-        ensures { IfOk result (λ taken. IsTaken taken (spec.opened 127 (levels_of self.old) level (hand_of hand self.old.text.items self.old.root)) (state_of self.new)) }
+        ensures { IfOk result (λ taken. IsTaken taken
+            (spec.opened 127 (levels_of self.old) level
+            (hand_of hand self.old.text.items self.old.root)) (state_of self.new)) }
     {
         if self.depth() >= LEVELS {
             return Ok(Taken::Stops(Stop::Depth));
@@ -100,7 +104,9 @@ impl Machine {
 
     /// Opens a list.
     fn open_list(&mut self) -> Result<Taken, AllocError>
-        ensures { IfOk result (λ taken. IsTaken taken (spec.opened 127 (levels_of self.old) (Level.List []) spec.first_item) (state_of self.new)) }
+        ensures { IfOk result (λ taken. IsTaken taken
+            (spec.opened 127 (levels_of self.old) (Level.List []) spec.first_item)
+            (state_of self.new)) }
     {
         let items = empty(self.alloc, self.lists.pop());
         self.open(Level::List(items), Hand::FirstItem)
@@ -108,7 +114,9 @@ impl Machine {
 
     /// Opens an object.
     fn open_map(&mut self) -> Result<Taken, AllocError>
-        ensures { IfOk result (λ taken. IsTaken taken (spec.opened 127 (levels_of self.old) (Level.Map [] []) spec.first_name) (state_of self.new)) }
+        ensures { IfOk result (λ taken. IsTaken taken
+            (spec.opened 127 (levels_of self.old) (Level.Map [] []) spec.first_name)
+            (state_of self.new)) }
     {
         let pairs = empty(self.alloc, self.maps.pop());
         self.open(Level::Map(pairs, no_name(self.alloc)), Hand::FirstName)
@@ -126,7 +134,9 @@ impl Machine {
 
     /// Takes the start of a value; at white space the hand becomes `stay`.
     fn begin(&mut self, stay: Hand, byte: u8) -> Result<Taken, AllocError>
-        ensures { IfOk result (λ taken. IsTaken taken (spec.begin 127 (levels_of self.old) (hand_of stay self.old.text.items self.old.root) byte) (state_of self.new)) }
+        ensures { IfOk result (λ taken. IsTaken taken
+            (spec.begin 127 (levels_of self.old)
+            (hand_of stay self.old.text.items self.old.root) byte) (state_of self.new)) }
     {
         match byte {
             b'"' => Ok(self.begin_text(Role::Content)),
@@ -144,7 +154,8 @@ impl Machine {
 
     /// Goes on with another hand.
     pub(crate) fn goes(&mut self, hand: Hand) -> Taken
-        ensures { IsTaken result (Ok (spec.state (levels_of self.old) (hand_of hand self.old.text.items self.old.root))) (state_of self.new) }
+        ensures { IsTaken result (Ok (spec.state (levels_of self.old)
+            (hand_of hand self.old.text.items self.old.root))) (state_of self.new) }
     {
         self.hand = hand;
         Taken::Goes
@@ -152,7 +163,8 @@ impl Machine {
 
     /// Takes white space and nothing else.
     fn skip(&mut self, stay: Hand, byte: u8) -> Taken
-        ensures { IsTaken result (spec.skipped (levels_of self.old) (hand_of stay self.old.text.items self.old.root) byte) (state_of self.new) }
+        ensures { IsTaken result (spec.skipped (levels_of self.old)
+            (hand_of stay self.old.text.items self.old.root) byte) (state_of self.new) }
     {
         if is_blank(byte) {
             self.goes(stay)
@@ -163,7 +175,8 @@ impl Machine {
 
     /// Begins a string.
     fn begin_text(&mut self, role: Role) -> Taken
-        ensures { IsTaken result (Ok (spec.state (levels_of self.old) (spec.text role [] spec.plain))) (state_of self.new) }
+        ensures { IsTaken result (Ok (spec.state (levels_of self.old)
+            (spec.text role [] spec.plain))) (state_of self.new) }
     {
         self.text.clear();
         self.goes(Hand::Text(role, Part::Plain))
@@ -171,7 +184,9 @@ impl Machine {
 
     /// Begins a numeral.
     fn begin_number(&mut self, byte: u8, place: Place) -> Result<Taken, AllocError>
-        ensures { IfOk result (λ taken. IsTaken taken (Ok (spec.state (levels_of self.old) (spec.number (byte ∷ []) place))) (state_of self.new)) }
+        ensures { IfOk result (λ taken. IsTaken taken
+            (Ok (spec.state (levels_of self.old) (spec.number (byte ∷ []) place)))
+            (state_of self.new)) }
     {
         self.text.clear();
         self.text.push(byte)?;
@@ -180,7 +195,8 @@ impl Machine {
 
     /// Takes the byte behind the bracket of a list.
     fn first_item(&mut self, byte: u8) -> Result<Taken, AllocError>
-        ensures { IfOk result (λ taken. IsTaken taken (spec.item_first 127 (levels_of self.old) byte) (state_of self.new)) }
+        ensures { IfOk result (λ taken. IsTaken taken
+            (spec.item_first 127 (levels_of self.old) byte) (state_of self.new)) }
     {
         match self.inner {
             Some(Level::List(_)) => {}
@@ -195,7 +211,8 @@ impl Machine {
 
     /// Ends the innermost list or object.
     fn close(&mut self) -> Result<Taken, AllocError>
-        ensures { IfOk result (λ taken. IsTaken taken (spec.closed (levels_of self.old)) (state_of self.new)) }
+        ensures { IfOk result (λ taken. IsTaken taken (spec.closed (levels_of self.old))
+            (state_of self.new)) }
     {
         let Some(level) = self.inner.take() else {
             return Ok(Taken::Stops(Stop::Syntax));
@@ -206,7 +223,8 @@ impl Machine {
         Ok(Taken::Goes)
     }
 
-    /// The value of a list or an object that ends. Its memory serves again where the value takes memory of its own.
+    /// The value of a list or an object that ends. Its memory serves again where the value takes
+    /// memory of its own.
     fn whole(&mut self, level: Level) -> Result<Json, AllocError>
         ensures value { IfOk result (λ value. value ≡ spec.whole level) }
         ensures levels { levels_of self.new ≡ levels_of self.old }
@@ -227,7 +245,8 @@ impl Machine {
 
     /// Takes the byte behind the brace of an object.
     fn first_name(&mut self, byte: u8) -> Result<Taken, AllocError>
-        ensures { IfOk result (λ taken. IsTaken taken (spec.name_first (levels_of self.old) byte) (state_of self.new)) }
+        ensures { IfOk result (λ taken. IsTaken taken (spec.name_first (levels_of self.old) byte)
+            (state_of self.new)) }
     {
         match self.inner {
             Some(Level::Map(_, _)) => {}
@@ -242,14 +261,16 @@ impl Machine {
 
     /// Takes the byte behind a comma of an object.
     fn next_name(&mut self, byte: u8) -> Result<Taken, AllocError>
-        ensures { IfOk result (λ taken. IsTaken taken (spec.name_next (levels_of self.old) byte) (state_of self.new)) }
+        ensures { IfOk result (λ taken. IsTaken taken (spec.name_next (levels_of self.old) byte)
+            (state_of self.new)) }
     {
         Ok(self.name(Hand::NextName, byte))
     }
 
     /// Takes the start of a name; at white space the hand becomes `stay`.
     fn name(&mut self, stay: Hand, byte: u8) -> Taken
-        ensures { IsTaken result (spec.name_begins (levels_of self.old) (hand_of stay self.old.text.items self.old.root) byte) (state_of self.new) }
+        ensures { IsTaken result (spec.name_begins (levels_of self.old)
+            (hand_of stay self.old.text.items self.old.root) byte) (state_of self.new) }
     {
         if byte == b'"' {
             self.begin_text(Role::Name)
@@ -271,7 +292,8 @@ impl Machine {
 
     /// Takes the byte behind a value of a list or an object.
     fn behind(&mut self, byte: u8) -> Result<Taken, AllocError>
-        ensures { IfOk result (λ taken. IsTaken taken (spec.behind_in (levels_of self.old) byte) (state_of self.new)) }
+        ensures { IfOk result (λ taken. IsTaken taken (spec.behind_in (levels_of self.old) byte)
+            (state_of self.new)) }
     {
         let (next, end) = match self.inner {
             None => return Ok(Taken::Stops(Stop::Syntax)),
@@ -289,7 +311,8 @@ impl Machine {
 
     /// Takes the byte behind the whole value.
     fn done(&mut self, byte: u8) -> Taken
-        ensures { IsTaken result (spec.at_end (levels_of self.old) self.old.root byte) (state_of self.new) }
+        ensures { IsTaken result (spec.at_end (levels_of self.old) self.old.root byte)
+            (state_of self.new) }
     {
         match self.inner {
             None => self.skip(Hand::Done, byte),
@@ -299,7 +322,8 @@ impl Machine {
 
     /// Takes a byte of a word.
     fn in_word(&mut self, word: Word, left: &'static [u8], byte: u8) -> Result<Taken, AllocError>
-        ensures { IfOk result (λ taken. IsTaken taken (spec.in_word (levels_of self.old) (value_of word) left.now byte) (state_of self.new)) }
+        ensures { IfOk result (λ taken. IsTaken taken
+            (spec.in_word (levels_of self.old) (value_of word) left.now byte) (state_of self.new)) }
     {
         let Some((first, rest)) = left.split_first() else {
             return Ok(Taken::Stops(Stop::Syntax));
@@ -317,7 +341,9 @@ impl Machine {
 
     /// Takes a byte in or behind a numeral.
     fn in_number(&mut self, place: Place, byte: u8) -> Result<Taken, AllocError>
-        ensures { IfOk result (λ taken. IsTaken taken (spec.in_number (levels_of self.old) self.old.text.items place byte) (state_of self.new)) }
+        ensures { IfOk result (λ taken. IsTaken taken
+            (spec.in_number (levels_of self.old) self.old.text.items place byte)
+            (state_of self.new)) }
     {
         match next_place(place, byte) {
             Some(next) => {
@@ -330,7 +356,9 @@ impl Machine {
 
     /// Takes the byte behind a numeral.
     fn end_number(&mut self, place: Place, byte: u8) -> Result<Taken, AllocError>
-        ensures { IfOk result (λ taken. IsTaken taken (spec.number_ends (levels_of self.old) self.old.text.items place byte) (state_of self.new)) }
+        ensures { IfOk result (λ taken. IsTaken taken
+            (spec.number_ends (levels_of self.old) self.old.text.items place byte)
+            (state_of self.new)) }
     {
         if !ends(place) {
             return Ok(Taken::Stops(Stop::Syntax));
@@ -344,7 +372,8 @@ impl Machine {
 
     /// Takes the byte behind a value that was just put where it belongs.
     fn follow(&mut self, byte: u8) -> Result<Taken, AllocError>
-        ensures { IfOk result (λ taken. IsTaken taken (spec.follow (levels_of self.old) (state_of self.old).hand byte) (state_of self.new)) }
+        ensures { IfOk result (λ taken. IsTaken taken
+            (spec.follow (levels_of self.old) (state_of self.old).hand byte) (state_of self.new)) }
     {
         match self.hand {
             Hand::Behind => self.behind(byte),
@@ -383,7 +412,7 @@ fn no_name(alloc: Global) -> Text
 }
 
 impl Word {
-    ghost use Rattle.json_text.specs.Stands.{value_of};
+    ghost use Rattle.json_text.specs.State.Stands.{value_of};
 
     /// The value that the word stands for.
     fn value(self) -> Json

@@ -1,28 +1,28 @@
 //! The reader of JSON text.
 
 ghost use Rattle.std.specs.Prelude.{◌≡◌, ◌++◌, ◌<◌, ◌≤◌, [], List, ℕ, IfOk, IfErr, OnOk, Err, None, Some, length};
-ghost use Rattle.json_text.specs.Runs.{named};
+ghost use Rattle.limits.specs.Limits.{most_bytes};
+ghost use Rattle.json_text.specs.State.Runs.{named};
 
 use crate::bytes::before;
 use crate::faults::JsonFault;
 use crate::machine::Machine;
 use crate::state::{Ran, Stop};
 use json_value::Json;
+use limits::MOST_BYTES;
 use std::alloc::Global;
-
-/// How many bytes a text may have.
-const LIMIT: u64 = 33_554_432;
 
 /// A reader of one text of JSON (RFC 8259), in UTF-8, that takes it in pieces of any size.
 ///
-/// A text has at most 127 levels of lists and objects and at most 33 554 432 bytes. A numeral stands for its spelling. A later member of
-/// a name replaces the value of the first one, in the first one's place. An escape that names half of a character needs the other half.
+/// A text has at most 127 levels of lists and objects and at most 33 554 432 bytes. A numeral
+/// stands for its spelling. A later member of a name replaces the value of the first one, in the
+/// first one's place. An escape that names half of a character needs the other half.
 #[derive(Drop)]
 pub struct JsonReader {
     machine: Machine,
     taken: u64,
     fault: Option<JsonFault>,
-    ghost within: { taken ≤ 33_554_432 },
+    ghost within: { taken ≤ most_bytes },
 }
 
 impl JsonReader {
@@ -41,12 +41,15 @@ impl JsonReader {
         }
     }
 
-    /// Reads the next bytes. The answer is the first fault that all bytes so far have, if they have one; any later call answers that
-    /// fault again, want of memory included.
+    /// Reads the next bytes. The answer is the first fault that all bytes so far have, if they have
+    /// one; any later call answers that fault again, want of memory included.
     pub fn feed(&mut self, piece: &[u8]) -> Result<(), JsonFault>
-        ensures read { OnOk result ((bytes : List ℕ) → HasRead bytes self.old → HasRead (bytes ++ piece.now) self.new) }
-        ensures live { OnOk result ((bytes : List ℕ) → HasRead bytes self.old → IsLive (bytes ++ piece.now) × (length (bytes ++ piece.now) ≤ 33_554_432)) }
-        ensures fault { IfErr result (λ fault. (bytes : List ℕ) → HasRead bytes self.old → Names fault (bytes ++ piece.now)) }
+        ensures read { OnOk result ((bytes : List ℕ) → HasRead bytes self.old →
+            HasRead (bytes ++ piece.now) self.new) }
+        ensures live { OnOk result ((bytes : List ℕ) → HasRead bytes self.old →
+            IsLive (bytes ++ piece.now) × (length (bytes ++ piece.now) ≤ most_bytes)) }
+        ensures fault { IfErr result (λ fault. (bytes : List ℕ) → HasRead bytes self.old →
+            Names fault (bytes ++ piece.now)) }
         ensures failed { IfErr result (λ fault. HasFailed fault self.new) }
         ensures again { (fault : JsonFault) → HasFailed fault self.old → result ≡ Err fault }
     {
@@ -64,11 +67,14 @@ impl JsonReader {
 
     /// Reads the next bytes where no fault came before.
     fn take(&mut self, piece: &[u8]) -> Result<(), JsonFault>
-        ensures read { OnOk result ((bytes : List ℕ) → HasRead bytes self.old → HasRead (bytes ++ piece.now) self.new) }
-        ensures live { OnOk result ((bytes : List ℕ) → HasRead bytes self.old → IsLive (bytes ++ piece.now) × (length (bytes ++ piece.now) ≤ 33_554_432)) }
-        ensures fault { IfErr result (λ fault. (bytes : List ℕ) → HasRead bytes self.old → Names fault (bytes ++ piece.now)) }
+        ensures read { OnOk result ((bytes : List ℕ) → HasRead bytes self.old →
+            HasRead (bytes ++ piece.now) self.new) }
+        ensures live { OnOk result ((bytes : List ℕ) → HasRead bytes self.old →
+            IsLive (bytes ++ piece.now) × (length (bytes ++ piece.now) ≤ most_bytes)) }
+        ensures fault { IfErr result (λ fault. (bytes : List ℕ) → HasRead bytes self.old →
+            Names fault (bytes ++ piece.now)) }
     {
-        let room = (LIMIT - self.taken) as usize;
+        let room = (MOST_BYTES - self.taken) as usize;
         let within = before(piece, room);
         match self.machine.run(within) {
             Ok(Ran::All) => {}
@@ -84,9 +90,13 @@ impl JsonReader {
 
     /// The value of the text that was read. It takes no memory.
     pub fn finish(self) -> Result<Json, JsonFault>
-        ensures text { IfOk result (λ value. (bytes : List ℕ) → HasRead bytes self → text_of bytes value) }
-        ensures only { IfOk result (λ value. (bytes : List ℕ) → HasRead bytes self → (other : Json) → text_of bytes other → other ≡ value) }
-        ensures fault { IfErr result (λ fault. (bytes : List ℕ) → HasRead bytes self → (fault ≡ JsonFault.Syntax (length bytes)) × ((value : Json) → text_of bytes value → ⊥)) }
+        ensures text { IfOk result (λ value. (bytes : List ℕ) → HasRead bytes self →
+            text_of bytes value) }
+        ensures only { IfOk result (λ value. (bytes : List ℕ) → HasRead bytes self →
+            (other : Json) → text_of bytes other → other ≡ value) }
+        ensures fault { IfErr result (λ fault. (bytes : List ℕ) → HasRead bytes self →
+            (fault ≡ JsonFault.Syntax (length bytes)) ×
+            ((value : Json) → text_of bytes value → ⊥)) }
         ensures again { (fault : JsonFault) → HasFailed fault self → result ≡ Err fault }
     {
         let JsonReader {

@@ -1,12 +1,12 @@
 //! Steps of the machine that reads JSON text, over many bytes.
 
 ghost use Rattle.std.specs.Prelude.{◌≡◌, ◌≤◌, IfOk, MatchOption, length, take, drop};
-ghost use Rattle.json_text.specs.Stands.{state_of};
-ghost use Rattle.json_text.specs.Machine as spec;
+ghost use Rattle.json_text.specs.State.Stands.{state_of};
+ghost use Rattle.json_text.specs.State.Machine as spec;
 ghost use Rattle.json_text.specs.Grammar.{AreBlank};
 ghost use Rattle.json_text.specs.Numeral.{AreDigits};
-ghost use Rattle.json_text.specs.Runs.{IsRan, Skims, ArePlain};
-ghost use Rattle.json_text.specs.Stands.{AddsText};
+ghost use Rattle.json_text.specs.State.Runs.{IsRan, Skims, ArePlain};
+ghost use Rattle.json_text.specs.State.Stands.{AddsText};
 
 use crate::bytes::{after, before, ends, is_blank, is_plain};
 use crate::machine::Machine;
@@ -32,9 +32,11 @@ impl Machine {
         Ok(Ran::All)
     }
 
-    /// Takes the bytes that leave the machine where it is, as those of a string, digits and white space, and says how many they are.
+    /// Takes the bytes that leave the machine where it is, as those of a string, digits and white
+    /// space, and says how many they are.
     fn skim(&mut self, bytes: &[u8]) -> Result<usize, AllocError>
-        ensures { IfOk result (λ count. Skims count (state_of self.old) bytes.now (state_of self.new)) }
+        ensures { IfOk result (λ count. Skims count (state_of self.old) bytes.now
+            (state_of self.new)) }
     {
         match self.hand {
             Hand::Text(_, part) => match part {

@@ -82,7 +82,8 @@ pub(crate) enum Hand {
     Text(Role, Part),
 }
 
-/// A list or an object that isn't closed yet, with what it holds so far; of an object also the name whose value is to come.
+/// A list or an object that isn't closed yet, with what it holds so far; of an object also the name
+/// whose value is to come.
 #[derive(Debug, Drop)]
 pub(crate) enum Level {
     List(JsonList),

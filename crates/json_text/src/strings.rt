@@ -1,9 +1,9 @@
 //! The steps of the machine that reads JSON text inside a string.
 
 ghost use Rattle.std.specs.Prelude.{◌≡◌, ◌≤◌, ◌++◌, ◌∷◌, [], List, ℕ, IfOk, OnOk, Some, None};
-ghost use Rattle.json_text.specs.Machine as spec;
+ghost use Rattle.json_text.specs.State.Machine as spec;
 ghost use Rattle.json_text.specs.Grammar as grammar;
-ghost use Rattle.json_text.specs.Stands.{state_of, levels_of, hand_of, part_of, IsTaken};
+ghost use Rattle.json_text.specs.State.Stands.{state_of, levels_of, hand_of, part_of, IsTaken};
 
 use crate::bytes::{digit_value, escaped, push_char, tails, text_from};
 use crate::machine::Machine;
@@ -15,7 +15,9 @@ use std::alloc::AllocError;
 impl Machine {
     /// Takes a byte of a string.
     pub(crate) fn in_text(&mut self, role: Role, part: Part, byte: u8) -> Result<Taken, AllocError>
-        ensures { IfOk result (λ taken. IsTaken taken (spec.in_text (levels_of self.old) role self.old.text.items (part_of part) byte) (state_of self.new)) }
+        ensures { IfOk result (λ taken. IsTaken taken
+            (spec.in_text (levels_of self.old) role self.old.text.items (part_of part) byte)
+            (state_of self.new)) }
     {
         match part {
             Part::Plain => self.in_plain(role, byte),
@@ -34,14 +36,17 @@ impl Machine {
 
     /// Goes on in the string.
     fn text_goes(&mut self, role: Role, part: Part) -> Taken
-        ensures { IsTaken result (spec.text_goes (levels_of self.old) role self.old.text.items (part_of part)) (state_of self.new) }
+        ensures { IsTaken result (spec.text_goes (levels_of self.old) role self.old.text.items
+            (part_of part)) (state_of self.new) }
     {
         self.goes(Hand::Text(role, part))
     }
 
     /// Goes on in the string behind one more byte.
     fn text_adds(&mut self, role: Role, byte: u8, part: Part) -> Result<Taken, AllocError>
-        ensures { IfOk result (λ taken. IsTaken taken (spec.text_goes (levels_of self.old) role (self.old.text.items ++ (byte ∷ [])) (part_of part)) (state_of self.new)) }
+        ensures { IfOk result (λ taken. IsTaken taken
+            (spec.text_goes (levels_of self.old) role (self.old.text.items ++ (byte ∷ []))
+            (part_of part)) (state_of self.new)) }
     {
         self.text.push(byte)?;
         Ok(self.text_goes(role, part))
@@ -49,7 +54,9 @@ impl Machine {
 
     /// Takes a byte between characters.
     fn in_plain(&mut self, role: Role, byte: u8) -> Result<Taken, AllocError>
-        ensures { IfOk result (λ taken. IsTaken taken (spec.in_plain (levels_of self.old) role self.old.text.items byte) (state_of self.new)) }
+        ensures { IfOk result (λ taken. IsTaken taken
+            (spec.in_plain (levels_of self.old) role self.old.text.items byte)
+            (state_of self.new)) }
     {
         match byte {
             b'"' => self.end_text(role),
@@ -62,7 +69,9 @@ impl Machine {
 
     /// Takes the first byte of a character of several bytes.
     fn begin_tail(&mut self, role: Role, byte: u8) -> Result<Taken, AllocError>
-        ensures { IfOk result (λ taken. IsTaken taken (spec.wide (levels_of self.old) role (self.old.text.items ++ (byte ∷ [])) (spec.tails byte)) (state_of self.new)) }
+        ensures { IfOk result (λ taken. IsTaken taken
+            (spec.wide (levels_of self.old) role (self.old.text.items ++ (byte ∷ []))
+            (spec.tails byte)) (state_of self.new)) }
     {
         let ranges = tails(byte);
         if ranges.is_empty() {
@@ -78,7 +87,9 @@ impl Machine {
         ranges: &'static [(u8, u8)],
         byte: u8,
     ) -> Result<Taken, AllocError>
-        ensures { IfOk result (λ taken. IsTaken taken (spec.in_tail (levels_of self.old) role self.old.text.items ranges.now byte) (state_of self.new)) }
+        ensures { IfOk result (λ taken. IsTaken taken
+            (spec.in_tail (levels_of self.old) role self.old.text.items ranges.now byte)
+            (state_of self.new)) }
     {
         let Some((first, rest)) = ranges.split_first() else {
             return Ok(Taken::Stops(Stop::Utf8));
@@ -95,7 +106,8 @@ impl Machine {
 
     /// Ends a string.
     fn end_text(&mut self, role: Role) -> Result<Taken, AllocError>
-        ensures { IfOk result (λ taken. IsTaken taken (spec.text_ends (levels_of self.old) role self.old.text.items) (state_of self.new)) }
+        ensures { IfOk result (λ taken. IsTaken taken
+            (spec.text_ends (levels_of self.old) role self.old.text.items) (state_of self.new)) }
     {
         match role {
             Role::Content => self.end_content(),
@@ -105,7 +117,9 @@ impl Machine {
 
     /// Ends a string that is a value.
     fn end_content(&mut self) -> Result<Taken, AllocError>
-        ensures { IfOk result (λ taken. IsTaken taken (spec.text_ends (levels_of self.old) Role.Content self.old.text.items) (state_of self.new)) }
+        ensures { IfOk result (λ taken. IsTaken taken
+            (spec.text_ends (levels_of self.old) Role.Content self.old.text.items)
+            (state_of self.new)) }
     {
         let Some(text) = text_from(self.alloc, self.text.as_slice())? else {
             return Ok(Taken::Stops(Stop::Utf8));
@@ -116,7 +130,9 @@ impl Machine {
 
     /// Ends a string that is a name.
     fn end_name(&mut self) -> Result<Taken, AllocError>
-        ensures { IfOk result (λ taken. IsTaken taken (spec.text_ends (levels_of self.old) Role.Name self.old.text.items) (state_of self.new)) }
+        ensures { IfOk result (λ taken. IsTaken taken
+            (spec.text_ends (levels_of self.old) Role.Name self.old.text.items)
+            (state_of self.new)) }
     {
         match self.inner {
             Some(Level::Map(_, _)) => {}
@@ -141,7 +157,8 @@ impl Machine {
 
     /// Takes the byte that an escape wants.
     fn wants(&mut self, wanted: u8, hand: Hand, byte: u8) -> Taken
-        ensures { IsTaken result (spec.wanted (levels_of self.old) wanted (hand_of hand self.old.text.items self.old.root) byte) (state_of self.new) }
+        ensures { IsTaken result (spec.wanted (levels_of self.old) wanted
+            (hand_of hand self.old.text.items self.old.root) byte) (state_of self.new) }
     {
         if byte == wanted {
             self.goes(hand)
@@ -152,7 +169,9 @@ impl Machine {
 
     /// Takes the byte behind a backslash.
     fn in_escape(&mut self, role: Role, byte: u8) -> Result<Taken, AllocError>
-        ensures { IfOk result (λ taken. IsTaken taken (spec.in_escape (levels_of self.old) role self.old.text.items byte) (state_of self.new)) }
+        ensures { IfOk result (λ taken. IsTaken taken
+            (spec.in_escape (levels_of self.old) role self.old.text.items byte)
+            (state_of self.new)) }
     {
         match escaped(byte) {
             Some(character) => self.text_adds(role, character, Part::Plain),
@@ -162,7 +181,9 @@ impl Machine {
 
     /// Takes a digit of an escape.
     fn in_code(&mut self, role: Role, digits: Digits, byte: u8) -> Result<Taken, AllocError>
-        ensures { IfOk result (λ taken. IsTaken taken (spec.in_code (levels_of self.old) role self.old.text.items digits byte) (state_of self.new)) }
+        ensures { IfOk result (λ taken. IsTaken taken
+            (spec.in_code (levels_of self.old) role self.old.text.items digits byte)
+            (state_of self.new)) }
     {
         let digit = digit_value(byte);
         if digit >= 16 {
@@ -178,7 +199,8 @@ impl Machine {
 
     /// Takes the second digit of an escape; the first half of a character stands first.
     fn second_digit(&mut self, role: Role, first: u8, byte: u8) -> Taken
-        ensures { IsTaken result (spec.digit_of_code (levels_of self.old) role self.old.text.items (Digits.One first) byte) (state_of self.new) }
+        ensures { IsTaken result (spec.digit_of_code (levels_of self.old) role self.old.text.items
+            (Digits.One first) byte) (state_of self.new) }
     {
         if digit_value(first) == 13 && digit_value(byte) > 11 {
             Taken::Stops(Stop::Syntax)
@@ -189,7 +211,8 @@ impl Machine {
 
     /// Takes the character that an escape names, or the first half of one.
     fn coded(&mut self, role: Role, code: u32) -> Result<Taken, AllocError>
-        ensures { IfOk result (λ taken. IsTaken taken (spec.coded (levels_of self.old) role self.old.text.items code) (state_of self.new)) }
+        ensures { IfOk result (λ taken. IsTaken taken
+            (spec.coded (levels_of self.old) role self.old.text.items code) (state_of self.new)) }
     {
         if code >= 0xD800 && code <= 0xDBFF {
             return Ok(self.text_goes(role, Part::High(code as u16)));
@@ -199,7 +222,8 @@ impl Machine {
 
     /// Takes the character of that code.
     fn paired(&mut self, role: Role, code: u32) -> Result<Taken, AllocError>
-        ensures { IfOk result (λ taken. IsTaken taken (spec.paired (levels_of self.old) role self.old.text.items code) (state_of self.new)) }
+        ensures { IfOk result (λ taken. IsTaken taken
+            (spec.paired (levels_of self.old) role self.old.text.items code) (state_of self.new)) }
     {
         match char::from_u32(code) {
             Some(character) => {
@@ -218,7 +242,9 @@ impl Machine {
         digits: Digits,
         byte: u8,
     ) -> Result<Taken, AllocError>
-        ensures { IfOk result (λ taken. IsTaken taken (spec.in_low (levels_of self.old) role self.old.text.items high digits byte) (state_of self.new)) }
+        ensures { IfOk result (λ taken. IsTaken taken
+            (spec.in_low (levels_of self.old) role self.old.text.items high digits byte)
+            (state_of self.new)) }
     {
         let digit = digit_value(byte);
         if digit >= 16 {

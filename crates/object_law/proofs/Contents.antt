@@ -17,7 +17,7 @@ use Rattle.otio_model.specs.declared.marks.Marker.{Marker}
 use Rattle.otio_model.specs.declared.marks.Marker.TheVariants as K
 use Rattle.otio_model.specs.declared.sources.Media.{Media}
 use Rattle.otio_model.specs.declared.sources.Media.TheVariants as M
-use Rattle.otio_model.specs.Trees.{listed, items_of}
+use Rattle.otio_model.specs.Trees.{listed, items_of, is_transition}
 use Rattle.schema_rows.specs.Rows as R
 use Rattle.schema_rows.specs.Rows.{Row, RowKind}
 use Rattle.schema_rows.specs.declared.schemas.Schema.{Schema}
@@ -29,7 +29,8 @@ use Rattle.schema_rows.specs.declared.values.Value.TheVariants as V
 use Rattle.schema_rows.specs.Schemas.{rows_of, IsForeign}
 use Rattle.schema_rows.specs.Readings.{Reading, known, kept, plain_schema, stack_fields, item_fields, object_layer, object_fields, effect_reading, marker_reading, medium_reading, missing_fields}
 use Rattle.schema_rows.specs.Defaults.{default_of, absent_value, is_speed, empty_tracks, empty_missing}
-use Rattle.schema_rows.specs.Families.{Want, child, member, medium, others, is_transition, side_by_side, is_negative, breaks, stilled, is_freeze}
+use Rattle.otio_model.specs.Misplaced.{side_by_side, is_negative}
+use Rattle.schema_rows.specs.Families.{Want, child, member, medium, others, breaks, stilled, is_freeze}
 use Rattle.schema_rows.specs.Stands as W
 use Rattle.schema_rows.specs.Stands.{Gives, Gives_row, Gives_rows, Gives_fields, Gives_reading, Gives_all, Stands}
 use Rattle.schema_write.specs.Tables.{reading_json}

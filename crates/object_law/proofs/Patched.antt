@@ -11,9 +11,9 @@ use Rattle.otio_model.specs.declared.patches.Patch.{Patch}
 use Rattle.otio_model.specs.declared.timelines.Timeline.{Timeline}
 use Rattle.otio_model.specs.Edits.{deeper, changed, list_at, with_at, replaced, IsTrack, LeadsToTrack}
 use Rattle.otio_model.specs.Patches.{target, IsFit, with_list, applied}
-use Rattle.otio_model.specs.Trees.{listed, items_of, children_of, below}
+use Rattle.otio_model.specs.Trees.{listed, items_of, children_of, below, is_transition}
 use Rattle.otio_model.proofs.Views.{items-listed}
-use Rattle.schema_rows.specs.Families.{is_transition, side_by_side}
+use Rattle.otio_model.specs.Misplaced.{side_by_side}
 use Rattle.object_law.specs.Writable as Q
 use Rattle.object_law.specs.Writable.{IsClip, IsGap, IsTransition, IsItem, IsStack, AreItems, IsTimeline}
 

@@ -26,7 +26,7 @@ use Rattle.otio_model.specs.declared.marks.Marker.{Marker}
 use Rattle.otio_model.specs.declared.marks.Marker.TheVariants as K
 use Rattle.otio_model.specs.declared.sources.Media.{Media}
 use Rattle.otio_model.specs.declared.sources.Media.TheVariants as M
-use Rattle.otio_model.specs.Trees.{items_of}
+use Rattle.otio_model.specs.Trees.{items_of, is_transition}
 use Rattle.schema_rows.specs.Rows as R
 use Rattle.schema_rows.specs.Rows.{Row}
 use Rattle.schema_rows.specs.declared.schemas.Schema.{Schema}
@@ -35,10 +35,10 @@ use Rattle.schema_rows.specs.declared.schemas.TheConstants as C
 use Rattle.schema_rows.specs.declared.values.Value.TheVariants as V
 use Rattle.schema_rows.specs.Schemas.{named, name_of}
 use Rattle.schema_rows.specs.Readings.{known, kept, plain_schema, clip_fields, gap_fields, transition_fields, stack_fields, track_fields, item_fields, timeline_fields, collection_fields, object_layer, object_fields, warp_fields, freeze_fields, plain_fields, effect_reading, mark_fields, marker_reading, external_fields, missing_fields, generator_fields, images_fields, medium_reading}
-use Rattle.schema_rows.specs.Families.{child, member, medium, is_transition, side_by_side, is_negative}
+use Rattle.otio_model.specs.Misplaced.{side_by_side, is_negative}
+use Rattle.schema_rows.specs.Families.{child, member, medium}
 use Rattle.schema_rows.specs.Stands as W
 use Rattle.schema_rows.specs.Stands.{Gives, Gives_fields, Gives_reading, Gives_all, Stands}
-use Rattle.schema_write.specs.Objects as O
 use Rattle.schema_write.specs.Objects.{span_json, offset_json, range_json, time_json, effect_json, effects_json, marker_json, markers_json, medium_json, medium_pair, media_json, clip_json, gap_json, transition_json, stack_by, track_by, children_json, item_json, json_of}
 use Rattle.schema_write.specs.Tables.{fields_json}
 use Rattle.schema_write.specs.Texts.{decimal_text}
@@ -72,7 +72,7 @@ still_held row default n k e =
     subst (λ (m : ℤ). Holds row (J.Num (codes "0.0")) (V.Number m)) (sym e) zero
 
 plain_given : (timed : Bool) (metadata rest : List (List ℕ × Json)) (name effect_name : List ℕ) → AreOthers (plain_schema timed) rest
-    → Gives_fields C.EFFECTS (written (O.plain_schema timed) (J.Map metadata ∷ J.Str name ∷ J.Str effect_name ∷ []) rest)
+    → Gives_fields C.EFFECTS (written (plain_schema timed) (J.Map metadata ∷ J.Str name ∷ J.Str effect_name ∷ []) rest)
     (record { schema = plain_schema timed; values = V.Meta metadata ∷ V.Text name ∷ V.Text effect_name ∷ []; rest = rest })
 plain_given true metadata rest name effect_name o =
     written_stands C.EFFECTS S.TimeEffect (J.Map metadata ∷ J.Str name ∷ J.Str effect_name ∷ []) (V.Meta metadata ∷ V.Text name ∷ V.Text effect_name ∷ []) rest refl

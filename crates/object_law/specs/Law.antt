@@ -8,14 +8,15 @@ use Rattle.otio_model.specs.declared.timelines.Timeline.{Timeline}
 use Rattle.otio_model.specs.Edits.{replaced}
 use Rattle.otio_model.specs.Patches.{target, IsFit, applied}
 use Rattle.otio_model.specs.Trees.{items_of}
-use Rattle.schema_rows.specs.Families.{side_by_side}
+use Rattle.otio_model.specs.Misplaced.{side_by_side}
 use Rattle.schema_rows.specs.Stands.{Stands}
 use Rattle.schema_write.specs.Objects.{json_of}
 use Rattle.object_law.specs.Writable.{AreItems, IsTimeline, IsObject}
 
 -- what is written of an object that some JSON value stands for stands for it too
 abbrev pub WrittenIsRead : Type 0
-WrittenIsRead = (json : Json) (object : Object) → Stands json object → Stands (json_of object) object
+WrittenIsRead = (json : Json) (object : Object) → Stands json object
+    → Stands (json_of object) object
 
 -- what is written of a writable object stands for it
 abbrev pub WritableIsRead : Type 0
@@ -25,7 +26,9 @@ WritableIsRead = (object : Object) → IsObject object → Stands (json_of objec
 abbrev pub ReadIsWritable : Type 0
 ReadIsWritable = (json : Json) (object : Object) → Stands json object → IsObject object
 
--- a writable timeline is writable after a patch of writable items that leaves no two transitions side by side where it puts them
+-- a writable timeline is writable after a patch of writable items that leaves no two transitions
+-- side by side where it puts them
 abbrev pub PatchedIsWritable : Type 0
-PatchedIsWritable = (p : Patch) (t : Timeline) (l : Listed) → IsFit p t → target p t ≡ Some l → IsTimeline t → AreItems p.put
+PatchedIsWritable = (p : Patch) (t : Timeline) (l : Listed) → IsFit p t → target p t ≡ Some l
+    → IsTimeline t → AreItems p.put
     → side_by_side (replaced p.at p.count p.put (items_of l)) ≡ false → IsTimeline (applied p t)

@@ -1,11 +1,12 @@
 //! Timelines.
 
-ghost use Rattle.std.specs.Prelude.{◌≡◌, IfErr, IfOk, OnErr, OnOk};
+ghost use Rattle.std.specs.Prelude.{◌≡◌, ◌↔◌, ◌+◌, ◌≤◌, IsTrue, OnOk};
 ghost use Rattle.std.specs.Option.{option_copied};
 ghost use Rattle.otio_model.specs.Trees as trees;
-ghost use Rattle.otio_model.specs.Patches.{Fits, IsFit, IsRoomFor, applied, undoing};
+ghost use Rattle.otio_model.specs.Patches.{IsFit, IsRoomFor, Takes, applied, undoing};
 ghost use Rattle.otio_model.specs.Timelines.{bare};
 
+use crate::compositions::ItemOf;
 use crate::lists::{Item, Items, Stack};
 use crate::patches::Patch;
 use crate::places::Place;
@@ -14,13 +15,12 @@ use crate::walks::{children_at, replace_at};
 use json_value::Members;
 use sequences::Text;
 use std::alloc::{AllocError, Global};
-use std::mem;
 use tick_time::Time;
 
 /// A timeline (`Timeline.1`).
 ///
-/// Besides the fields of its schema it keeps memory to spare. Contracts see that as the room that it has, and compare two
-/// timelines by the word `bare`, which sets it aside.
+/// Besides the fields of its schema it keeps memory to spare. Contracts see that as the room that
+/// it has, and compare two timelines by the word `bare`, which sets it aside.
 #[derive(Debug, Drop)]
 pub struct Timeline {
     /// Metadata, kept as it is.
@@ -58,15 +58,12 @@ impl Timeline {
             global_start_time,
             tracks,
             rest,
-            spare: Spare {
-                room: Vec::new(alloc),
-                taken: Vec::new(alloc),
-            },
+            spare: Spare::new(alloc),
         }
     }
 
-    /// The item at a place. `None` exactly where the place is empty, an index is past the end or the way leads through an item
-    /// without children.
+    /// The item at a place. `None` exactly where the place is empty, an index is past the end or
+    /// the way leads through an item without children.
     pub fn at(&self, place: &Place) -> Option<&Item>
         ensures { option_copied result ≡ trees.item_at place.now self.now.tracks.children }
     {
@@ -79,47 +76,38 @@ impl Timeline {
         }
     }
 
-    /// Replaces children of the track that the patch leads to, and hands back the patch that undoes it. An error comes where
-    /// memory runs out: it hands the same patch back, and the timeline is then as it was.
-    pub fn apply(&mut self, patch: Patch) -> Result<Patch, Patch>
-        requires { IsFit patch self.old }
-        ensures new { OnOk result (bare self.new ≡ applied patch (bare self.old)) }
-        ensures undo { IfOk result (λ undo. undo ≡ undoing patch self.old) }
-        ensures unchanged { OnErr result (bare self.new ≡ bare self.old) }
-        ensures back { IfErr result (λ back. back ≡ patch) }
+    /// Whether a patch fits: its place leads to a track, and it takes out no more children than
+    /// there are.
+    #[tactic(auto, using(crate::proofs::Leads::fits_both, crate::proofs::Leads::fits_none))]
+    pub fn fits(&self, patch: &Patch) -> bool
+        ensures { IsTrue result ↔ IsFit patch.now self.now }
     {
-        match self.make_room(&patch) {
-            Ok(()) => Ok(self.replace(patch)),
-            Err(_) => Err(patch),
+        match self.at(&patch.place) {
+            Some(item) => takes(item, patch),
+            None => false,
         }
     }
 
-    /// Makes the spare that the patch needs.
-    fn make_room(&mut self, patch: &Patch) -> Result<(), AllocError>
-        requires fits { Fits patch.now self.old }
+    /// Makes the spare that the patch needs, and changes nothing else. An error comes where memory
+    /// runs out.
+    pub fn room(&mut self, patch: &Patch) -> Result<(), AllocError>
+        requires fits { IsFit patch.now self.old }
         ensures room { OnOk result (IsRoomFor patch.now self.new) }
+        ensures fits { IsFit patch.now self.new }
         ensures same { bare self.new ≡ bare self.old }
     {
         let Some(children) = children_at(&self.tracks.children, patch.place.as_slice()) else {
             return Err(AllocError);
         };
-        let Some(all) = children.len().checked_add(patch.put.len()) else {
-            return Err(AllocError);
-        };
-        let spare = &mut self.spare;
-        match spare.room.reserve(all) {
-            Ok(()) => {}
-            Err(e) => return Err(e),
-        }
-        match spare.taken.reserve(patch.count) {
-            Ok(()) => Ok(()),
-            Err(e) => Err(e),
-        }
+        let long = children.len();
+        self.spare
+            .make(patch.count, long, patch.put.as_slice().len())
     }
 
-    /// Replaces children by the spare, and hands back the patch that undoes it.
-    fn replace(&mut self, patch: Patch) -> Patch
-        requires fits { Fits patch self.old }
+    /// Replaces children of the track that the patch leads to, and hands back the patch that undoes
+    /// it. It takes no memory: what it needs is the spare that [`Timeline::room`] makes.
+    pub fn apply(&mut self, patch: Patch) -> Patch
+        requires fits { IsFit patch self.old }
         requires spare { IsRoomFor patch self.old }
         ensures undo { result ≡ undoing patch self.old }
         ensures new { bare self.new ≡ applied patch (bare self.old) }
@@ -132,23 +120,41 @@ impl Timeline {
         } = patch;
         let mut list = put.into_vec();
         let added = list.len();
-        let spare = &mut self.spare;
         replace_at(
             &mut self.tracks.children,
             place.as_slice(),
             at,
             count,
             &mut list,
-            &mut spare.taken,
-            &mut spare.room,
+            &mut self.spare,
         );
-        mem::swap(&mut list, &mut spare.taken);
         Patch {
             place,
             at,
             count: added,
             put: Items::of(list),
         }
+    }
+}
+
+/// Whether the patch takes out no more than so many children.
+fn is_within(patch: &Patch, children: usize) -> bool
+    ensures { IsTrue result ↔ (patch.now.at + patch.now.count ≤ children) }
+{
+    match patch.at.checked_add(patch.count) {
+        Some(end) => end <= children,
+        None => false,
+    }
+}
+
+/// Whether an item is a track that has the children that the patch takes out.
+#[tactic(auto, using(crate::proofs::Leads::takes_none))]
+fn takes(item: &Item, patch: &Patch) -> bool
+    ensures { IsTrue result ↔ Takes patch.now item.now }
+{
+    match item {
+        ItemOf::Track(track) => is_within(patch, track.children.len()),
+        _ => false,
     }
 }
 

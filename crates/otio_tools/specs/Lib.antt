@@ -1,9 +1,9 @@
 pub mod Status
 pub mod Forms
+pub mod Asked
+pub mod Events
 pub mod Frames
 pub mod Answer
-pub mod Whole
 pub mod Run
-pub mod Told
 pub mod Plan
 pub mod Texts

@@ -1,14 +1,15 @@
 -- How a run may end.
 use Rattle.std.specs.Prelude.{◌≡◌, ◌⊎◌, ℕ, List, codes, Some, None}
 use Rattle.std.specs.declared.option.Option.{Option}
-use Rattle.dev_io.specs.Known.{KnownFiles, KnownOut}
+use Rattle.dev_io.specs.Known.{KnownFiles, KnownOut, LastFailure}
 use Rattle.dev_io.specs.Calls.{Tells, Adds, AddsPrefix}
 use Rattle.dev_io.specs.Causes.{Rose}
+use Rattle.source_files.specs.Order.{FirstIsNot}
+use Rattle.source_files.specs.Reading.{Held, Source, IsRead, IsFailureOf, EndsWith}
 use Rattle.command_words.specs.Asked.{Ask}
-use Rattle.command_words.specs.declared.requests.Command.{Command}
 use Rattle.command_words.specs.declared.requests.Command.TheVariants.{Frames}
 use Rattle.command_words.specs.declared.requests.FramesAsked.{FramesAsked}
-use Rattle.otio_tools.specs.Whole.{ReadFails, ReadsToEnd}
+use Rattle.otio_tools.specs.Asked.{Asked, Asks}
 use Rattle.otio_tools.specs.Forms.{Answer, read_failed}
 use Rattle.otio_tools.specs.Answer.{Answers}
 use Rattle.otio_tools.specs.declared.Status.{Status}
@@ -25,7 +26,8 @@ pub record Streams : Type 0 where
   pub err_old : Option KnownOut
   pub err_new : Option KnownOut
 
-abbrev pub streams : {W E : Type 0} → (W → ℕ) → (W → Option KnownOut) → (E → ℕ) → (E → Option KnownOut) → W → W → E → E → Streams
+abbrev pub streams : {W E : Type 0} → (W → ℕ) → (W → Option KnownOut) → (E → ℕ)
+    → (E → Option KnownOut) → W → W → E → E → Streams
 streams out_faults out_known err_faults err_known out out' err err' = record {
   out_before = out_faults out;
   out_now = out_faults out';
@@ -39,7 +41,8 @@ streams out_faults out_known err_faults err_known out out' err err' = record {
 
 -- a text was sent: whole, or a prefix of it where the count rose
 abbrev pub Says : ℕ → ℕ → Option KnownOut → Option KnownOut → List ℕ → Type 0
-Says before now old new text = Tells (Adds text) old new ⊎ (Rose before now × Tells (AddsPrefix text) old new)
+Says before now old new text =
+    Tells (Adds text) old new ⊎ (Rose before now × Tells (AddsPrefix text) old new)
 
 -- the message was sent, or a prefix of it where the stream of messages failed
 abbrev pub Message : List ℕ → Streams → Type 0
@@ -80,7 +83,8 @@ abbrev pub output_failed : List ℕ
 output_failed = codes "otio: output failed\n"
 
 -- the run gave the answer to its words and files, under this status
-pub record Gives (words : List (List ℕ)) (held : List ℕ → Option (List ℕ)) (d : Streams) (result : Status) : Type 0 where
+pub record Gives (words : List (List ℕ)) (held : Held) (d : Streams)
+    (result : Status) : Type 0 where
   pub answer : Answer
   pub owed : Answers words held answer
   pub status : answer.status ≡ result
@@ -88,7 +92,7 @@ pub record Gives (words : List (List ℕ)) (held : List ℕ → Option (List ℕ
   pub message : Message answer.message d
 
 -- The answer was an output, and the stream of output failed: a prefix was sent.
-pub record Stops (words : List (List ℕ)) (held : List ℕ → Option (List ℕ)) (d : Streams) : Type 0 where
+pub record Stops (words : List (List ℕ)) (held : Held) (d : Streams) : Type 0 where
   pub answer : Answer
   pub owed : Answers words held answer
   pub status : answer.status ≡ Done
@@ -104,43 +108,52 @@ pub record AsksFrames (words : List (List ℕ)) : Type 0 where
   pub ask : Ask words (Frames asked) name target
 
 -- The answer was an output, the rows of frames, and memory ran out over them: a prefix was sent.
-pub record Breaks (words : List (List ℕ)) (held : List ℕ → Option (List ℕ)) (d : Streams) : Type 0 where
+pub record Breaks (words : List (List ℕ)) (held : Held) (d : Streams) : Type 0 where
   pub frames : AsksFrames words
   pub answer : Answer
   pub owed : Answers words held answer
   pub status : answer.status ≡ Done
   pub output : Sends (DirectsFront answer.target answer.output) d
 
--- Opening or reading the file that the words name failed, and nothing was sent.
-pub record FailsToRead (words : List (List ℕ)) (before now : ℕ) (old new : KnownFiles) (d : Streams) : Type 0 where
-  pub command : Command
+-- a call on the file of that name failed last
+abbrev pub FailsUnder : Held → LastFailure → Source → List ℕ → Type 0
+FailsUnder held last file name = (name ≡ file.name) × IsFailureOf file (held file.name) last
+
+-- Opening or reading the file of that name failed, each file before it holds what it is read as,
+-- and nothing was sent.
+pub record FailsToRead (words : List (List ℕ)) (before now : ℕ) (old new : KnownFiles)
+    (d : Streams) : Type 0 where
+  pub asked : Asked
+  pub asks : Asks words asked
   pub name : List ℕ
-  pub target : Option (List ℕ)
-  pub asked : Ask words command name target
+  pub first : FirstIsNot (IsRead old.held) (FailsUnder old.held new.last) asked.files name
   pub failed : Rose before now
-  pub last : ReadFails name old new
   pub output : Sends SendsNothing d
   pub message : Message (read_failed name) d
 
--- each file that the words name was read to its end
-abbrev pub ReadsAll : List (List ℕ) → KnownFiles → KnownFiles → Type 0
-ReadsAll words old new = (command : Command) (name : List ℕ) (target : Option (List ℕ)) → Ask words command name target → ReadsToEnd name old new
+-- each file that the words ask for was read to its end
+abbrev pub ReadsAll : List (List ℕ) → KnownFiles → Type 0
+ReadsAll words new = (asked : Asked) → Asks words asked → EndsWith asked.files new
 
 -- How a run over told files may end. `before` and `now` are the files' counts of faults.
 abbrev pub Ends : List (List ℕ) → ℕ → ℕ → Streams → Status → KnownFiles → KnownFiles → Type 0
-Ends words before now d Done old new = Gives words old.held d Done × ReadsAll words old new
+Ends words before now d Done old new = Gives words old.held d Done × ReadsAll words new
 Ends words before now d Usage old new = Gives words old.held d Usage
-Ends words before now d Refused old new = Gives words old.held d Refused × (now ≡ before)
-Ends words before now d Input old new = Gives words old.held d Input ⊎ FailsToRead words before now old new d
+Ends words before now d Refused old new = Gives words old.held d Refused
+Ends words before now d Input old new =
+    (Gives words old.held d Input × (now ≡ before)) ⊎ FailsToRead words before now old new d
 Ends words before now d Output old new = Stops words old.held d
-Ends words before now d Memory old new = (Sends SendsNothing d ⊎ Breaks words old.held d) × Message no_memory d
+Ends words before now d Memory old new =
+    (Sends SendsNothing d ⊎ Breaks words old.held d) × Message no_memory d
 
 -- Where no count of faults rose, the status is that of the answer, or there was no memory.
 abbrev pub Completes : List (List ℕ) → ℕ → ℕ → Streams → Status → KnownFiles → Type 0
-Completes words before now d result old = (answer : Answer) → Answers words old.held answer → (Rose before now → ⊥) → (OutFailed d → ⊥)
+Completes words before now d result old = (answer : Answer) → Answers words old.held answer
+    → (Rose before now → ⊥) → (OutFailed d → ⊥)
     → (result ≡ answer.status) ⊎ (result ≡ Memory)
 
--- What is known whatever the files tell: under every status but Done and Output nothing is sent, but where memory runs out over the rows of frames.
+-- What is known whatever the files tell: under every status but Done and Output nothing is sent,
+-- but where memory runs out over the rows of frames.
 abbrev pub KeepsStill : List (List ℕ) → Streams → Status → Type 0
 KeepsStill words d Done = Unit {0}
 KeepsStill words d Output = OutFailed d

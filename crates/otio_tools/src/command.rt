@@ -1,30 +1,27 @@
 // The top call.
-ghost use Rattle.std.specs.Prelude.{◌≡◌, ◌≢◌, ◌↔◌, ℕ, [], ◌∷◌, List, codes, decimal, map, string_bytes, IfOk, IfSome};
-ghost use Rattle.otio_tools.specs.Forms.{message_of};
+ghost use Rattle.std.specs.Prelude.{◌≡◌, ◌≢◌, ◌↔◌, ℕ, List, map, string_bytes, IfOk, IfSome};
 ghost use Rattle.dev_io.specs.Calls.{Tells, SendsAll, IsFresh};
-ghost use Rattle.otio_tools.specs.Texts.{text_at};
-ghost use Rattle.command_words.specs.Asked.{Ask, AskNothing};
-ghost use Rattle.otio_tools.specs.Run.{Completes, Ends, Says, KeepsStill, no_memory, streams};
-ghost use Rattle.otio_tools.specs.Plan.{AreRows, CanBeShown, Carries, Fits, HasSendCause, IsFor, IsWritable, Writes, WritesTo, text_planned};
 ghost use Rattle.edl_layout.specs.Spelling.{spelling};
 ghost use Rattle.json_layout.specs.Layout.{layout};
 ghost use Rattle.frame_rows.specs.Rows.{listing_text};
-ghost use Rattle.otio_tools.specs.Told.{told, list_told, json_told, status_told, message_told, status_unsent, message_unsent};
+ghost use Rattle.command_words.specs.Asked.{Ask, AskNothing};
+ghost use Rattle.otio_tools.specs.Texts.{text_at};
+ghost use Rattle.otio_tools.specs.Run.{Completes, Ends, Says, KeepsStill, no_memory, streams};
+ghost use Rattle.otio_tools.specs.Plan.{AreRows, CanBeShown, Carries, Complains, Fits, HasSendCause, IsWritable, Writes, WritesTo, text_planned, message_about, message_unsent, status_of, status_unsent};
+ghost use Rattle.source_files.specs.declared.faults.ReadFault.TheVariants.{Refused as RefusedFor};
 
 use crate::Status;
-use crate::fault::{Fault, SendFault};
-use crate::plan::{Planned, plan};
-use crate::say::{say, say_at, say_of};
+use crate::planned::{Planned, plan};
+use crate::say::{say, say_of, say_why};
 use command_words::{Request, request_of};
-use dev_io::{Files, Out, WriteFault};
+use dev_io::{Files, Out};
 use edl_layout::write_list;
 use edl_list::EventList;
-use edl_text::EdlFault;
 use frame_rows::{Listing, RowFault, write_rows};
 use json_layout::write_json;
-use json_text::JsonFault;
 use json_value::Json;
 use otio_model::Timeline;
+use source_files::{ReadFault, Refusal, SourceFault};
 use std::alloc::Global;
 
 const USAGE: &[u8] = b"otio: usage
@@ -39,19 +36,25 @@ const USAGE: &[u8] = b"otio: usage
 
 /// Does what the words behind the program's name ask for, and says how it ended.
 ///
-/// `convert FILE`, where FILE ends with `.edl`, reads a CMX 3600 list, at 24 frames a second or at the rate that `--rate` gives, and with `--to edl` sends
-/// its one spelling, with drop-frame timecode where `--drop` stands or the list has it. For any other FILE, or with `--from otio`, it reads an object of
-/// OpenTimelineIO, old names and versions included, and sends its layout in the current schemas; with `--to json` it sends the layout of the JSON text, and reads no
-/// schema.
+/// `convert FILE`, where FILE ends with `.edl`, reads a CMX 3600 list, at 24 frames a second or at
+/// the rate that `--rate` gives, and with `--to edl` sends its one spelling, with drop-frame
+/// timecode where `--drop` stands or the list has it. For any other FILE, or with `--from otio`, it
+/// reads an object of OpenTimelineIO, old names and versions included, and sends its layout in the
+/// current schemas; with `--to json` it sends the layout of the JSON text, and reads no schema.
 ///
-/// `frames FILE` reads an object too, and sends a row for each record frame and root child of a sound timeline: the frame's number, the child's index and what it shows. `--child`
-/// asks for one child alone, and where there is none of that index no row is sent. `--start` is the first frame, by its number or by a timecode label at the record rate, else that of the
-/// timeline. `--count` is how many frames, else all up to the end of the longest child, at most 100 000. Refused are an object that is no timeline, a timeline that isn't sound, and then a
-/// label that is none at the record rate.
+/// `frames FILE` reads an object too, and sends a row for each record frame and root child of a
+/// sound timeline: the frame's number, the child's index and what it shows. `--child` asks for one
+/// child alone, and where there is none of that index no row is sent. `--start` is the first frame,
+/// by its number or by a timecode label at the record rate, else that of the timeline. `--count` is
+/// how many frames, else all up to the end of the longest child, at most 100 000. Refused are an
+/// object that is no timeline, a timeline that isn't sound, and then a label that is none at the
+/// record rate.
 ///
 /// `-o OUT` aims `out` at that file before anything is sent.
-/// Each status but `Done` sends one message to `err`; where `err` fails, a prefix of it was sent, and the status is the same.
-/// Nothing is sent to `out` before the file is judged. Want of memory alone may come at any time: behind a prefix of the rows of `frames`, and else before anything is sent.
+/// Each status but `Done` sends one message to `err`; where `err` fails, a prefix of it was sent,
+/// and the status is the same. Nothing is sent to `out` before the file is judged. Want of memory
+/// alone may come at any time: behind a prefix of the rows of `frames`, and else before anything is
+/// sent.
 pub fn run<F: Files, W: Out, E: Out>(
     alloc: Global,
     words: &Vec<String>,
@@ -60,22 +63,31 @@ pub fn run<F: Files, W: Out, E: Out>(
     err: &mut E,
 ) -> Status
     requires { IsFresh (W.known out.old) }
-    // Over files that tell what they hold: the status, the output and the message are those of the one answer to the words and the files.
-    ensures ends { Tells (Ends (map (λ w. string_bytes w) words.now.items) (F.faults files.old) (F.faults files.new)
-        (streams W.faults W.known E.faults E.known out.old out.new err.old err.new) result) (F.known files.old) (F.known files.new) }
+    // Over files that tell what they hold: the status, the output and the message are those of the
+    // one answer to the words and the files.
+    ensures ends { let said = map (λ w. string_bytes w) words.now.items in
+        let sent = streams W.faults W.known E.faults E.known out.old out.new err.old err.new in
+        Tells (Ends said (F.faults files.old) (F.faults files.new) sent result)
+        (F.known files.old) (F.known files.new) }
 
     // Where no device failed, the status is that of the answer.
-    ensures complete { IfSome (F.known files.old) (Completes (map (λ w. string_bytes w) words.now.items) (F.faults files.old) (F.faults files.new)
-        (streams W.faults W.known E.faults E.known out.old out.new err.old err.new) result) }
+    ensures complete { let said = map (λ w. string_bytes w) words.now.items in
+        let sent = streams W.faults W.known E.faults E.known out.old out.new err.old err.new in
+        IfSome (F.known files.old)
+        (Completes said (F.faults files.old) (F.faults files.new) sent result) }
 
-    // Over all files: usage exactly for other words; nothing sent but under Done, under Output, which has its cause, and where memory runs out over frames; no refusal behind a failed
-    // call.
-    ensures usage { (result ≡ Status.Usage) ↔ AskNothing (map (λ w. string_bytes w) words.now.items) }
-    ensures still { KeepsStill (map (λ w. string_bytes w) words.now.items) (streams W.faults W.known E.faults E.known out.old out.new err.old err.new) result }
-    ensures calm { result ≡ Status.Refused → F.faults files.new ≡ F.faults files.old }
+    // Over all files: usage exactly for other words; nothing sent but under Done, under Output,
+    // which has its cause, and where memory runs out over frames; under every status but Input no
+    // call of the files failed.
+    ensures usage { let said = map (λ w. string_bytes w) words.now.items in
+        (result ≡ Status.Usage) ↔ AskNothing said }
+    ensures still { let said = map (λ w. string_bytes w) words.now.items in
+        let sent = streams W.faults W.known E.faults E.known out.old out.new err.old err.new in
+        KeepsStill said sent result }
+    ensures calm { result ≢ Status.Input → F.faults files.new ≡ F.faults files.old }
 {
     match request_of(words.as_slice()) {
-        Some(request) => convert(alloc, request, files, out, err),
+        Some(request) => serve(alloc, request, files, out, err),
         None => {
             say(err, &[USAGE]);
             Status::Usage
@@ -83,8 +95,8 @@ pub fn run<F: Files, W: Out, E: Out>(
     }
 }
 
-// Does what is asked for with the file of that name.
-fn convert<F: Files, W: Out, E: Out>(
+// Does what is asked for.
+fn serve<F: Files, W: Out, E: Out>(
     alloc: Global,
     request: Request<'_>,
     files: &mut F,
@@ -92,33 +104,38 @@ fn convert<F: Files, W: Out, E: Out>(
     err: &mut E,
 ) -> Status
     requires { IsFresh (W.known out.old) }
-    ensures ends { (words : List (List ℕ)) → Ask words request.entry.command request.entry.name.now (text_at request.entry.target) → Tells (Ends words (F.faults files.old) (F.faults files.new)
-        (streams W.faults W.known E.faults E.known out.old out.new err.old err.new) result) (F.known files.old) (F.known files.new) }
-    ensures still { (words : List (List ℕ)) → Ask words request.entry.command request.entry.name.now (text_at request.entry.target) → KeepsStill words
-        (streams W.faults W.known E.faults E.known out.old out.new err.old err.new) result }
+    ensures ends { (words : List (List ℕ)) →
+        Ask words request.entry.command request.entry.name.now (text_at request.entry.target) →
+        let sent = streams W.faults W.known E.faults E.known out.old out.new err.old err.new in
+        Tells (Ends words (F.faults files.old) (F.faults files.new) sent result)
+        (F.known files.old) (F.known files.new) }
+    ensures still { (words : List (List ℕ)) →
+        Ask words request.entry.command request.entry.name.now (text_at request.entry.target) →
+        let sent = streams W.faults W.known E.faults E.known out.old out.new err.old err.new in
+        KeepsStill words sent result }
     ensures asked { result ≢ Status.Usage }
-    ensures calm { result ≡ Status.Refused → F.faults files.new ≡ F.faults files.old }
+    ensures calm { result ≢ Status.Input → F.faults files.new ≡ F.faults files.old }
 {
     let planned = plan(alloc, request.command, request.name, files);
-    carry_out(alloc, request.name, request.target, planned, out, err)
+    carry_out(alloc, request.target, planned, out, err)
 }
 
 // Sends what is planned, or the message of the fault.
 fn carry_out<W: Out, E: Out>(
     alloc: Global,
-    name: &str,
     target: Option<&str>,
-    planned: Result<Planned, Fault>,
+    planned: Result<Planned, SourceFault<'_>>,
     out: &mut W,
     err: &mut E,
 ) -> Status
     requires fits { IfOk planned (λ all. Fits all) }
     requires fresh { IsFresh (W.known out.old) }
-    ensures { Carries name.now (text_at target.entry) planned (streams W.faults W.known E.faults E.known out.old out.new err.old err.new) result }
+    ensures { Carries (text_at target.entry) planned.entry
+        (streams W.faults W.known E.faults E.known out.old out.new err.old err.new) result }
 {
     match planned {
         Ok(planned) => send(alloc, target, &planned, out, err),
-        Err(fault) => complain(name, fault, err),
+        Err(stop) => complain(stop, err),
     }
 }
 
@@ -132,7 +149,8 @@ fn send<W: Out, E: Out>(
 ) -> Status
     requires fits { Fits planned.now }
     requires fresh { IsFresh (W.known out.old) }
-    ensures { Writes (text_at target.entry) planned.now (streams W.faults W.known E.faults E.known out.old out.new err.old err.new) result }
+    ensures { Writes (text_at target.entry) planned.now
+        (streams W.faults W.known E.faults E.known out.old out.new err.old err.new) result }
 {
     match write_to(alloc, target, planned, out) {
         Ok(()) => Status::Done,
@@ -141,16 +159,17 @@ fn send<W: Out, E: Out>(
 }
 
 // Sends the message of an output that isn't whole.
-fn complain_of_output<E: Out>(fault: SendFault, err: &mut E) -> Status
+fn complain_of_output<E: Out>(fault: RowFault, err: &mut E) -> Status
     ensures status { result ≡ status_unsent fault }
-    ensures message { Says (E.faults err.old) (E.faults err.new) (E.known err.old) (E.known err.new) (message_unsent fault) }
+    ensures message { Says (E.faults err.old) (E.faults err.new) (E.known err.old) (E.known err.new)
+        (message_unsent fault) }
 {
     match fault {
-        SendFault::Sink => {
+        RowFault::Sink => {
             say(err, &[b"otio: output failed\n".as_slice()]);
             Status::Output
         }
-        SendFault::Memory => complain_of_memory(err),
+        RowFault::Memory => complain_of_memory(err),
     }
 }
 
@@ -160,25 +179,29 @@ fn write_to<W: Out>(
     target: Option<&str>,
     planned: &Planned,
     out: &mut W,
-) -> Result<(), SendFault>
+) -> Result<(), RowFault>
     requires fits { Fits planned.now }
     requires fresh { IsFresh (W.known out.old) }
-    ensures told { Tells (WritesTo (text_at target.entry) (text_planned planned.now) result) (W.known out.old) (W.known out.new) }
-    ensures cause { HasSendCause (AreRows planned.now) (W.faults out.old) (W.faults out.new) result }
+    ensures told { Tells (WritesTo (text_at target.entry) (text_planned planned.now) result)
+        (W.known out.old) (W.known out.new) }
+    ensures cause { HasSendCause (AreRows planned.now) (W.faults out.old)
+        (W.faults out.new) result }
 {
     match target {
         None => write_planned(alloc, planned, out),
         Some(name) => match out.aim(name) {
             Ok(()) => write_planned(alloc, planned, out),
-            Err(_) => Err(SendFault::Sink),
+            Err(_) => Err(RowFault::Sink),
         },
     }
 }
 
-fn write_planned<W: Out>(alloc: Global, planned: &Planned, out: &mut W) -> Result<(), SendFault>
+fn write_planned<W: Out>(alloc: Global, planned: &Planned, out: &mut W) -> Result<(), RowFault>
     requires { Fits planned.now }
-    ensures told { Tells (SendsAll (text_planned planned.now) result) (W.known out.old) (W.known out.new) }
-    ensures cause { HasSendCause (AreRows planned.now) (W.faults out.old) (W.faults out.new) result }
+    ensures told { Tells (SendsAll (text_planned planned.now) result) (W.known out.old)
+        (W.known out.new) }
+    ensures cause { HasSendCause (AreRows planned.now) (W.faults out.old)
+        (W.faults out.new) result }
 {
     match planned {
         Planned::Events(list, drop) => write_events(list, *drop, out),
@@ -188,25 +211,26 @@ fn write_planned<W: Out>(alloc: Global, planned: &Planned, out: &mut W) -> Resul
 }
 
 // Sends a list.
-fn write_events<W: Out>(list: &EventList, drop: bool, out: &mut W) -> Result<(), SendFault>
+fn write_events<W: Out>(list: &EventList, drop: bool, out: &mut W) -> Result<(), RowFault>
     requires { IsWritable list.now drop }
-    ensures told { Tells (SendsAll (spelling list.now drop) result) (W.known out.old) (W.known out.new) }
+    ensures told { Tells (SendsAll (spelling list.now drop) result) (W.known out.old)
+        (W.known out.new) }
     ensures cause { HasSendCause ⊥ (W.faults out.old) (W.faults out.new) result }
 {
     match write_list(list, drop, out) {
         Ok(()) => Ok(()),
-        Err(_) => Err(SendFault::Sink),
+        Err(_) => Err(RowFault::Sink),
     }
 }
 
 // Sends a value.
-fn write_value<W: Out>(value: &Json, out: &mut W) -> Result<(), SendFault>
+fn write_value<W: Out>(value: &Json, out: &mut W) -> Result<(), RowFault>
     ensures told { Tells (SendsAll (layout value.now) result) (W.known out.old) (W.known out.new) }
     ensures cause { HasSendCause ⊥ (W.faults out.old) (W.faults out.new) result }
 {
     match write_json(value, out) {
         Ok(()) => Ok(()),
-        Err(_) => Err(SendFault::Sink),
+        Err(_) => Err(RowFault::Sink),
     }
 }
 
@@ -216,121 +240,60 @@ fn write_frames<W: Out>(
     timeline: &Timeline,
     listing: &Listing,
     out: &mut W,
-) -> Result<(), SendFault>
+) -> Result<(), RowFault>
     requires { CanBeShown timeline.now }
-    ensures told { Tells (SendsAll (listing_text timeline.now listing.now) result) (W.known out.old) (W.known out.new) }
+    ensures told { Tells (SendsAll (listing_text timeline.now listing.now) result) (W.known out.old)
+        (W.known out.new) }
     ensures cause { HasSendCause (Unit {0}) (W.faults out.old) (W.faults out.new) result }
 {
     match write_rows(alloc, timeline, listing, out) {
         Ok(()) => Ok(()),
-        Err(RowFault::Sink) => Err(SendFault::Sink),
-        Err(RowFault::Memory) => Err(SendFault::Memory),
+        Err(RowFault::Sink) => Err(RowFault::Sink),
+        Err(RowFault::Memory) => Err(RowFault::Memory),
     }
 }
 
-// Sends the message of a fault.
-fn complain<E: Out>(name: &str, fault: Fault, err: &mut E) -> Status
-    ensures status { result ≡ status_told (told fault) }
-    ensures message { Says (E.faults err.old) (E.faults err.new) (E.known err.old) (E.known err.new) (message_told name.now (told fault)) }
+// Sends the message of a file that isn't taken.
+fn complain<E: Out>(stop: SourceFault<'_>, err: &mut E) -> Status
+    ensures status { result ≡ status_of stop.entry.fault }
+    ensures message { Says (E.faults err.old) (E.faults err.new) (E.known err.old) (E.known err.new)
+        (message_about stop.entry.name.now stop.entry.fault) }
 {
+    let SourceFault { name, fault } = stop;
     match fault {
-        Fault::Absent => {
+        ReadFault::Absent => {
             say_of(err, name, b": absent\n");
             Status::Input
         }
-        Fault::ReadFailed => {
+        ReadFault::Failed => {
             say_of(err, name, b": read failed\n");
             Status::Input
         }
-        Fault::List(fault) => complain_of_list(name, fault, err),
-        Fault::NoTimecode => {
-            say_of(err, name, b": N15 NoTimecode at .\n");
+        ReadFault::Refused(refusal) => complain_of_refusal(name, refusal, err),
+    }
+}
+
+// Sends the message of a refusal.
+fn complain_of_refusal<E: Out>(name: &str, refusal: Refusal, err: &mut E) -> Status
+    ensures status { result ≡ status_of (RefusedFor refusal) }
+    ensures message { Says (E.faults err.old) (E.faults err.new) (E.known err.old) (E.known err.new)
+        (message_about name.now (RefusedFor refusal)) }
+{
+    match refusal {
+        Refusal::Broken(reason) => {
+            say_why(err, name, &reason);
             Status::Refused
         }
-        Fault::Events => {
-            say_of(err, name, b": N13 Events at .\n");
-            Status::Refused
-        }
-        Fault::Day(line) => refuse_at(name, b": L10 Day at ", line, err),
-        Fault::Json(fault) => complain_of_json(name, fault, err),
-        Fault::Reason(text) => {
-            say_of(err, name, text.as_bytes());
-            Status::Refused
-        }
-        Fault::NotTimeline => {
-            say_of(err, name, b": G3 NotTimeline\n");
-            Status::Refused
-        }
-        Fault::NoLabel => {
-            say_of(err, name, b": X4 Range\n");
-            Status::Refused
-        }
-        Fault::Memory => complain_of_memory(err),
+        Refusal::Memory => complain_of_memory(err),
     }
 }
 
 // Sends the message of want of memory.
 fn complain_of_memory<E: Out>(err: &mut E) -> Status
     ensures status { result ≡ Status.Memory }
-    ensures message { Says (E.faults err.old) (E.faults err.new) (E.known err.old) (E.known err.new) no_memory }
+    ensures message { Says (E.faults err.old) (E.faults err.new) (E.known err.old)
+        (E.known err.new) no_memory }
 {
     say(err, &[b"otio: no memory\n".as_slice()]);
     Status::Memory
-}
-
-// Sends the message of a fault of JSON.
-fn complain_of_json<E: Out>(name: &str, fault: JsonFault, err: &mut E) -> Status
-    ensures status { result ≡ status_told (json_told fault) }
-    ensures message { Says (E.faults err.old) (E.faults err.new) (E.known err.old) (E.known err.new) (message_told name.now (json_told fault)) }
-{
-    match fault {
-        JsonFault::Syntax(at) => {
-            say_at(err, name, b": J1 Syntax at ", at);
-            Status::Refused
-        }
-        JsonFault::Utf8(at) => {
-            say_at(err, name, b": J2 Utf8 at ", at);
-            Status::Refused
-        }
-        JsonFault::Depth(at) => {
-            say_at(err, name, b": J3 Depth at ", at);
-            Status::Refused
-        }
-        JsonFault::Large => {
-            say_of(err, name, b": J4 Large\n");
-            Status::Refused
-        }
-        JsonFault::Memory => complain_of_memory(err),
-    }
-}
-
-// Sends the message of a refusal at a line.
-fn refuse_at<E: Out>(name: &str, why: &[u8], line: u32, err: &mut E) -> Status
-    ensures status { result ≡ Status.Refused }
-    ensures message { Says (E.faults err.old) (E.faults err.new) (E.known err.old) (E.known err.new) (message_of name.now (why.now ∷ decimal line ∷ codes "\n" ∷ [])) }
-{
-    say_at(err, name, why, u64::from(line));
-    Status::Refused
-}
-
-// Sends the message of a fault of a list.
-fn complain_of_list<E: Out>(name: &str, fault: EdlFault, err: &mut E) -> Status
-    ensures status { result ≡ status_told (list_told fault) }
-    ensures message { Says (E.faults err.old) (E.faults err.new) (E.known err.old) (E.known err.new) (message_told name.now (list_told fault)) }
-{
-    match fault {
-        EdlFault::Form(line) => refuse_at(name, b": L1 Form at ", line, err),
-        EdlFault::Timecode(line) => refuse_at(name, b": L2 Timecode at ", line, err),
-        EdlFault::Order(line) => refuse_at(name, b": L3 Order at ", line, err),
-        EdlFault::Unequal(line) => refuse_at(name, b": L4 Unequal at ", line, err),
-        EdlFault::Key(line) => refuse_at(name, b": L5 Key at ", line, err),
-        EdlFault::Split(line) => refuse_at(name, b": L6 Split at ", line, err),
-        EdlFault::Overlap(line) => refuse_at(name, b": L7 Overlap at ", line, err),
-        EdlFault::Reverse(line) => refuse_at(name, b": L8 Reverse at ", line, err),
-        EdlFault::Large => {
-            say_of(err, name, b": L9 Large\n");
-            Status::Refused
-        }
-        EdlFault::Memory => complain_of_memory(err),
-    }
 }

@@ -1,28 +1,24 @@
 //! The command lines of `otio`, over files and streams that are handed in.
 #![tactic(auto)]
 
-ghost use Rattle.std.specs.Prelude.{◌≡◌, ℕ, List, Option};
+ghost use Rattle.std.specs.Prelude.{◌≡◌, ℕ, List};
+ghost use Rattle.source_files.specs.Reading.{Held};
 ghost use Rattle.otio_tools.specs.Answer.{Answers};
 ghost use Rattle.otio_tools.specs.Forms.{Answer};
 
 mod command;
-mod fault;
 mod frames;
-mod json;
 mod list;
-mod objects;
-mod plan;
+mod planned;
 mod say;
 
 pub use command::run;
 
 /// Law: words and files have at most one answer. It does nothing.
 pub fn one_answer()
-    ensures { (words : List (List ℕ)) (held : List ℕ → Option (List ℕ)) (a b : Answer) → Answers words held a → Answers words held b → a ≡ b }
+    ensures { (words : List (List ℕ)) (held : Held) (a b : Answer) → Answers words held a
+        → Answers words held b → a ≡ b }
 {}
-
-/// The greatest length of a file, in bytes.
-pub const FILE_LIMIT: usize = 33_554_432;
 
 /// How a run ended. The number beside each is the exit status of the program.
 #[derive(Clone, Copy, Debug, PartialEq, Eq)]
@@ -58,8 +54,3 @@ impl Status {
         }
     }
 }
-
-#[cfg(test)]
-mod frame_tests;
-#[cfg(test)]
-mod tests;

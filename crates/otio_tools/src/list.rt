@@ -1,67 +1,20 @@
-// Reading a list in pieces, and judging whether it can be written.
-ghost use Rattle.std.specs.Prelude.{◌≡◌, ◌↔◌, ◌||◌, ℕ, List, IsTrue, IsSome, IfSome, IsErrOf, IfOk, OnOk};
-ghost use Rattle.dev_io.specs.Calls.{Tells};
+// Lists that are written as lists.
+ghost use Rattle.std.specs.Prelude.{◌≡◌, ◌↔◌, ◌||◌, ℕ, List, IsTrue, IsSome, IfOk};
 ghost use Rattle.smpte_tc.specs.Modes.{mode_of};
 ghost use Rattle.edl_list.specs.Formed.{IsWellFormed};
-ghost use Rattle.edl_text.specs.Reader.{HasRead};
-ghost use Rattle.otio_tools.specs.Whole.{IsLeft, SameFiles, Fails, ReadsOn};
-ghost use Rattle.otio_tools.specs.Plan.{ReadsAsList, Raised, PlansEvents, Fits, AreRows};
+ghost use Rattle.otio_tools.specs.Events.{AnswersEvents};
+ghost use Rattle.otio_tools.specs.Plan.{AreRows, Fits, Suffices};
 
-use crate::FILE_LIMIT;
-use crate::fault::Fault;
-use crate::plan::Planned;
-use dev_io::Files;
+use crate::planned::Planned;
 use edl_layout::first_label_past_day;
 use edl_list::EventList;
-use edl_text::{EdlFault, EdlReader};
+use fault_text::{day_reason, events_reason, no_timecode_reason};
 use smpte_tc::{TcFault, label};
-use std::alloc::Global;
+use source_files::Refusal;
 use tick_time::Rate;
-
-/// How many bytes are read at a time at the most.
-const PIECE: usize = 4096;
 
 /// How many events a list that is written may have.
 const MOST_EVENTS: usize = 999;
-
-// The list that was read.
-fn list_of(reader: EdlReader) -> Result<EventList, Fault>
-    ensures read { (rate : Rate) (bytes : List ℕ) → HasRead rate bytes reader → ReadsAsList rate bytes result }
-    ensures formed { (rate : Rate) (bytes : List ℕ) → HasRead rate bytes reader → IfOk result (λ list. IsWellFormed list) }
-    ensures failed { IsErrOf result Fault.ReadFailed → ⊥ }
-    ensures calm { (n : ℕ) → Raised result n n }
-{
-    match reader.finish() {
-        Ok(list) => Ok(list),
-        Err(fault) => Err(Fault::List(fault)),
-    }
-}
-
-#[tactic(auto, using(crate::proofs::Taking::same_at_first, crate::proofs::Taking::read_fails))]
-/// The list that is left of the file in hand. Each piece is judged before the next is read.
-pub fn read_list<F: Files>(alloc: Global, rate: Rate, files: &mut F) -> Result<EventList, Fault>
-    ensures read { IfSome (F.known files.old) (IsLeft (λ left. ReadsAsList rate left result)) }
-    ensures formed { IfOk result (λ list. IsWellFormed list) }
-    ensures end { OnOk result (Tells ReadsOn (F.known files.old) (F.known files.new)) }
-    ensures same { Tells SameFiles (F.known files.old) (F.known files.new) }
-    ensures failed { IsErrOf result Fault.ReadFailed → Tells Fails (F.known files.old) (F.known files.new) }
-    ensures cause { Raised result (F.faults files.old) (F.faults files.new) }
-{
-    let mut reader = EdlReader::new(alloc, rate);
-    let mut piece = [0u8; PIECE];
-    let mut taken = 0usize;
-    'pieces: while taken <= FILE_LIMIT {
-        match files.read(&mut piece) {
-            Err(_) => return Err(Fault::ReadFailed),
-            Ok(0) => return list_of(reader),
-            Ok(count) => match reader.feed(&piece[..count]) {
-                Ok(()) => taken += count,
-                Err(fault) => return Err(Fault::List(fault)),
-            },
-        }
-    }
-    Err(Fault::List(EdlFault::Large))
-}
 
 // Whether a rate has timecode, with drop-frame or without.
 fn has_timecode(rate: Rate, drop: bool) -> bool
@@ -80,37 +33,36 @@ fn is_drop(asked: bool, list: &EventList) -> bool
     asked || list.drop
 }
 
-/// What is to be sent of a list, with drop-frame timecode where that is asked for or the list has it: its spelling, or the first reason why it
-/// can't be written.
-pub fn list_to_write(list: EventList, asked: bool) -> Result<Planned, Fault>
+/// What is to be sent of a list, with drop-frame timecode where that is asked for or the list has
+/// it: its spelling, or the first reason why it can't be written.
+pub fn list_to_write(list: EventList, asked: bool) -> Result<Planned, Refusal>
     requires { IsWellFormed list }
-    ensures owed { (name : List ℕ) → PlansEvents name list (asked || list.drop) result }
+    ensures owed { (name : List ℕ)
+        → Suffices (λ target answer. AnswersEvents name target list (asked || list.drop) answer)
+        name result }
     ensures fits { IfOk result (λ planned. Fits planned) }
     ensures kind { IfOk result (λ planned. AreRows planned → ⊥) }
-    ensures failed { IsErrOf result Fault.ReadFailed → ⊥ }
-    ensures calm { (n : ℕ) → Raised result n n }
 {
     let drop = is_drop(asked, &list);
     write_in_mode(list, drop)
 }
 
 // What is to be sent of a list in this mode.
-fn write_in_mode(list: EventList, drop: bool) -> Result<Planned, Fault>
+fn write_in_mode(list: EventList, drop: bool) -> Result<Planned, Refusal>
     requires { IsWellFormed list }
-    ensures owed { (name : List ℕ) → PlansEvents name list drop result }
+    ensures owed { (name : List ℕ) →
+        Suffices (λ target answer. AnswersEvents name target list drop answer) name result }
     ensures fits { IfOk result (λ planned. Fits planned) }
     ensures kind { IfOk result (λ planned. AreRows planned → ⊥) }
-    ensures failed { IsErrOf result Fault.ReadFailed → ⊥ }
-    ensures calm { (n : ℕ) → Raised result n n }
 {
     if !has_timecode(list.rate, drop) {
-        return Err(Fault::NoTimecode);
+        return Err(Refusal::Broken(no_timecode_reason()));
     }
     if list.events.len() > MOST_EVENTS {
-        return Err(Fault::Events);
+        return Err(Refusal::Broken(events_reason()));
     }
     match first_label_past_day(&list, drop) {
-        Some(line) => Err(Fault::Day(line)),
+        Some(line) => Err(Refusal::Broken(day_reason(line))),
         None => Ok(Planned::Events(list, drop)),
     }
 }

@@ -3,11 +3,13 @@ use Rattle.std.specs.Prelude.{◌≡◌, ℕ, ◌<◌, ◌^◌, Bool, true, fals
 use Rattle.record_points.specs.declared.points.RecordPoint.{RecordPoint}
 use Rattle.record_points.specs.declared.points.RecordPoint.TheVariants.{Frame, Label}
 
--- the word is the number in decimal digits, without a sign or a leading zero, and has at most 18 of them
+-- the word is the number in decimal digits, without a sign or a leading zero, and has at most 18 of
+-- them
 abbrev pub IsWholeNumber : List ℕ → ℕ → Type 0
 IsWholeNumber word n = (word ≡ decimal n) × (n < 10 ^ 18)
 
--- the byte is what a letter of a form stands for: `d` for a decimal digit, and another letter for itself
+-- the byte is what a letter of a form stands for: `d` for a decimal digit, and another letter for
+-- itself
 abbrev pub is_letter : ℕ → ℕ → Bool
 is_letter letter byte = if letter == 100 then nat_le 48 byte && nat_le byte 57 else (byte == letter)
 
@@ -29,4 +31,5 @@ IsPoint word (Label label) = (label ≡ word) × (is_label_form word ≡ true)
 
 -- a word names at most one point
 abbrev pub IsOnePoint : Type 0
-IsOnePoint = (word : List ℕ) (one other : RecordPoint) → IsPoint word one → IsPoint word other → one ≡ other
+IsOnePoint =
+    (word : List ℕ) (one other : RecordPoint) → IsPoint word one → IsPoint word other → one ≡ other

@@ -2,7 +2,8 @@
 ghost use Rattle.std.specs.Prelude.{◌≡◌};
 ghost use Rattle.record_points.specs.Words.{fits as has_form, is_letter as stands_for, is_label_form as has_label_form};
 
-/// Whether bytes have the form of a label, eleven bytes `dd:dd:dd:dd` or `dd:dd:dd;dd` with digits `d` (SMPTE ST 12-1).
+/// Whether bytes have the form of a label, eleven bytes `dd:dd:dd:dd` or `dd:dd:dd;dd` with digits
+/// `d` (SMPTE ST 12-1).
 pub fn is_label_form(word: &[u8]) -> bool
     ensures { result ≡ has_label_form word.now }
 {

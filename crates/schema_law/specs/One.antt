@@ -1,6 +1,7 @@
 -- A JSON value stands for at most one object, or has one first fault, and never both.
 use Rattle.std.specs.Prelude.{◌≡◌, ◌≤◌}
 use Rattle.json_value.specs.declared.Json.{Json}
+use Rattle.limits.specs.Limits.{most_items}
 use Rattle.otio_model.specs.declared.roots.Object.{Object, fold-Object}
 use Rattle.otio_model.specs.declared.roots.Object.TheOpen.{Object-F}
 use Rattle.otio_model.specs.declared.roots.Object.TheViews.{roll-Object, roll-Collection}
@@ -20,7 +21,8 @@ spared_object (Object-F.Item i) = roll-Object (Object-F.Item i)
 abbrev pub spared_collection : Collection-F Object Collection → Collection
 spared_collection c = roll-Collection c
 
--- the object without the memory that its timelines keep to spare, at all levels; two objects are equal where these are
+-- the object without the memory that its timelines keep to spare, at all levels; two objects are
+-- equal where these are
 abbrev pub spared : Object → Object
 spared = fold-Object Object Collection spared_object spared_collection
 
@@ -38,4 +40,5 @@ HasOneFault = (json : Json) (f g : SchemaFault) → IsFirstFault json f → IsFi
 
 -- a value that stands for an object of at most 100 000 items has no first fault
 abbrev pub IsNeverBoth : Type 0
-IsNeverBoth = (json : Json) (object : Object) (fault : SchemaFault) → Stands json object → count_of object ≤ 100000 → IsFirstFault json fault → ⊥
+IsNeverBoth = (json : Json) (object : Object) (fault : SchemaFault) → Stands json object
+    → count_of object ≤ most_items → IsFirstFault json fault → ⊥

@@ -2,7 +2,8 @@
 use Rattle.std.proofs.Common.{◌≡◌, Bool, false, ◌||◌, ◌&&◌, List, [], ◌∷◌, refl}
 use Rattle.otio_model.specs.declared.compositions.Listed.{Listed}
 use Rattle.otio_model.specs.declared.compositions.ItemOf.{ItemOf}
-use Rattle.schema_rows.specs.Families.{is_transition, side_by_side}
+use Rattle.otio_model.specs.Trees.{is_transition}
+use Rattle.otio_model.specs.Misplaced.{side_by_side}
 
 -- the same, where it is known whether a transition stands before the first
 abbrev pub beside : Bool → List (ItemOf Listed) → Bool

@@ -72,7 +72,8 @@ fn default_of(alloc: Global, kind: Kind) -> Result<Option<Value>, AllocError>
 pub fn absent(alloc: Global, row: &Field, place: &Place) -> Result<Value, SchemaFault>
     ensures value { IfOk result (λ value. defaults.absent_value (row_of row.now) ≡ Some value) }
     ensures fault { IfErr result (λ fault. fault ≢ SchemaFault.Memory →
-        (defaults.absent_value (row_of row.now) ≡ None) × (fault ≡ SchemaFault.Field place.now row.now.name.now)) }
+        (defaults.absent_value (row_of row.now) ≡ None)
+        × (fault ≡ SchemaFault.Field place.now row.now.name.now)) }
 {
     if row.need {
         return Err(field_fault(alloc, row, place));

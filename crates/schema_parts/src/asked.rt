@@ -28,7 +28,8 @@ use std::alloc::{AllocError, Global};
 
 /// S1 or S2: what a child is that is no object of the schemas that may stand there.
 fn stranger_fault(alloc: Global, value: &Json, place: &Place) -> SchemaFault
-    ensures { result ≢ SchemaFault.Memory → (family : List Schema) → IsForeign family value.now → Refuses_reading (child family) place.now value.now result }
+    ensures { result ≢ SchemaFault.Memory → (family : List Schema) → IsForeign family value.now →
+        Refuses_reading (child family) place.now value.now result }
 {
     match found_object(value) {
         Some(_) => unknown_fault(alloc, place),
@@ -125,9 +126,13 @@ pub fn item_of(
     place: &Place,
     found: Option<Fields>,
 ) -> Result<Item, SchemaFault>
-    requires found { MatchOption found (IsForeign families.ITEMS value.now) (Gives_fields families.ITEMS value.now) }
-    ensures value { IfOk result (λ item. Gives_reading (child families.ITEMS) value.now (readings.known (readings.item_fields item))) }
-    ensures fault { IfErr result (λ fault. fault ≢ SchemaFault.Memory → Refuses_reading (child families.ITEMS) place.now value.now fault) }
+    requires found { MatchOption found (IsForeign families.ITEMS value.now)
+        (Gives_fields families.ITEMS value.now) }
+    ensures value { IfOk result (λ item.
+        Gives_reading (child families.ITEMS) value.now
+        (readings.known (readings.item_fields item))) }
+    ensures fault { IfErr result (λ fault. fault ≢ SchemaFault.Memory →
+        Refuses_reading (child families.ITEMS) place.now value.now fault) }
 {
     match found {
         Some(fields) => item_from(alloc, fields),
@@ -142,9 +147,13 @@ pub fn root_of(
     place: &Place,
     found: Option<Fields>,
 ) -> Result<Object, SchemaFault>
-    requires found { MatchOption found (IsForeign families.ROOTS value.now) (Gives_fields families.ROOTS value.now) }
-    ensures value { IfOk result (λ object. Gives_reading (child families.ROOTS) value.now (readings.known (readings.object_fields object))) }
-    ensures fault { IfErr result (λ fault. fault ≢ SchemaFault.Memory → Refuses_reading (child families.ROOTS) place.now value.now fault) }
+    requires found { MatchOption found (IsForeign families.ROOTS value.now)
+        (Gives_fields families.ROOTS value.now) }
+    ensures value { IfOk result (λ object.
+        Gives_reading (child families.ROOTS) value.now
+        (readings.known (readings.object_fields object))) }
+    ensures fault { IfErr result (λ fault. fault ≢ SchemaFault.Memory →
+        Refuses_reading (child families.ROOTS) place.now value.now fault) }
 {
     match found {
         Some(fields) => object_from(alloc, fields),
@@ -159,9 +168,11 @@ pub fn tracks_of(
     place: &Place,
     found: Option<Fields>,
 ) -> Result<Value, SchemaFault>
-    requires found { MatchOption found (IsForeign families.STACKS value.now) (Gives_fields families.STACKS value.now) }
+    requires found { MatchOption found (IsForeign families.STACKS value.now)
+        (Gives_fields families.STACKS value.now) }
     ensures value { IfOk result (Gives rows.stack value.now) }
-    ensures fault { IfErr result (λ fault. fault ≢ SchemaFault.Memory → Refuses_reading (child families.STACKS) place.now value.now fault) }
+    ensures fault { IfErr result (λ fault. fault ≢ SchemaFault.Memory →
+        Refuses_reading (child families.STACKS) place.now value.now fault) }
 {
     match found {
         Some(fields) => match stack_of(alloc, fields) {
@@ -174,8 +185,10 @@ pub fn tracks_of(
 
 /// An effect, or the value kept word for word.
 pub fn effect_of(alloc: Global, value: &Json, found: Option<Fields>) -> Result<Effect, SchemaFault>
-    requires found { MatchOption found (IsForeign families.EFFECTS value.now) (Gives_fields families.EFFECTS value.now) }
-    ensures value { IfOk result (λ effect. Gives_reading (want_member families.EFFECTS) value.now (readings.effect_reading effect)) }
+    requires found { MatchOption found (IsForeign families.EFFECTS value.now)
+        (Gives_fields families.EFFECTS value.now) }
+    ensures value { IfOk result (λ effect.
+        Gives_reading (want_member families.EFFECTS) value.now (readings.effect_reading effect)) }
     ensures memory { IfErr result (λ fault. fault ≡ SchemaFault.Memory) }
 {
     match found {
@@ -189,8 +202,10 @@ pub fn effect_of(alloc: Global, value: &Json, found: Option<Fields>) -> Result<E
 
 /// A marker, or the value kept word for word.
 pub fn marker_of(alloc: Global, value: &Json, found: Option<Fields>) -> Result<Marker, SchemaFault>
-    requires found { MatchOption found (IsForeign families.MARKERS value.now) (Gives_fields families.MARKERS value.now) }
-    ensures value { IfOk result (λ marker. Gives_reading (want_member families.MARKERS) value.now (readings.marker_reading marker)) }
+    requires found { MatchOption found (IsForeign families.MARKERS value.now)
+        (Gives_fields families.MARKERS value.now) }
+    ensures value { IfOk result (λ marker.
+        Gives_reading (want_member families.MARKERS) value.now (readings.marker_reading marker)) }
     ensures memory { IfErr result (λ fault. fault ≡ SchemaFault.Memory) }
 {
     match found {
@@ -216,9 +231,11 @@ fn empty_missing(alloc: Global) -> Result<Missing, AllocError>
 
 /// A media reference that is not null, or the value kept word for word.
 fn reference_of(alloc: Global, value: &Json, found: Option<Fields>) -> Result<Media, SchemaFault>
-    requires found { MatchOption found (IsForeign families.MEDIA value.now) (Gives_fields families.MEDIA value.now) }
+    requires found { MatchOption found (IsForeign families.MEDIA value.now)
+        (Gives_fields families.MEDIA value.now) }
     requires some { value.now ≢ json.Null }
-    ensures value { IfOk result (λ reference. Gives_reading medium value.now (readings.medium_reading reference)) }
+    ensures value { IfOk result (λ reference.
+        Gives_reading medium value.now (readings.medium_reading reference)) }
     ensures memory { IfErr result (λ fault. fault ≡ SchemaFault.Memory) }
 {
     match found {
@@ -232,8 +249,10 @@ fn reference_of(alloc: Global, value: &Json, found: Option<Fields>) -> Result<Me
 
 /// A media reference, or the value kept word for word. Null stands for a missing reference.
 pub fn medium_of(alloc: Global, value: &Json, found: Option<Fields>) -> Result<Media, SchemaFault>
-    requires found { MatchOption found (IsForeign families.MEDIA value.now) (Gives_fields families.MEDIA value.now) }
-    ensures value { IfOk result (λ reference. Gives_reading medium value.now (readings.medium_reading reference)) }
+    requires found { MatchOption found (IsForeign families.MEDIA value.now)
+        (Gives_fields families.MEDIA value.now) }
+    ensures value { IfOk result (λ reference.
+        Gives_reading medium value.now (readings.medium_reading reference)) }
     ensures memory { IfErr result (λ fault. fault ≡ SchemaFault.Memory) }
 {
     match value {

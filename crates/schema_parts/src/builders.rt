@@ -6,8 +6,8 @@ ghost use Rattle.schema_rows.specs.Rows as rows;
 ghost use Rattle.schema_parts.specs.Shapes.{HaveKinds};
 
 use crate::taking::{
-    last_effects, last_flag, last_items, last_markers, last_media, last_meta, last_number,
-    last_objects, last_span, last_stack, last_text, last_time,
+    next_effects, next_flag, next_items, next_markers, next_media, next_meta, next_number,
+    next_objects, next_span, next_stack, next_text, next_time,
 };
 use otio_model::{
     Children, Clip, Collection, External, Freeze, Gap, Generator, Mark, Missing, Plain, Sequence,
@@ -16,113 +16,191 @@ use otio_model::{
 use schema_rows::Fields;
 use std::alloc::{AllocError, Global};
 
-/// The struct of these fields, from the values of the rows, of which the last is named first.
+/// The struct of these fields, from the values of the rows, in their order.
 macro_rules! made {
-    ($fields:ident => $name:ident { $($field:ident: $last:ident),* } $($more:ident),*) => {{
+    ($fields:ident => $name:ident { $($field:ident: $next:ident),* } $($more:ident),*) => {{
         let Fields { schema: _, values, rest } = $fields;
-        let mut values = values.into_vec();
-        $(let $field = $last(&mut values);)*
+        let mut values = values.into_vec().into_iter();
+        $(let $field = $next(&mut values);)*
         $name { $($field,)* $($more,)* rest }
     }};
 }
 
+#[tactic(auto, using(crate::proofs::Firsts::first_is, crate::proofs::Firsts::have_shapes))]
 pub(crate) fn gap_of(fields: Fields) -> Gap
     requires { HaveKinds rows.gap_rows fields.values }
     ensures values { (readings.gap_fields result).values ≡ fields.values }
     ensures rest { (readings.gap_fields result).rest ≡ fields.rest }
 {
-    made!(fields => Gap { enabled: last_flag, markers: last_markers, effects: last_effects, source_range: last_span, name: last_text, metadata: last_meta })
+    made!(fields => Gap {
+        metadata: next_meta,
+        name: next_text,
+        source_range: next_span,
+        effects: next_effects,
+        markers: next_markers,
+        enabled: next_flag
+    })
 }
 
+#[tactic(auto, using(crate::proofs::Firsts::first_is, crate::proofs::Firsts::have_shapes))]
 pub(crate) fn clip_of(fields: Fields) -> Clip
     requires { HaveKinds rows.clip_rows fields.values }
     ensures values { (readings.clip_fields result).values ≡ fields.values }
     ensures rest { (readings.clip_fields result).rest ≡ fields.rest }
 {
-    made!(fields => Clip { active_media_reference_key: last_text, media_references: last_media, enabled: last_flag, markers: last_markers, effects: last_effects, source_range: last_span, name: last_text, metadata: last_meta })
+    made!(fields => Clip {
+        metadata: next_meta,
+        name: next_text,
+        source_range: next_span,
+        effects: next_effects,
+        markers: next_markers,
+        enabled: next_flag,
+        media_references: next_media,
+        active_media_reference_key: next_text
+    })
 }
 
+#[tactic(auto, using(crate::proofs::Firsts::first_is, crate::proofs::Firsts::have_shapes))]
 pub(crate) fn transition_of(fields: Fields) -> Transition
     requires { HaveKinds rows.transition_rows fields.values }
     ensures values { (readings.transition_fields result).values ≡ fields.values }
     ensures rest { (readings.transition_fields result).rest ≡ fields.rest }
 {
-    made!(fields => Transition { out_offset: last_time, in_offset: last_time, transition_type: last_text, name: last_text, metadata: last_meta })
+    made!(fields => Transition {
+        metadata: next_meta,
+        name: next_text,
+        transition_type: next_text,
+        in_offset: next_time,
+        out_offset: next_time
+    })
 }
 
+#[tactic(auto, using(crate::proofs::Firsts::first_is, crate::proofs::Firsts::have_shapes))]
 pub(crate) fn collection_of(fields: Fields) -> Collection
     requires { HaveKinds rows.collection_rows fields.values }
     ensures values { (readings.collection_fields result).values ≡ fields.values }
     ensures rest { (readings.collection_fields result).rest ≡ fields.rest }
 {
-    made!(fields => Collection { children: last_objects, name: last_text, metadata: last_meta })
+    made!(fields => Collection {
+        metadata: next_meta,
+        name: next_text,
+        children: next_objects
+    })
 }
 
+#[tactic(auto, using(crate::proofs::Firsts::first_is, crate::proofs::Firsts::have_shapes))]
 pub(crate) fn warp_of(fields: Fields) -> Warp
     requires { HaveKinds rows.warp_rows fields.values }
     ensures values { (readings.warp_fields result).values ≡ fields.values }
     ensures rest { (readings.warp_fields result).rest ≡ fields.rest }
 {
-    made!(fields => Warp { time_scalar: last_number, effect_name: last_text, name: last_text, metadata: last_meta })
+    made!(fields => Warp {
+        metadata: next_meta,
+        name: next_text,
+        effect_name: next_text,
+        time_scalar: next_number
+    })
 }
 
+#[tactic(auto, using(crate::proofs::Firsts::first_is, crate::proofs::Firsts::have_shapes))]
 pub(crate) fn freeze_of(fields: Fields) -> Freeze
     requires { HaveKinds rows.freeze_rows fields.values }
     ensures values { (readings.freeze_fields result).values ≡ fields.values }
     ensures rest { (readings.freeze_fields result).rest ≡ fields.rest }
 {
-    made!(fields => Freeze { time_scalar: last_number, effect_name: last_text, name: last_text, metadata: last_meta })
+    made!(fields => Freeze {
+        metadata: next_meta,
+        name: next_text,
+        effect_name: next_text,
+        time_scalar: next_number
+    })
 }
 
+#[tactic(auto, using(crate::proofs::Firsts::first_is, crate::proofs::Firsts::have_shapes))]
 pub(crate) fn plain_of(fields: Fields, timed: bool) -> Plain
     requires { HaveKinds rows.effect_rows fields.values }
     ensures values { (readings.plain_fields result).values ≡ fields.values }
     ensures rest { (readings.plain_fields result).rest ≡ fields.rest }
     ensures timed { result.timed ≡ timed }
 {
-    made!(fields => Plain { effect_name: last_text, name: last_text, metadata: last_meta } timed)
+    made!(fields => Plain {
+        metadata: next_meta,
+        name: next_text,
+        effect_name: next_text
+    } timed)
 }
 
+#[tactic(auto, using(crate::proofs::Firsts::first_is, crate::proofs::Firsts::have_shapes))]
 pub(crate) fn mark_of(fields: Fields) -> Mark
     requires { HaveKinds rows.marker_rows fields.values }
     ensures values { (readings.mark_fields result).values ≡ fields.values }
     ensures rest { (readings.mark_fields result).rest ≡ fields.rest }
 {
-    made!(fields => Mark { marked_range: last_span, name: last_text, metadata: last_meta })
+    made!(fields => Mark {
+        metadata: next_meta,
+        name: next_text,
+        marked_range: next_span
+    })
 }
 
+#[tactic(auto, using(crate::proofs::Firsts::first_is, crate::proofs::Firsts::have_shapes))]
 pub(crate) fn external_of(fields: Fields) -> External
     requires { HaveKinds rows.external_rows fields.values }
     ensures values { (readings.external_fields result).values ≡ fields.values }
     ensures rest { (readings.external_fields result).rest ≡ fields.rest }
 {
-    made!(fields => External { target_url: last_text, available_range: last_span, name: last_text, metadata: last_meta })
+    made!(fields => External {
+        metadata: next_meta,
+        name: next_text,
+        available_range: next_span,
+        target_url: next_text
+    })
 }
 
+#[tactic(auto, using(crate::proofs::Firsts::first_is, crate::proofs::Firsts::have_shapes))]
 pub(crate) fn missing_of(fields: Fields) -> Missing
     requires { HaveKinds rows.missing_rows fields.values }
     ensures values { (readings.missing_fields result).values ≡ fields.values }
     ensures rest { (readings.missing_fields result).rest ≡ fields.rest }
 {
-    made!(fields => Missing { available_range: last_span, name: last_text, metadata: last_meta })
+    made!(fields => Missing {
+        metadata: next_meta,
+        name: next_text,
+        available_range: next_span
+    })
 }
 
+#[tactic(auto, using(crate::proofs::Firsts::first_is, crate::proofs::Firsts::have_shapes))]
 pub(crate) fn generator_of(fields: Fields) -> Generator
     requires { HaveKinds rows.generator_rows fields.values }
     ensures values { (readings.generator_fields result).values ≡ fields.values }
     ensures rest { (readings.generator_fields result).rest ≡ fields.rest }
 {
-    made!(fields => Generator { generator_kind: last_text, available_range: last_span, name: last_text, metadata: last_meta })
+    made!(fields => Generator {
+        metadata: next_meta,
+        name: next_text,
+        available_range: next_span,
+        generator_kind: next_text
+    })
 }
 
+#[tactic(auto, using(crate::proofs::Firsts::first_is, crate::proofs::Firsts::have_shapes))]
 pub(crate) fn images_of(fields: Fields) -> Sequence
     requires { HaveKinds rows.images_rows fields.values }
     ensures values { (readings.images_fields result).values ≡ fields.values }
     ensures rest { (readings.images_fields result).rest ≡ fields.rest }
 {
-    made!(fields => Sequence { name_suffix: last_text, name_prefix: last_text, target_url_base: last_text, available_range: last_span, name: last_text, metadata: last_meta })
+    made!(fields => Sequence {
+        metadata: next_meta,
+        name: next_text,
+        available_range: next_span,
+        target_url_base: next_text,
+        name_prefix: next_text,
+        name_suffix: next_text
+    })
 }
 
+#[tactic(auto, using(crate::proofs::Firsts::first_is, crate::proofs::Firsts::have_shapes, otio_model::proofs::Views::shown))]
 pub(crate) fn stack_of(alloc: Global, fields: Fields) -> Result<Stack, AllocError>
     requires { HaveKinds rows.stack_rows fields.values }
     ensures values { IfOk result (λ made. (readings.stack_fields made).values ≡ fields.values) }
@@ -133,14 +211,14 @@ pub(crate) fn stack_of(alloc: Global, fields: Fields) -> Result<Stack, AllocErro
         values,
         rest,
     } = fields;
-    let mut values = values.into_vec();
-    let items = last_items(&mut values);
-    let enabled = last_flag(&mut values);
-    let markers = last_markers(&mut values);
-    let effects = last_effects(&mut values);
-    let source_range = last_span(&mut values);
-    let name = last_text(&mut values);
-    let metadata = last_meta(&mut values);
+    let mut values = values.into_vec().into_iter();
+    let metadata = next_meta(&mut values);
+    let name = next_text(&mut values);
+    let source_range = next_span(&mut values);
+    let effects = next_effects(&mut values);
+    let markers = next_markers(&mut values);
+    let enabled = next_flag(&mut values);
+    let items = next_items(&mut values);
     let children = Children::of(alloc, items)?;
     Ok(StackOf {
         metadata,
@@ -154,6 +232,7 @@ pub(crate) fn stack_of(alloc: Global, fields: Fields) -> Result<Stack, AllocErro
     })
 }
 
+#[tactic(auto, using(crate::proofs::Firsts::first_is, crate::proofs::Firsts::have_shapes, otio_model::proofs::Views::shown))]
 pub(crate) fn track_of(alloc: Global, fields: Fields) -> Result<Track, AllocError>
     requires { HaveKinds rows.track_rows fields.values }
     ensures values { IfOk result (λ made. (readings.track_fields made).values ≡ fields.values) }
@@ -164,15 +243,15 @@ pub(crate) fn track_of(alloc: Global, fields: Fields) -> Result<Track, AllocErro
         values,
         rest,
     } = fields;
-    let mut values = values.into_vec();
-    let kind = last_text(&mut values);
-    let items = last_items(&mut values);
-    let enabled = last_flag(&mut values);
-    let markers = last_markers(&mut values);
-    let effects = last_effects(&mut values);
-    let source_range = last_span(&mut values);
-    let name = last_text(&mut values);
-    let metadata = last_meta(&mut values);
+    let mut values = values.into_vec().into_iter();
+    let metadata = next_meta(&mut values);
+    let name = next_text(&mut values);
+    let source_range = next_span(&mut values);
+    let effects = next_effects(&mut values);
+    let markers = next_markers(&mut values);
+    let enabled = next_flag(&mut values);
+    let items = next_items(&mut values);
+    let kind = next_text(&mut values);
     let children = Children::of(alloc, items)?;
     Ok(TrackOf {
         metadata,
@@ -187,6 +266,7 @@ pub(crate) fn track_of(alloc: Global, fields: Fields) -> Result<Track, AllocErro
     })
 }
 
+#[tactic(auto, using(crate::proofs::Firsts::first_is, crate::proofs::Firsts::have_shapes))]
 pub(crate) fn timeline_of(alloc: Global, fields: Fields) -> Timeline
     requires { HaveKinds rows.timeline_rows fields.values }
     ensures values { (readings.timeline_fields result).values ≡ fields.values }
@@ -197,10 +277,10 @@ pub(crate) fn timeline_of(alloc: Global, fields: Fields) -> Timeline
         values,
         rest,
     } = fields;
-    let mut values = values.into_vec();
-    let tracks = last_stack(&mut values);
-    let global_start_time = last_time(&mut values);
-    let name = last_text(&mut values);
-    let metadata = last_meta(&mut values);
+    let mut values = values.into_vec().into_iter();
+    let metadata = next_meta(&mut values);
+    let name = next_text(&mut values);
+    let global_start_time = next_time(&mut values);
+    let tracks = next_stack(&mut values);
     Timeline::of(alloc, metadata, name, global_start_time, tracks, rest)
 }

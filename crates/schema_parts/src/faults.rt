@@ -80,7 +80,8 @@ pub fn unknown_fault(alloc: Global, place: &Place) -> SchemaFault
     }
 }
 
-/// The place of a child. An error comes where memory runs out, which a list of 2 ^ 32 members takes for granted.
+/// The place of a child. An error comes where memory runs out, which a list of 2 ^ 32 members takes
+/// for granted.
 pub fn child_place(alloc: Global, place: &Place, index: usize) -> Result<Place, SchemaFault>
     ensures place { IfOk result (λ here. here ≡ place.now ++ index ∷ []) }
     ensures memory { IfErr result (λ fault. fault ≡ SchemaFault.Memory) }

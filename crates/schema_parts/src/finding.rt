@@ -10,10 +10,7 @@ ghost use Rattle.schema_rows.specs.Families.{IsAbsent, IsGiven};
 ghost use Rattle.schema_rows.specs.Families as families;
 
 use json_value::{Json, Members, copy_json};
-use schema_rows::{
-    CLIP, COLLECTION, EFFECT, EXTERNAL, FREEZE, Field, GAP, GENERATOR, IMAGES, MARKER, MISSING,
-    RATIONAL_TIME, STACK, Schema, TIME_EFFECT, TIME_RANGE, TIMELINE, TRACK, TRANSITION, WARP,
-};
+use schema_rows::{Field, Schema};
 use sequences::{NamedValues, Text};
 use std::alloc::{AllocError, Global};
 
@@ -28,7 +25,8 @@ pub struct Found<'a> {
 /// The parts of a text before and behind its first point; none where it has no point.
 fn around_point(text: &str) -> Option<(&str, &str)>
     ensures { MatchOption result ((i : ℕ) → i < length text.now → slice_index text.now i ≢ 46)
-        (λ parts. (text.now ≡ parts.0.now ++ (46 ∷ parts.1.now)) × ((i : ℕ) → i < length parts.0.now → slice_index parts.0.now i ≢ 46)) }
+        (λ parts. (text.now ≡ parts.0.now ++ (46 ∷ parts.1.now))
+        × ((i : ℕ) → i < length parts.0.now → slice_index parts.0.now i ≢ 46)) }
 {
     text.split_once('.')
 }
@@ -60,7 +58,8 @@ fn number_of(digits: &[u8]) -> u32
 
 /// The name and the version that a text gives: a name without points, a point and 1 to 9 digits.
 fn schema_parts(text: &str) -> Option<(&str, u32)>
-    ensures { MatchOption result ((name : List ℕ) (version : ℕ) → IsSchemaText text.now name version → ⊥)
+    ensures { MatchOption result ((name : List ℕ) (version : ℕ) →
+        IsSchemaText text.now name version → ⊥)
         (λ parts. IsSchemaText text.now parts.0.now parts.1) }
 {
     let (name, digits) = around_point(text)?;
@@ -81,7 +80,8 @@ fn schema_parts(text: &str) -> Option<(&str, u32)>
 
 /// The object that a value is, where its schema has a name and a version.
 pub fn found_object(value: &Json) -> Option<Found<'_>>
-    ensures { MatchOption result ((members : List (List ℕ × Json)) (name : List ℕ) (version : ℕ) → IsObjectOf value.now members name version → ⊥)
+    ensures { MatchOption result ((members : List (List ℕ × Json)) (name : List ℕ) (version : ℕ) →
+        IsObjectOf value.now members name version → ⊥)
         (λ found. IsObjectOf value.now found.members.now found.name.now found.version) }
 {
     let Json::Map(members) = value else {
@@ -102,7 +102,8 @@ pub fn found_object(value: &Json) -> Option<Found<'_>>
 
 /// The member of that name; none where it is null, which counts as absent.
 pub fn given<'a>(members: &'a Members, name: &str) -> Option<&'a Json>
-    ensures { MatchOption result (IsAbsent name.now members.now) (λ member. IsGiven name.now members.now member.now) }
+    ensures { MatchOption result (IsAbsent name.now members.now) (λ member.
+        IsGiven name.now members.now member.now) }
 {
     match members.get(name)? {
         Json::Null => None,
@@ -126,31 +127,13 @@ fn has_row(rows: &[Field], name: &str) -> bool
 fn is_row(schema: Schema, name: &str) -> bool
     ensures { result ≡ families.is_row (rows_of schema) name.now }
 {
-    match schema {
-        Schema::Timeline => has_row(&TIMELINE, name),
-        Schema::Collection => has_row(&COLLECTION, name),
-        Schema::Stack => has_row(&STACK, name),
-        Schema::Track => has_row(&TRACK, name),
-        Schema::Clip => has_row(&CLIP, name),
-        Schema::Gap => has_row(&GAP, name),
-        Schema::Transition => has_row(&TRANSITION, name),
-        Schema::Warp => has_row(&WARP, name),
-        Schema::Freeze => has_row(&FREEZE, name),
-        Schema::TimeEffect => has_row(&TIME_EFFECT, name),
-        Schema::Effect => has_row(&EFFECT, name),
-        Schema::Marker => has_row(&MARKER, name),
-        Schema::External => has_row(&EXTERNAL, name),
-        Schema::Missing => has_row(&MISSING, name),
-        Schema::Generator => has_row(&GENERATOR, name),
-        Schema::Images => has_row(&IMAGES, name),
-        Schema::TimeRange => has_row(&TIME_RANGE, name),
-        Schema::RationalTime => has_row(&RATIONAL_TIME, name),
-    }
+    has_row(schema.table(), name)
 }
 
 /// Whether a member is kept beside the rows.
 fn is_other(schema: Schema, name: &str) -> bool
-    ensures { result ≡ not (bytes_eq name.now schema_key || families.is_row (rows_of schema) name.now) }
+    ensures { result
+        ≡ not (bytes_eq name.now schema_key || families.is_row (rows_of schema) name.now) }
 {
     !(name == "OTIO_SCHEMA" || is_row(schema, name))
 }

@@ -50,7 +50,8 @@ fn ranged(speed: Scalar) -> Scalar
 fn speed_of(numeral: &Text) -> Option<Scalar>
     requires { IsNumeral numeral.now }
     ensures { MatchOption result (IsNoSpeed numeral.now)
-        (λ speed. (decimal : Decimal) × IsSpelled numeral.now decimal × IsHalfEven (millionths (value_of_decimal decimal)) speed × IsSpeed speed) }
+        (λ speed. (decimal : Decimal) × IsSpelled numeral.now decimal
+        × IsHalfEven (millionths (value_of_decimal decimal)) speed × IsSpeed speed) }
 {
     match decimal_of(numeral) {
         Some(decimal) => match Scalar::of(&decimal) {
@@ -68,9 +69,11 @@ pub fn text_of(
     value: &Json,
     place: &Place,
 ) -> Result<Value, SchemaFault>
-    ensures value { (default : List ℕ) → kind_of row.now.kind ≡ rows.text default → IfOk result (Gives (kind_of row.now.kind) value.now) }
+    ensures value { (default : List ℕ) → kind_of row.now.kind ≡ rows.text default →
+        IfOk result (Gives (kind_of row.now.kind) value.now) }
     ensures fault { (default : List ℕ) → kind_of row.now.kind ≡ rows.text default
-        → IfErr result (λ fault. fault ≢ SchemaFault.Memory → Refuses place.now (row_of row.now) value.now fault) }
+        → IfErr result (λ fault. fault ≢ SchemaFault.Memory →
+        Refuses place.now (row_of row.now) value.now fault) }
 {
     match value {
         Json::Str(text) => match Text::of(alloc, text.as_str()) {
@@ -88,9 +91,11 @@ pub fn flag_of(
     value: &Json,
     place: &Place,
 ) -> Result<Value, SchemaFault>
-    ensures value { kind_of row.now.kind ≡ rows.flag → IfOk result (Gives (kind_of row.now.kind) value.now) }
+    ensures value { kind_of row.now.kind ≡ rows.flag →
+        IfOk result (Gives (kind_of row.now.kind) value.now) }
     ensures fault { kind_of row.now.kind ≡ rows.flag
-        → IfErr result (λ fault. fault ≢ SchemaFault.Memory → Refuses place.now (row_of row.now) value.now fault) }
+        → IfErr result (λ fault. fault ≢ SchemaFault.Memory →
+        Refuses place.now (row_of row.now) value.now fault) }
 {
     match value {
         Json::Bool(truth) => Ok(Value::Flag(*truth)),
@@ -100,7 +105,8 @@ pub fn flag_of(
 
 /// The members of an object.
 fn members_in(value: Json) -> Option<Members>
-    ensures { MatchOption result ((members : List (List ℕ × Json)) → value ≡ json.Map members → ⊥) (λ members. value ≡ json.Map members) }
+    ensures { MatchOption result ((members : List (List ℕ × Json)) → value ≡ json.Map members →
+        ⊥) (λ members. value ≡ json.Map members) }
 {
     match value {
         Json::Map(members) => Some(members),
@@ -115,9 +121,11 @@ pub fn meta_of(
     value: &Json,
     place: &Place,
 ) -> Result<Value, SchemaFault>
-    ensures value { kind_of row.now.kind ≡ rows.meta → IfOk result (Gives (kind_of row.now.kind) value.now) }
+    ensures value { kind_of row.now.kind ≡ rows.meta →
+        IfOk result (Gives (kind_of row.now.kind) value.now) }
     ensures fault { kind_of row.now.kind ≡ rows.meta
-        → IfErr result (λ fault. fault ≢ SchemaFault.Memory → Refuses place.now (row_of row.now) value.now fault) }
+        → IfErr result (λ fault. fault ≢ SchemaFault.Memory →
+        Refuses place.now (row_of row.now) value.now fault) }
 {
     match copy_json(alloc, value) {
         Ok(copy) => match members_in(copy) {
@@ -136,9 +144,11 @@ pub fn number_of(
     place: &Place,
 ) -> Result<Value, SchemaFault>
     requires numerals { HasNumerals value.now }
-    ensures value { (default : ℤ) → kind_of row.now.kind ≡ rows.number default → IfOk result (Gives (kind_of row.now.kind) value.now) }
+    ensures value { (default : ℤ) → kind_of row.now.kind ≡ rows.number default →
+        IfOk result (Gives (kind_of row.now.kind) value.now) }
     ensures fault { (default : ℤ) → kind_of row.now.kind ≡ rows.number default
-        → IfErr result (λ fault. fault ≢ SchemaFault.Memory → Refuses place.now (row_of row.now) value.now fault) }
+        → IfErr result (λ fault. fault ≢ SchemaFault.Memory →
+        Refuses place.now (row_of row.now) value.now fault) }
 {
     match value {
         Json::Num(numeral) => match speed_of(numeral) {
@@ -157,9 +167,11 @@ pub fn numeral_of(
     place: &Place,
 ) -> Result<Value, SchemaFault>
     requires numerals { HasNumerals value.now }
-    ensures value { kind_of row.now.kind ≡ rows.numeral → IfOk result (Gives (kind_of row.now.kind) value.now) }
+    ensures value { kind_of row.now.kind ≡ rows.numeral →
+        IfOk result (Gives (kind_of row.now.kind) value.now) }
     ensures fault { kind_of row.now.kind ≡ rows.numeral
-        → IfErr result (λ fault. fault ≢ SchemaFault.Memory → Refuses place.now (row_of row.now) value.now fault) }
+        → IfErr result (λ fault. fault ≢ SchemaFault.Memory →
+        Refuses place.now (row_of row.now) value.now fault) }
 {
     match value {
         Json::Num(numeral) => match decimal_of(numeral) {
@@ -178,9 +190,11 @@ pub fn rate_of(
     place: &Place,
 ) -> Result<Value, SchemaFault>
     requires numerals { HasNumerals value.now }
-    ensures value { kind_of row.now.kind ≡ rows.rate → IfOk result (Gives (kind_of row.now.kind) value.now) }
+    ensures value { kind_of row.now.kind ≡ rows.rate →
+        IfOk result (Gives (kind_of row.now.kind) value.now) }
     ensures fault { kind_of row.now.kind ≡ rows.rate
-        → IfErr result (λ fault. fault ≢ SchemaFault.Memory → Refuses place.now (row_of row.now) value.now fault) }
+        → IfErr result (λ fault. fault ≢ SchemaFault.Memory →
+        Refuses place.now (row_of row.now) value.now fault) }
 {
     match value {
         Json::Num(numeral) => match decimal_of(numeral) {
@@ -196,7 +210,8 @@ pub fn rate_of(
 
 /// The length and the start of a range of time.
 fn range_in(fields: &Fields) -> Option<(Time, Time)>
-    ensures { IfSome result (λ range. fields.now.values ≡ Value.Time (Some range.0) ∷ (Value.Time (Some range.1) ∷ [])) }
+    ensures { IfSome result (λ range.
+        fields.now.values ≡ Value.Time (Some range.0) ∷ (Value.Time (Some range.1) ∷ [])) }
 {
     match fields.values.as_slice() {
         [Value::Time(len), Value::Time(start)] => Some(((*len)?, (*start)?)),
@@ -206,7 +221,8 @@ fn range_in(fields: &Fields) -> Option<(Time, Time)>
 
 /// The rate and the decimal of a time.
 fn rated_in(fields: &Fields) -> Option<(Rate, Decimal)>
-    ensures { IfSome result (λ rated. fields.now.values ≡ Value.Rate rated.0 ∷ (Value.Numeral rated.1 ∷ [])) }
+    ensures { IfSome result (λ rated.
+        fields.now.values ≡ Value.Rate rated.0 ∷ (Value.Numeral rated.1 ∷ [])) }
 {
     match fields.values.as_slice() {
         [Value::Rate(rate), Value::Numeral(decimal)] => Some((*rate, *decimal)),
@@ -216,8 +232,11 @@ fn rated_in(fields: &Fields) -> Option<(Rate, Decimal)>
 
 /// A range of time, from the fields of its object.
 fn span_from(alloc: Global, fields: &Fields, place: &Place) -> Result<Value, SchemaFault>
-    ensures value { IfOk result (λ value. (span : Span) × (fields.now.values ≡ Value.Time (Some span.len) ∷ (Value.Time (Some span.start) ∷ [])) × (value ≡ Value.Span (Some span))) }
-    ensures fault { IfErr result (λ fault. fault ≢ SchemaFault.Memory → HasNegative fields.now.values × (fault ≡ SchemaFault.Range place.now)) }
+    ensures value { IfOk result (λ value. (span : Span)
+        × (fields.now.values ≡ Value.Time (Some span.len) ∷ (Value.Time (Some span.start) ∷ []))
+        × (value ≡ Value.Span (Some span))) }
+    ensures fault { IfErr result (λ fault. fault ≢ SchemaFault.Memory →
+        HasNegative fields.now.values × (fault ≡ SchemaFault.Range place.now)) }
 {
     match range_in(fields) {
         Some((len, start)) => {
@@ -238,10 +257,13 @@ pub fn span_of(
     place: &Place,
     found: Option<Fields>,
 ) -> Result<Value, SchemaFault>
-    requires found { MatchOption found (IsForeign families.RANGES value.now) (Gives_fields families.RANGES value.now) }
-    ensures value { kind_of row.now.kind ≡ rows.span → IfOk result (Gives (kind_of row.now.kind) value.now) }
+    requires found { MatchOption found (IsForeign families.RANGES value.now)
+        (Gives_fields families.RANGES value.now) }
+    ensures value { kind_of row.now.kind ≡ rows.span →
+        IfOk result (Gives (kind_of row.now.kind) value.now) }
     ensures fault { kind_of row.now.kind ≡ rows.span
-        → IfErr result (λ fault. fault ≢ SchemaFault.Memory → Refuses place.now (row_of row.now) value.now fault) }
+        → IfErr result (λ fault. fault ≢ SchemaFault.Memory →
+        Refuses place.now (row_of row.now) value.now fault) }
 {
     match found {
         Some(fields) => span_from(alloc, &fields, place),
@@ -251,8 +273,11 @@ pub fn span_of(
 
 /// A time, from the fields of its object.
 fn time_from(alloc: Global, fields: &Fields, place: &Place) -> Result<Value, SchemaFault>
-    ensures value { IfOk result (λ value. (rate : Rate) × (decimal : Decimal) × (time : Time) × (fields.now.values ≡ Value.Rate rate ∷ (Value.Numeral decimal ∷ [])) × IsTimeOf (value_of_decimal decimal) rate time × (value ≡ Value.Time (Some time))) }
-    ensures fault { IfErr result (λ fault. fault ≢ SchemaFault.Memory → HasBeyond fields.now.values × (fault ≡ SchemaFault.Range place.now)) }
+    ensures value { IfOk result (λ value. (rate : Rate) × (decimal : Decimal) × (time : Time)
+        × (fields.now.values ≡ Value.Rate rate ∷ (Value.Numeral decimal ∷ []))
+        × IsTimeOf (value_of_decimal decimal) rate time × (value ≡ Value.Time (Some time))) }
+    ensures fault { IfErr result (λ fault. fault ≢ SchemaFault.Memory → HasBeyond fields.now.values
+        × (fault ≡ SchemaFault.Range place.now)) }
 {
     match rated_in(fields) {
         Some((rate, decimal)) => match Time::of(&decimal, rate) {
@@ -271,10 +296,13 @@ pub fn time_of(
     place: &Place,
     found: Option<Fields>,
 ) -> Result<Value, SchemaFault>
-    requires found { MatchOption found (IsForeign families.TIMES value.now) (Gives_fields families.TIMES value.now) }
-    ensures value { kind_of row.now.kind ≡ rows.time → IfOk result (Gives (kind_of row.now.kind) value.now) }
+    requires found { MatchOption found (IsForeign families.TIMES value.now)
+        (Gives_fields families.TIMES value.now) }
+    ensures value { kind_of row.now.kind ≡ rows.time →
+        IfOk result (Gives (kind_of row.now.kind) value.now) }
     ensures fault { kind_of row.now.kind ≡ rows.time
-        → IfErr result (λ fault. fault ≢ SchemaFault.Memory → Refuses place.now (row_of row.now) value.now fault) }
+        → IfErr result (λ fault. fault ≢ SchemaFault.Memory →
+        Refuses place.now (row_of row.now) value.now fault) }
 {
     match found {
         Some(fields) => time_from(alloc, &fields, place),

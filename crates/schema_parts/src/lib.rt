@@ -1,5 +1,6 @@
-//! The parts of the reader of OpenTimelineIO objects that read nothing inside: which schema an object names, what stands for an
-//! absent member, numerals, texts and flags, the rules of a schema on its values, and the structs from the values of their rows.
+//! The parts of the reader of OpenTimelineIO objects that read nothing inside: which schema an
+//! object names, what stands for an absent member, numerals, texts and flags, the rules of a schema
+//! on its values, and the structs from the values of their rows.
 #![tactic(auto)]
 
 pub mod absent;
@@ -10,5 +11,3 @@ pub mod finding;
 pub mod leaves;
 pub mod rules;
 mod taking;
-#[cfg(test)]
-mod tests;

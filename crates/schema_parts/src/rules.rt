@@ -2,7 +2,10 @@
 
 ghost use Rattle.std.specs.Prelude.{◌≡◌, map, IfOk};
 ghost use Rattle.std.specs.List.{list_any};
+ghost use Rattle.otio_model.specs.Misplaced as misplaced;
+ghost use Rattle.otio_model.specs.Trees as trees;
 ghost use Rattle.schema_rows.specs.Families as families;
+ghost use Rattle.schema_rows.specs.declared.schemas.Schema.TheVariants as schemas;
 
 use otio_model::{Item, ItemOf};
 use schema_rows::{Schema, Value};
@@ -10,14 +13,14 @@ use std::alloc::{AllocError, Global};
 use tick_time::{Scalar, Time};
 
 fn is_transition(item: &Item) -> bool
-    ensures { result ≡ families.is_transition item.now }
+    ensures { result ≡ trees.is_transition item.now }
 {
     matches!(item, ItemOf::Transition(_))
 }
 
 /// Whether two transitions stand side by side.
 fn side_by_side(items: &[Item]) -> bool
-    ensures { result ≡ families.side_by_side items.now }
+    ensures { result ≡ misplaced.side_by_side items.now }
 {
     let mut behind = false;
     for item in items {
@@ -31,13 +34,13 @@ fn side_by_side(items: &[Item]) -> bool
 }
 
 fn any_transition(items: &[Item]) -> bool
-    ensures { result ≡ list_any families.is_transition items.now }
+    ensures { result ≡ list_any trees.is_transition items.now }
 {
     items.iter().any(|item| is_transition(item))
 }
 
 fn is_negative(offset: &Option<Time>) -> bool
-    ensures { result ≡ families.is_negative offset.now }
+    ensures { result ≡ misplaced.is_negative offset.now }
 {
     match offset {
         Some(time) => time.ticks < 0,
@@ -73,27 +76,34 @@ pub fn breaks(schema: Schema, values: &[Value]) -> bool
     values.iter().any(|value| value_breaks(schema, value))
 }
 
-/// A value, where a freeze frame's speed is 0.
-fn still_value(schema: Schema, value: Value) -> Value
-    ensures { result ≡ families.stilled schema value }
+/// A value of a freeze frame, whose speed is 0.
+fn still_value(value: Value) -> Value
+    ensures { result ≡ families.stilled schemas.Freeze value }
 {
     match value {
-        Value::Number(speed) => Value::Number(if schema == Schema::Freeze {
-            Scalar(0)
-        } else {
-            speed
-        }),
+        Value::Number(_) => Value::Number(Scalar(0)),
         value => value,
     }
 }
 
-/// The values, where a freeze frame's speed is 0.
-pub fn still(alloc: Global, schema: Schema, values: Vec<Value>) -> Result<Vec<Value>, AllocError>
-    ensures { IfOk result (λ still. still.items ≡ map (families.stilled schema) values.items) }
+/// The values of a freeze frame, whose speed is 0.
+fn still_values(alloc: Global, values: Vec<Value>) -> Result<Vec<Value>, AllocError>
+    ensures { IfOk result (λ still.
+        still.items ≡ map (families.stilled schemas.Freeze) values.items) }
 {
     let mut made = Vec::with_capacity(alloc, values.len())?;
     for value in values {
-        made.push(still_value(schema, value))?;
+        made.push(still_value(value))?;
     }
     Ok(made)
+}
+
+/// The values, where a freeze frame's speed is 0. An error comes where memory runs out.
+pub fn still(alloc: Global, schema: Schema, values: Vec<Value>) -> Result<Vec<Value>, AllocError>
+    ensures { IfOk result (λ still. still.items ≡ map (families.stilled schema) values.items) }
+{
+    match schema {
+        Schema::Freeze => still_values(alloc, values),
+        _ => Ok(values),
+    }
 }

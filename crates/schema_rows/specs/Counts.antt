@@ -1,4 +1,5 @@
--- How many items an object has at all levels: each clip, gap, transition, stack and track, but not the root stack of a timeline.
+-- How many items an object has at all levels: each clip, gap, transition, stack and track, but not
+-- the root stack of a timeline.
 use Rattle.std.specs.Prelude.{ℕ, ◌+◌, List, [], ◌∷◌}
 use Rattle.otio_model.specs.declared.roots.Object.{Object, fold-Object}
 use Rattle.otio_model.specs.declared.roots.Object.TheOpen.{Object-F}

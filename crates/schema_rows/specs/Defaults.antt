@@ -10,7 +10,16 @@ use Rattle.schema_rows.specs.declared.values.Value.TheVariants as V
 
 -- the root stack of a timeline that has none: an empty one named `tracks`
 abbrev pub empty_tracks : StackOf Listed
-empty_tracks = record { metadata = []; name = codes "tracks"; source_range = None; effects = []; markers = []; enabled = true; children = listed []; rest = [] }
+empty_tracks = record {
+  metadata = [];
+  name = codes "tracks";
+  source_range = None;
+  effects = [];
+  markers = [];
+  enabled = true;
+  children = listed [];
+  rest = [];
+}
 
 -- the media reference that null stands for
 abbrev pub empty_missing : Missing
@@ -37,6 +46,7 @@ default_of R.objects = Some (V.Objects [])
 default_of R.rate = None
 default_of R.numeral = None
 
--- what a row stands for where its member is absent: its kind's default, and nothing where the member is needed
+-- what a row stands for where its member is absent: its kind's default, and nothing where the
+-- member is needed
 abbrev pub absent_value : R.Row → Option Value
 absent_value row = cond row.need None (default_of row.kind)

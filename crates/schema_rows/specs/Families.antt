@@ -1,14 +1,12 @@
 -- What may stand in a list or under a key, and the rules of a schema on its own values.
-use Rattle.std.specs.Prelude.{◌≡◌, ◌≢◌, ◌⊎◌, ℕ, ◌||◌, ◌&&◌, Bool, true, false, cond, not, pos, int_lt, List, [], ◌∷◌, ◌++◌, Option, Some, None, filter}
+use Rattle.std.specs.Prelude.{◌≡◌, ◌≢◌, ◌⊎◌, ℕ, ◌||◌, Bool, true, false, cond, not, pos, List, [], ◌∷◌, ◌++◌, Some, None, filter}
 use Rattle.std.specs.List.{list_any}
 use Rattle.std.specs.Str.{bytes_eq}
 use Rattle.json_value.specs.declared.Json.{Json}
 use Rattle.json_value.specs.declared.Json.TheVariants.{Null}
 use Rattle.sequences.specs.Pairs.{value_of}
-use Rattle.tick_time.specs.declared.times.Time.{Time}
-use Rattle.otio_model.specs.declared.compositions.Listed.{Listed}
-use Rattle.otio_model.specs.declared.compositions.ItemOf.{ItemOf}
-use Rattle.otio_model.specs.declared.compositions.ItemOf.TheVariants.{Transition}
+use Rattle.otio_model.specs.Misplaced.{side_by_side, is_negative}
+use Rattle.otio_model.specs.Trees.{is_transition}
 use Rattle.schema_rows.specs.Rows.{Row}
 use Rattle.schema_rows.specs.declared.schemas.Schema.{Schema}
 use Rattle.schema_rows.specs.declared.schemas.Schema.TheVariants as S
@@ -16,8 +14,9 @@ use Rattle.schema_rows.specs.declared.values.Value.{Value}
 use Rattle.schema_rows.specs.declared.values.Value.TheVariants as V
 use Rattle.schema_rows.specs.Schemas.{schema_key}
 
--- what is asked of a value: a child is an object of a family of schemas and has a place of its own; a member is an object
--- of the family or any other value, kept word for word; a medium is a member of that of media references, or null
+-- what is asked of a value: a child is an object of a family of schemas and has a place of its own;
+-- a member is an object of the family or any other value, kept word for word; a medium is a member
+-- of that of media references, or null
 pub data Want : Type 0 where
   child : List Schema → Want
   member : List Schema → Want
@@ -34,7 +33,8 @@ is_row rows name = list_any (λ row. bytes_eq name row.name) rows
 
 -- the members that the table has no row for
 abbrev pub others : List Row → List (List ℕ × Json) → List (List ℕ × Json)
-others rows members = filter (λ member. not (bytes_eq member.0 schema_key || is_row rows member.0)) members
+others rows members =
+    filter (λ member. not (bytes_eq member.0 schema_key || is_row rows member.0)) members
 
 -- no member has that name, or it is null, which counts as absent
 abbrev pub IsAbsent : List ℕ → List (List ℕ × Json) → Type 0
@@ -44,21 +44,8 @@ IsAbsent name members = (value_of name members ≡ None) ⊎ (value_of name memb
 abbrev pub IsGiven : List ℕ → List (List ℕ × Json) → Json → Type 0
 IsGiven name members json = (value_of name members ≡ Some json) × (json ≢ Null)
 
-abbrev pub is_transition : ItemOf Listed → Bool
-is_transition (Transition t) = true
-is_transition _ = false
-
--- two transitions stand side by side
-abbrev pub side_by_side : List (ItemOf Listed) → Bool
-side_by_side [] = false
-side_by_side (first ∷ []) = false
-side_by_side (first ∷ second ∷ items) = (is_transition first && is_transition second) || side_by_side (second ∷ items)
-
-abbrev pub is_negative : Option Time → Bool
-is_negative None = false
-is_negative (Some time) = int_lt time.ticks (pos 0)
-
--- the value breaks a rule on transitions: two side by side in a track, one in a stack, a negative offset
+-- the value breaks a rule on transitions: two side by side in a track, one in a stack, a negative
+-- offset
 abbrev pub breaks : Schema → Value → Bool
 breaks S.Track (V.Items items) = side_by_side items
 breaks S.Stack (V.Items items) = list_any is_transition items

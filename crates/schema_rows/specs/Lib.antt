@@ -1,4 +1,5 @@
--- Definitions of what a JSON value stands for by the tables of OpenTimelineIO's schemas, and of its first fault.
+-- Definitions of what a JSON value stands for by the tables of OpenTimelineIO's schemas, and of its
+-- first fault.
 pub mod Rows
 pub mod Schemas
 pub mod Numerals

@@ -1,4 +1,5 @@
--- The rows of the schemas' tables (OpenTimelineIO's schema pages), in the order in which they are written.
+-- The rows of the schemas' tables (OpenTimelineIO's schema pages), in the order in which they are
+-- written.
 use Rattle.std.specs.Prelude.{ℕ, ℤ, pos, Bool, true, false, List, [], ◌∷◌, codes}
 use Rattle.schema_rows.specs.declared.rows.Field.{Field}
 use Rattle.schema_rows.specs.declared.rows.Kind.{Kind}
@@ -57,11 +58,20 @@ needed name kind = record { name = name; kind = kind; need = true }
 
 -- Timeline.1
 abbrev pub timeline_rows : List Row
-timeline_rows = optional (codes "metadata") meta ∷ optional (codes "name") (text []) ∷ optional (codes "global_start_time") time ∷ optional (codes "tracks") stack ∷ []
+timeline_rows =
+    optional (codes "metadata") meta
+    ∷ optional (codes "name") (text [])
+    ∷ optional (codes "global_start_time") time
+    ∷ optional (codes "tracks") stack
+    ∷ []
 
 -- SerializableCollection.1
 abbrev pub collection_rows : List Row
-collection_rows = optional (codes "metadata") meta ∷ optional (codes "name") (text []) ∷ optional (codes "children") objects ∷ []
+collection_rows =
+    optional (codes "metadata") meta
+    ∷ optional (codes "name") (text [])
+    ∷ optional (codes "children") objects
+    ∷ []
 
 -- Stack.1
 abbrev pub stack_rows : List Row
@@ -124,35 +134,71 @@ transition_rows =
 
 -- LinearTimeWarp.1
 abbrev pub warp_rows : List Row
-warp_rows = optional (codes "metadata") meta ∷ optional (codes "name") (text []) ∷ optional (codes "effect_name") (text []) ∷ optional (codes "time_scalar") (number (pos 1000000)) ∷ []
+warp_rows =
+    optional (codes "metadata") meta
+    ∷ optional (codes "name") (text [])
+    ∷ optional (codes "effect_name") (text [])
+    ∷ optional (codes "time_scalar") (number (pos 1000000))
+    ∷ []
 
 -- FreezeFrame.1
 abbrev pub freeze_rows : List Row
-freeze_rows = optional (codes "metadata") meta ∷ optional (codes "name") (text []) ∷ optional (codes "effect_name") (text []) ∷ optional (codes "time_scalar") (number (pos 0)) ∷ []
+freeze_rows =
+    optional (codes "metadata") meta
+    ∷ optional (codes "name") (text [])
+    ∷ optional (codes "effect_name") (text [])
+    ∷ optional (codes "time_scalar") (number (pos 0))
+    ∷ []
 
 -- TimeEffect.1
 abbrev pub time_effect_rows : List Row
-time_effect_rows = optional (codes "metadata") meta ∷ optional (codes "name") (text []) ∷ optional (codes "effect_name") (text []) ∷ []
+time_effect_rows =
+    optional (codes "metadata") meta
+    ∷ optional (codes "name") (text [])
+    ∷ optional (codes "effect_name") (text [])
+    ∷ []
 
 -- Effect.1
 abbrev pub effect_rows : List Row
-effect_rows = optional (codes "metadata") meta ∷ optional (codes "name") (text []) ∷ optional (codes "effect_name") (text []) ∷ []
+effect_rows =
+    optional (codes "metadata") meta
+    ∷ optional (codes "name") (text [])
+    ∷ optional (codes "effect_name") (text [])
+    ∷ []
 
 -- Marker.2
 abbrev pub marker_rows : List Row
-marker_rows = optional (codes "metadata") meta ∷ optional (codes "name") (text []) ∷ optional (codes "marked_range") span ∷ []
+marker_rows =
+    optional (codes "metadata") meta
+    ∷ optional (codes "name") (text [])
+    ∷ optional (codes "marked_range") span
+    ∷ []
 
 -- ExternalReference.1
 abbrev pub external_rows : List Row
-external_rows = optional (codes "metadata") meta ∷ optional (codes "name") (text []) ∷ optional (codes "available_range") span ∷ optional (codes "target_url") (text []) ∷ []
+external_rows =
+    optional (codes "metadata") meta
+    ∷ optional (codes "name") (text [])
+    ∷ optional (codes "available_range") span
+    ∷ optional (codes "target_url") (text [])
+    ∷ []
 
 -- MissingReference.1
 abbrev pub missing_rows : List Row
-missing_rows = optional (codes "metadata") meta ∷ optional (codes "name") (text []) ∷ optional (codes "available_range") span ∷ []
+missing_rows =
+    optional (codes "metadata") meta
+    ∷ optional (codes "name") (text [])
+    ∷ optional (codes "available_range") span
+    ∷ []
 
 -- GeneratorReference.1
 abbrev pub generator_rows : List Row
-generator_rows = optional (codes "metadata") meta ∷ optional (codes "name") (text []) ∷ optional (codes "available_range") span ∷ optional (codes "generator_kind") (text []) ∷ []
+generator_rows =
+    optional (codes "metadata") meta
+    ∷ optional (codes "name") (text [])
+    ∷ optional (codes "available_range") span
+    ∷ optional (codes "generator_kind") (text [])
+    ∷ []
 
 -- ImageSequenceReference.1
 abbrev pub images_rows : List Row

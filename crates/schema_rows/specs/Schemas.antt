@@ -1,4 +1,5 @@
--- The schemas of OpenTimelineIO: their names, versions and tables, and the schema that a JSON object names.
+-- The schemas of OpenTimelineIO: their names, versions and tables, and the schema that a JSON
+-- object names.
 use Rattle.std.specs.Prelude.{◌≡◌, ◌≢◌, ℕ, ◌<◌, ◌≤◌, ◌+◌, List, [], ◌∷◌, ◌++◌, length, slice_index, Option, Some, None, if◌then◌else◌, codes}
 use Rattle.std.specs.Str.{bytes_eq}
 use Rattle.std.specs.Str.Parse.{AllDigits, digits_value}
@@ -77,7 +78,8 @@ pub record IsSchemaText (text name : List ℕ) (version : ℕ) : Type 0 where
   pub version_is : version ≡ digits_value 10 digits
 
 -- the value is an object of these members, whose schema has this name and this version
-pub record IsObjectOf (json : Json) (members : List (List ℕ × Json)) (name : List ℕ) (version : ℕ) : Type 0 where
+pub record IsObjectOf (json : Json) (members : List (List ℕ × Json)) (name : List ℕ)
+    (version : ℕ) : Type 0 where
   pub object : json ≡ Map members
   pub text : List ℕ
   pub member : value_of schema_key members ≡ Some (Str text)
@@ -86,8 +88,10 @@ pub record IsObjectOf (json : Json) (members : List (List ℕ × Json)) (name : 
 -- the schema of that name among those of a family
 abbrev pub named : List ℕ → List Schema → Option Schema
 named name [] = None
-named name (schema ∷ family) = if bytes_eq name (name_of schema) then Some schema else named name family
+named name (schema ∷ family) =
+    if bytes_eq name (name_of schema) then Some schema else named name family
 
 -- the value is no object whose schema has a name of the family
 abbrev pub IsForeign : List Schema → Json → Type 0
-IsForeign family json = (members : List (List ℕ × Json)) (name : List ℕ) (version : ℕ) → IsObjectOf json members name version → named name family ≡ None
+IsForeign family json = (members : List (List ℕ × Json)) (name : List ℕ) (version : ℕ)
+    → IsObjectOf json members name version → named name family ≡ None

@@ -7,11 +7,12 @@ use otio_model::Place;
 use sequences::Text;
 use std::alloc::{AllocError, AllocFailed};
 
-/// Why a JSON value stands for no object. A place is that of the nearest object that has one: an effect, a marker, a medium
-/// and a time are at the place of their item.
+/// Why a JSON value stands for no object. A place is that of the nearest object that has one: an
+/// effect, a marker, a medium and a time are at the place of their item.
 #[derive(Debug, Drop)]
 pub enum SchemaFault {
-    /// S1: not an object, or its `OTIO_SCHEMA` isn't a name without points, a point and a version of 1 to 9 digits.
+    /// S1: not an object, or its `OTIO_SCHEMA` isn't a name without points, a point and a version
+    /// of 1 to 9 digits.
     NotObject(Place),
     /// S2: an object of a schema that may not stand there.
     UnknownChild(Place),
@@ -23,7 +24,8 @@ pub enum SchemaFault {
     Rate(Place),
     /// S6: a time out of range, a numeral with too many digits, or a negative duration.
     Range(Place),
-    /// S7: two transitions side by side in a track, one in a stack, or a transition with a negative offset.
+    /// S7: two transitions side by side in a track, one in a stack, or a transition with a negative
+    /// offset.
     Transitions(Place),
     /// G1: more than 100 000 items.
     Items,

@@ -7,7 +7,8 @@ pub struct Field {
     pub name: &'static str,
     /// The kind of its values.
     pub kind: Kind,
-    /// Whether an object must have the member. Any other member that is absent or null has the default of its kind.
+    /// Whether an object must have the member. Any other member that is absent or null has the
+    /// default of its kind.
     pub need: bool,
 }
 

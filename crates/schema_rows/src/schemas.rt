@@ -1,7 +1,14 @@
 //! The schemas.
 
-ghost use Rattle.std.specs.Prelude.{◌≡◌};
+ghost use Rattle.std.specs.Prelude.{◌≡◌, map};
+ghost use Rattle.schema_rows.specs.Rows.{row_of};
 ghost use Rattle.schema_rows.specs.Schemas as schemas;
+
+use crate::rows::Field;
+use crate::tables::{
+    CLIP, COLLECTION, EFFECT, EXTERNAL, FREEZE, GAP, GENERATOR, IMAGES, MARKER, MISSING,
+    RATIONAL_TIME, STACK, TIME_EFFECT, TIME_RANGE, TIMELINE, TRACK, TRANSITION, WARP,
+};
 
 /// A schema that has a table.
 #[derive(Clone, Copy, Debug, PartialEq, Eq)]
@@ -104,6 +111,32 @@ impl Schema {
             Schema::Images => "ImageSequenceReference.1",
             Schema::TimeRange => "TimeRange.1",
             Schema::RationalTime => "RationalTime.1",
+        }
+    }
+
+    /// Its table: the rows of its members, in the order in which they are written.
+    pub fn table(self) -> &'static [Field]
+        ensures { map row_of result.now ≡ schemas.rows_of self }
+    {
+        match self {
+            Schema::Timeline => &TIMELINE,
+            Schema::Collection => &COLLECTION,
+            Schema::Stack => &STACK,
+            Schema::Track => &TRACK,
+            Schema::Clip => &CLIP,
+            Schema::Gap => &GAP,
+            Schema::Transition => &TRANSITION,
+            Schema::Warp => &WARP,
+            Schema::Freeze => &FREEZE,
+            Schema::TimeEffect => &TIME_EFFECT,
+            Schema::Effect => &EFFECT,
+            Schema::Marker => &MARKER,
+            Schema::External => &EXTERNAL,
+            Schema::Missing => &MISSING,
+            Schema::Generator => &GENERATOR,
+            Schema::Images => &IMAGES,
+            Schema::TimeRange => &TIME_RANGE,
+            Schema::RationalTime => &RATIONAL_TIME,
         }
     }
 }

@@ -1,9 +1,10 @@
-//! The table of each schema: its rows in the order in which they are written.
+//! The table of each schema: its rows in the order in which they are written. `Schema::table` has
+//! what they hold.
 
 use crate::rows::{Field, Kind};
 
 /// The rows of `Timeline.1`.
-pub const TIMELINE: [Field; 4] = [
+pub(crate) static TIMELINE: [Field; 4] = [
     Field {
         name: "metadata",
         kind: Kind::Meta,
@@ -27,7 +28,7 @@ pub const TIMELINE: [Field; 4] = [
 ];
 
 /// The rows of `SerializableCollection.1`.
-pub const COLLECTION: [Field; 3] = [
+pub(crate) static COLLECTION: [Field; 3] = [
     Field {
         name: "metadata",
         kind: Kind::Meta,
@@ -46,7 +47,7 @@ pub const COLLECTION: [Field; 3] = [
 ];
 
 /// The rows of `Stack.1`.
-pub const STACK: [Field; 7] = [
+pub(crate) static STACK: [Field; 7] = [
     Field {
         name: "metadata",
         kind: Kind::Meta,
@@ -85,7 +86,7 @@ pub const STACK: [Field; 7] = [
 ];
 
 /// The rows of `Track.1`.
-pub const TRACK: [Field; 8] = [
+pub(crate) static TRACK: [Field; 8] = [
     Field {
         name: "metadata",
         kind: Kind::Meta,
@@ -129,7 +130,7 @@ pub const TRACK: [Field; 8] = [
 ];
 
 /// The rows of `Clip.2`.
-pub const CLIP: [Field; 8] = [
+pub(crate) static CLIP: [Field; 8] = [
     Field {
         name: "metadata",
         kind: Kind::Meta,
@@ -173,7 +174,7 @@ pub const CLIP: [Field; 8] = [
 ];
 
 /// The rows of `Gap.1`.
-pub const GAP: [Field; 6] = [
+pub(crate) static GAP: [Field; 6] = [
     Field {
         name: "metadata",
         kind: Kind::Meta,
@@ -207,7 +208,7 @@ pub const GAP: [Field; 6] = [
 ];
 
 /// The rows of `Transition.1`.
-pub const TRANSITION: [Field; 5] = [
+pub(crate) static TRANSITION: [Field; 5] = [
     Field {
         name: "metadata",
         kind: Kind::Meta,
@@ -236,7 +237,7 @@ pub const TRANSITION: [Field; 5] = [
 ];
 
 /// The rows of `LinearTimeWarp.1`.
-pub const WARP: [Field; 4] = [
+pub(crate) static WARP: [Field; 4] = [
     Field {
         name: "metadata",
         kind: Kind::Meta,
@@ -260,7 +261,7 @@ pub const WARP: [Field; 4] = [
 ];
 
 /// The rows of `FreezeFrame.1`.
-pub const FREEZE: [Field; 4] = [
+pub(crate) static FREEZE: [Field; 4] = [
     Field {
         name: "metadata",
         kind: Kind::Meta,
@@ -284,7 +285,7 @@ pub const FREEZE: [Field; 4] = [
 ];
 
 /// The rows of `TimeEffect.1`.
-pub const TIME_EFFECT: [Field; 3] = [
+pub(crate) static TIME_EFFECT: [Field; 3] = [
     Field {
         name: "metadata",
         kind: Kind::Meta,
@@ -303,7 +304,7 @@ pub const TIME_EFFECT: [Field; 3] = [
 ];
 
 /// The rows of `Effect.1`.
-pub const EFFECT: [Field; 3] = [
+pub(crate) static EFFECT: [Field; 3] = [
     Field {
         name: "metadata",
         kind: Kind::Meta,
@@ -322,7 +323,7 @@ pub const EFFECT: [Field; 3] = [
 ];
 
 /// The rows of `Marker.2`.
-pub const MARKER: [Field; 3] = [
+pub(crate) static MARKER: [Field; 3] = [
     Field {
         name: "metadata",
         kind: Kind::Meta,
@@ -341,7 +342,7 @@ pub const MARKER: [Field; 3] = [
 ];
 
 /// The rows of `ExternalReference.1`.
-pub const EXTERNAL: [Field; 4] = [
+pub(crate) static EXTERNAL: [Field; 4] = [
     Field {
         name: "metadata",
         kind: Kind::Meta,
@@ -365,7 +366,7 @@ pub const EXTERNAL: [Field; 4] = [
 ];
 
 /// The rows of `MissingReference.1`.
-pub const MISSING: [Field; 3] = [
+pub(crate) static MISSING: [Field; 3] = [
     Field {
         name: "metadata",
         kind: Kind::Meta,
@@ -384,7 +385,7 @@ pub const MISSING: [Field; 3] = [
 ];
 
 /// The rows of `GeneratorReference.1`.
-pub const GENERATOR: [Field; 4] = [
+pub(crate) static GENERATOR: [Field; 4] = [
     Field {
         name: "metadata",
         kind: Kind::Meta,
@@ -408,7 +409,7 @@ pub const GENERATOR: [Field; 4] = [
 ];
 
 /// The rows of `ImageSequenceReference.1`.
-pub const IMAGES: [Field; 6] = [
+pub(crate) static IMAGES: [Field; 6] = [
     Field {
         name: "metadata",
         kind: Kind::Meta,
@@ -442,7 +443,7 @@ pub const IMAGES: [Field; 6] = [
 ];
 
 /// The rows of `TimeRange.1`.
-pub const TIME_RANGE: [Field; 2] = [
+pub(crate) static TIME_RANGE: [Field; 2] = [
     Field {
         name: "duration",
         kind: Kind::Time,
@@ -456,7 +457,7 @@ pub const TIME_RANGE: [Field; 2] = [
 ];
 
 /// The rows of `RationalTime.1`.
-pub const RATIONAL_TIME: [Field; 2] = [
+pub(crate) static RATIONAL_TIME: [Field; 2] = [
     Field {
         name: "rate",
         kind: Kind::Rate,

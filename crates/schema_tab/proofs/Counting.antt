@@ -1,37 +1,16 @@
--- Items counted one by one.
+-- Objects counted one by one, and what an item counts.
 use Rattle.std.proofs.Common.{◌≡◌, ◌<◌, ◌≤◌, ◌+◌, ℕ, zero, suc, List, [], ◌∷◌, length, get_or, take, add-one, Some, None, slice_get, refl, sym, ap, ◌∙◌, arith}
 use Rattle.otio_model.specs.declared.compositions.Listed.{Listed}
-use Rattle.otio_model.specs.declared.compositions.Listed.TheViews.{roll-out-Listed}
 use Rattle.otio_model.specs.declared.compositions.ItemOf.{ItemOf}
 use Rattle.otio_model.specs.declared.compositions.ItemOf.TheVariants as I
 use Rattle.otio_model.specs.declared.timelines.Timeline.{Timeline as TimelineRow}
 use Rattle.otio_model.specs.declared.roots.Object.{Object, Timeline, Collection, Item}
 use Rattle.otio_model.specs.declared.roots.Object.TheOpen.{Object-F}
 use Rattle.otio_model.specs.declared.roots.Object.TheFolds.{fold-roll-Object}
-use Rattle.otio_model.specs.Counts.{count, counts_by, count_of as count_of_item}
-use Rattle.otio_model.specs.Falls.{count-listed}
-use Rattle.otio_model.specs.Trees.{items_of, children_of}
+use Rattle.otio_model.specs.Counts.{count, count_of as count_of_item}
+use Rattle.otio_model.specs.Trees.{children_of}
 use Rattle.schema_rows.specs.Counts.{count_of, count_object, count_collection}
 use Rattle.schema_tab.specs.Objects.{counts_of, object_depth, objects_depth}
-
-pub count_is : (l : Listed) → count l ≡ counts_by count (items_of l)
-count_is l = ap count (sym (roll-out-Listed l)) ∙ count-listed (items_of l)
-
--- the items so far, and one more
-pub counts_more : (xs : List (ItemOf Listed)) (i : ℕ) (x : ItemOf Listed) → slice_get xs i ≡ Some x
-    → (counts_by count (take (i + 1) xs) ≡ counts_by count (take i xs) + count_of_item x) × (counts_by count (take i xs) + count_of_item x ≤ counts_by count xs)
-counts_more [] i x e = absurd (cc)
-counts_more (y ∷ xs) zero x e = let h : y ≡ x = cc in let g : count_of_item y ≡ count_of_item x = ap count_of_item h in (omega (arith, g), omega (arith, g))
-counts_more (y ∷ xs) (suc i) x e =
-    let b = counts_more xs i x e in
-    let more : counts_by count (take (suc i + 1) (y ∷ xs)) ≡ count_of_item y + counts_by count (take (i + 1) xs) = rw (add-one (suc i), add-one i) refl in
-    (omega (arith, b.0, more), omega (arith, b.1))
-
-pub take_full : {A : Type 0} (xs : List A) (i : ℕ) → length xs ≤ i → take i xs ≡ xs
-take_full [] zero h = refl
-take_full [] (suc i) h = refl
-take_full (x ∷ xs) zero h = absurd (omega arith)
-take_full (x ∷ xs) (suc i) h = ap (λ ys. x ∷ ys) (take_full xs i (omega arith))
 
 pub item_count : (x : ItemOf Listed) → children_of x ≡ None → count_of_item x ≡ 1
 item_count (I.Clip c) e = refl
@@ -46,11 +25,6 @@ parent_count (I.Gap g) l e = absurd (cc)
 parent_count (I.Transition t) l e = absurd (cc)
 parent_count (I.Stack s) l e = let h : s.children ≡ l = cc in ap (λ (k : Listed). count k + 1) h
 parent_count (I.Track t) l e = let h : t.children ≡ l = cc in ap (λ (k : Listed). count k + 1) h
-
-pub none_there : {A : Type 0} (xs : List A) (i : ℕ) → None ≡ slice_get xs i → i < length xs → ⊥
-none_there [] i e h = omega arith
-none_there (x ∷ xs) zero e h = absurd (cc)
-none_there (x ∷ xs) (suc i) e h = none_there xs i e (omega arith)
 
 -- the objects so far, and one more
 pub objects_more : (xs : List Object) (i : ℕ) (x : Object) → i < length xs → x ≡ get_or xs i x

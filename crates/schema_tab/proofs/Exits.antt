@@ -22,7 +22,7 @@ use Rattle.schema_rows.specs.Families.{Want, child, member, medium, place_in}
 use Rattle.schema_rows.specs.Stands.{Gives, items, objects, effects, markers, media, Gives_row, Gives_rows, Gives_reading, Gives_all}
 use Rattle.schema_rows.specs.Faults.{Refuses_row, Refuses_rows, Refuses_reading, Refuses_any}
 use Rattle.schema_tab.specs.Depths.{depth, list_depth, members_depth}
-use Rattle.schema_tab.proofs.Counting.{take_full}
+use Rattle.std.proofs.lemmas.List.{take_all}
 use Rattle.schema_tab.proofs.Measures.{item_falls, item_numerals, pair_falls, pair_numerals}
 use Rattle.schema_tab.proofs.Steps.{ReadsRows, rows_step, rows_fault, rows_end, rows_from, ReadsList, list_step, list_fault, list_end, list_from, drop_all}
 
@@ -125,7 +125,7 @@ pub media_end : (place : List ℕ) (members pairs : List (List ℕ × Json)) (i 
 media_end place members pairs i xs read same past is names h =
     let all : Gives_all medium (map (λ (m : List ℕ × Json). m.1) members) (map (λ (m : List ℕ × Media). medium_reading m.1) xs) =
     list_all medium place _ (map (λ (m : List ℕ × Json). m.1) pairs) i _ (ap (map (λ (m : List ℕ × Json). m.1)) same) (omega (arith, past, length-second pairs)) h in
-    let named : names_of members ≡ names_of xs = sym (names ∙ ap names_of (take_full pairs i past ∙ same)) in
+    let named : names_of members ≡ names_of xs = sym (names ∙ ap names_of (take_all i pairs past ∙ same)) in
     subst (λ (rs : List (List ℕ × Media)). Gives R.media (J.Map members) (V.Media rs)) (sym is) (media _ _ _ members xs refl refl named all refl)
 
 -- rows

@@ -2,6 +2,5 @@ pub mod Counting
 pub mod Exits
 pub mod Measures
 pub mod Members
-pub mod Numerals
 pub mod Steps
 pub mod Whole

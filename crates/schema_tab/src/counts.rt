@@ -10,7 +10,8 @@ use otio_model::{Children, Item, Object};
 /// What is left of a limit after the items of an object; none where there are more.
 #[cycle(objects)]
 pub(crate) fn left_after(limit: u32, object: &Object) -> Option<u32>
-    ensures { MatchOption result (limit < count_of object.now) (λ rest. rest + count_of object.now ≡ limit) }
+    ensures { MatchOption result (limit < count_of object.now) (λ rest.
+        rest + count_of object.now ≡ limit) }
 {
     match object {
         Object::Timeline(timeline) => after_children(limit, &timeline.tracks.children),
@@ -22,7 +23,8 @@ pub(crate) fn left_after(limit: u32, object: &Object) -> Option<u32>
 /// What is left of a limit after the items of objects; none where there are more.
 #[cycle(objects)]
 fn after_objects(limit: u32, objects: &[Object]) -> Option<u32>
-    ensures { MatchOption result (limit < counts_of objects.now) (λ rest. rest + counts_of objects.now ≡ limit) }
+    ensures { MatchOption result (limit < counts_of objects.now) (λ rest.
+        rest + counts_of objects.now ≡ limit) }
 {
     let mut left = limit;
     for object in objects {
@@ -32,9 +34,10 @@ fn after_objects(limit: u32, objects: &[Object]) -> Option<u32>
 }
 
 /// What is left of a limit after an item and the items below it; none where there are more.
-#[cycle(items)]
+#[tactic(auto, using(crate::proofs::Counting::item_count, crate::proofs::Counting::parent_count))]
 fn after_item(limit: u32, item: &Item) -> Option<u32>
-    ensures { MatchOption result (limit < count_of_item item.now) (λ rest. rest + count_of_item item.now ≡ limit) }
+    ensures { MatchOption result (limit < count_of_item item.now) (λ rest.
+        rest + count_of_item item.now ≡ limit) }
 {
     let left = limit.checked_sub(1)?;
     match item.children() {
@@ -44,16 +47,12 @@ fn after_item(limit: u32, item: &Item) -> Option<u32>
 }
 
 /// What is left of a limit after children and the items below them; none where there are more.
-#[cycle(items)]
 fn after_children(limit: u32, children: &Children) -> Option<u32>
-    ensures { MatchOption result (limit < count children.now) (λ rest. rest + count children.now ≡ limit) }
+    ensures { MatchOption result (limit < count children.now) (λ rest.
+        rest + count children.now ≡ limit) }
 {
-    let mut left = limit;
-    for index in 0..children.len() {
-        match children.item(index) {
-            Some(item) => left = after_item(left, item)?,
-            None => unreachable!(),
-        }
+    match u32::try_from(children.items_below()) {
+        Ok(items) => limit.checked_sub(items),
+        Err(_) => None,
     }
-    Some(left)
 }

@@ -1,4 +1,5 @@
-//! The reader of OpenTimelineIO objects: what a JSON value stands for by the tables of `schema_rows`, or its first fault.
+//! The reader of OpenTimelineIO objects: what a JSON value stands for by the tables of
+//! `schema_rows`, or its first fault.
 #![tactic(auto)]
 
 mod counts;
@@ -8,6 +9,3 @@ mod tables;
 
 pub use reader::read_fields;
 pub use roots::object_of;
-
-#[cfg(test)]
-mod tests;

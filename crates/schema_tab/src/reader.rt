@@ -11,8 +11,9 @@ ghost use Rattle.schema_rows.specs.Numerals.{HasNumerals};
 ghost use Rattle.schema_rows.specs.Families.{child, member as want_member, medium};
 ghost use Rattle.schema_rows.specs.Stands.{Gives, Gives_row, Gives_rows, Gives_fields};
 ghost use Rattle.schema_rows.specs.Faults.{Refuses, Refuses_row, Refuses_rows, Refuses_fields, Refuses_any};
+ghost use Rattle.schema_tab.specs.Kinds.{IsListed};
 
-use crate::tables::{finished, table_of};
+use crate::tables::finished;
 use json_value::{Json, JsonList, Members};
 use otio_model::Place;
 use schema_parts::absent::absent;
@@ -29,8 +30,8 @@ use schema_rows::{
 use sequences::{NamedValues, Sequence, Text};
 use std::alloc::Global;
 
-/// The values of the rows of a table that an object's members give, in the order of the table; or the first fault of the rows
-/// in their order, with all that stands inside them.
+/// The values of the rows of a table that an object's members give, in the order of the table; or
+/// the first fault of the rows in their order, with all that stands inside them.
 pub fn read_fields(
     alloc: Global,
     rows: &[Field],
@@ -39,8 +40,11 @@ pub fn read_fields(
 ) -> Result<Vec<Value>, SchemaFault>
     requires object { (members : List (List ℕ × Json)) × (value.now ≡ json.Map members) }
     requires numerals { HasNumerals value.now }
-    ensures values { IfOk result (λ values. (members : List (List ℕ × Json)) → value.now ≡ json.Map members → Gives_rows (map row_of rows.now) members values.items) }
-    ensures fault { IfErr result (λ fault. fault ≢ SchemaFault.Memory → (members : List (List ℕ × Json)) → value.now ≡ json.Map members → Refuses_rows place.now (map row_of rows.now) members fault) }
+    ensures values { IfOk result (λ values. (members : List (List ℕ × Json)) →
+        value.now ≡ json.Map members → Gives_rows (map row_of rows.now) members values.items) }
+    ensures fault { IfErr result (λ fault. fault ≢ SchemaFault.Memory →
+        (members : List (List ℕ × Json)) → value.now ≡ json.Map members →
+        Refuses_rows place.now (map row_of rows.now) members fault) }
 {
     match value {
         Json::Map(members) => read_rows(alloc, rows, members, place),
@@ -56,8 +60,10 @@ fn read_rows(
     place: &Place,
 ) -> Result<Vec<Value>, SchemaFault>
     requires numerals { HasNumerals (json.Map members.now) }
-    ensures values { IfOk result (λ values. Gives_rows (map row_of rows.now) members.now values.items) }
-    ensures fault { IfErr result (λ fault. fault ≢ SchemaFault.Memory → Refuses_rows place.now (map row_of rows.now) members.now fault) }
+    ensures values { IfOk result (λ values.
+        Gives_rows (map row_of rows.now) members.now values.items) }
+    ensures fault { IfErr result (λ fault. fault ≢ SchemaFault.Memory →
+        Refuses_rows place.now (map row_of rows.now) members.now fault) }
 {
     let mut values = Vec::with_capacity(alloc, rows.len())?;
     for row in rows {
@@ -76,7 +82,8 @@ fn read_row(
 ) -> Result<Value, SchemaFault>
     requires numerals { HasNumerals (json.Map members.now) }
     ensures value { IfOk result (Gives_row (row_of row.now) members.now) }
-    ensures fault { IfErr result (λ fault. fault ≢ SchemaFault.Memory → Refuses_row place.now (row_of row.now) members.now fault) }
+    ensures fault { IfErr result (λ fault. fault ≢ SchemaFault.Memory →
+        Refuses_row place.now (row_of row.now) members.now fault) }
 {
     match given(members, row.name) {
         Some(member) => read_member(alloc, row, member, place),
@@ -93,7 +100,8 @@ fn read_member(
 ) -> Result<Value, SchemaFault>
     requires numerals { HasNumerals value.now }
     ensures value { IfOk result (Gives (kind_of row.now.kind) value.now) }
-    ensures fault { IfErr result (λ fault. fault ≢ SchemaFault.Memory → Refuses place.now (row_of row.now) value.now fault) }
+    ensures fault { IfErr result (λ fault. fault ≢ SchemaFault.Memory →
+        Refuses place.now (row_of row.now) value.now fault) }
 {
     match row.kind {
         Kind::Text(_) => text_of(alloc, row, value, place),
@@ -114,22 +122,10 @@ fn read_member(
             let found = read_object(alloc, &STACKS, value, place)?;
             tracks_of(alloc, value, place, found)
         }
-        Kind::Items => match value {
-            Json::List(list) => read_items(alloc, list, place),
-            _ => Err(field_fault(alloc, row, place)),
-        },
-        Kind::Objects => match value {
-            Json::List(list) => read_objects(alloc, list, place),
-            _ => Err(field_fault(alloc, row, place)),
-        },
-        Kind::Effects => match value {
-            Json::List(list) => read_effects(alloc, list, place),
-            _ => Err(field_fault(alloc, row, place)),
-        },
-        Kind::Markers => match value {
-            Json::List(list) => read_markers(alloc, list, place),
-            _ => Err(field_fault(alloc, row, place)),
-        },
+        Kind::Items => read_list(alloc, row, value, place),
+        Kind::Objects => read_list(alloc, row, value, place),
+        Kind::Effects => read_list(alloc, row, value, place),
+        Kind::Markers => read_list(alloc, row, value, place),
         Kind::Media => match value {
             Json::Map(members) => read_media(alloc, members, place),
             _ => Err(field_fault(alloc, row, place)),
@@ -137,14 +133,36 @@ fn read_member(
     }
 }
 
+/// The list of a row of lists.
+#[cycle(object)]
+fn read_list(alloc: Global, row: &Field, value: &Json, place: &Place) -> Result<Value, SchemaFault>
+    requires listed { IsListed row.now.kind }
+    requires numerals { HasNumerals value.now }
+    ensures value { IfOk result (Gives (kind_of row.now.kind) value.now) }
+    ensures fault { IfErr result (λ fault. fault ≢ SchemaFault.Memory →
+        Refuses place.now (row_of row.now) value.now fault) }
+{
+    match value {
+        Json::List(list) => match row.kind {
+            Kind::Items => read_items(alloc, list, place),
+            Kind::Objects => read_objects(alloc, list, place),
+            Kind::Effects => read_effects(alloc, list, place),
+            Kind::Markers => read_markers(alloc, list, place),
+            _ => unreachable!(),
+        },
+        _ => Err(field_fault(alloc, row, place)),
+    }
+}
+
 #[cycle(object)]
 fn read_items(alloc: Global, list: &JsonList, place: &Place) -> Result<Value, SchemaFault>
     requires numerals { HasNumerals (json.List list.now) }
     ensures value { IfOk result (Gives rows_are.items (json.List list.now)) }
-    ensures fault { IfErr result (λ fault. fault ≢ SchemaFault.Memory → Refuses_any (child families.ITEMS) place.now 0 list.now fault) }
+    ensures fault { IfErr result (λ fault. fault ≢ SchemaFault.Memory →
+        Refuses_any (child families.ITEMS) place.now 0 list.now fault) }
 {
     let values = list.as_slice();
-    let mut items = Vec::new(alloc);
+    let mut items = Vec::with_capacity(alloc, values.len())?;
     for (index, value) in values.iter().enumerate() {
         let here = child_place(alloc, place, index)?;
         let found = read_object(alloc, &ITEMS, value, &here)?;
@@ -158,10 +176,11 @@ fn read_items(alloc: Global, list: &JsonList, place: &Place) -> Result<Value, Sc
 fn read_objects(alloc: Global, list: &JsonList, place: &Place) -> Result<Value, SchemaFault>
     requires numerals { HasNumerals (json.List list.now) }
     ensures value { IfOk result (Gives rows_are.objects (json.List list.now)) }
-    ensures fault { IfErr result (λ fault. fault ≢ SchemaFault.Memory → Refuses_any (child families.ROOTS) place.now 0 list.now fault) }
+    ensures fault { IfErr result (λ fault. fault ≢ SchemaFault.Memory →
+        Refuses_any (child families.ROOTS) place.now 0 list.now fault) }
 {
     let values = list.as_slice();
-    let mut objects = Vec::new(alloc);
+    let mut objects = Vec::with_capacity(alloc, values.len())?;
     for (index, value) in values.iter().enumerate() {
         let here = child_place(alloc, place, index)?;
         let found = read_object(alloc, &ROOTS, value, &here)?;
@@ -175,10 +194,11 @@ fn read_objects(alloc: Global, list: &JsonList, place: &Place) -> Result<Value, 
 fn read_effects(alloc: Global, list: &JsonList, place: &Place) -> Result<Value, SchemaFault>
     requires numerals { HasNumerals (json.List list.now) }
     ensures value { IfOk result (Gives rows_are.effects (json.List list.now)) }
-    ensures fault { IfErr result (λ fault. fault ≢ SchemaFault.Memory → Refuses_any (want_member families.EFFECTS) place.now 0 list.now fault) }
+    ensures fault { IfErr result (λ fault. fault ≢ SchemaFault.Memory →
+        Refuses_any (want_member families.EFFECTS) place.now 0 list.now fault) }
 {
     let values = list.as_slice();
-    let mut effects = Vec::new(alloc);
+    let mut effects = Vec::with_capacity(alloc, values.len())?;
     for value in values {
         let found = read_object(alloc, &EFFECTS, value, place)?;
         let effect = effect_of(alloc, value, found)?;
@@ -191,10 +211,11 @@ fn read_effects(alloc: Global, list: &JsonList, place: &Place) -> Result<Value, 
 fn read_markers(alloc: Global, list: &JsonList, place: &Place) -> Result<Value, SchemaFault>
     requires numerals { HasNumerals (json.List list.now) }
     ensures value { IfOk result (Gives rows_are.markers (json.List list.now)) }
-    ensures fault { IfErr result (λ fault. fault ≢ SchemaFault.Memory → Refuses_any (want_member families.MARKERS) place.now 0 list.now fault) }
+    ensures fault { IfErr result (λ fault. fault ≢ SchemaFault.Memory →
+        Refuses_any (want_member families.MARKERS) place.now 0 list.now fault) }
 {
     let values = list.as_slice();
-    let mut markers = Vec::new(alloc);
+    let mut markers = Vec::with_capacity(alloc, values.len())?;
     for value in values {
         let found = read_object(alloc, &MARKERS, value, place)?;
         let marker = marker_of(alloc, value, found)?;
@@ -207,10 +228,11 @@ fn read_markers(alloc: Global, list: &JsonList, place: &Place) -> Result<Value, 
 fn read_media(alloc: Global, members: &Members, place: &Place) -> Result<Value, SchemaFault>
     requires numerals { HasNumerals (json.Map members.now) }
     ensures value { IfOk result (Gives rows_are.media (json.Map members.now)) }
-    ensures fault { IfErr result (λ fault. fault ≢ SchemaFault.Memory → Refuses_any medium place.now 0 (map (λ member. member.1) members.now) fault) }
+    ensures fault { IfErr result (λ fault. fault ≢ SchemaFault.Memory →
+        Refuses_any medium place.now 0 (map (λ member. member.1) members.now) fault) }
 {
     let pairs = members.as_slice();
-    let mut media = Vec::new(alloc);
+    let mut media = Vec::with_capacity(alloc, pairs.len())?;
     for pair in pairs {
         let found = read_object(alloc, &MEDIA, &pair.1, place)?;
         let reference = medium_of(alloc, &pair.1, found)?;
@@ -229,8 +251,10 @@ pub(crate) fn read_object(
     place: &Place,
 ) -> Result<Option<Fields>, SchemaFault>
     requires numerals { HasNumerals value.now }
-    ensures fields { IfOk result (λ found. MatchOption found (IsForeign family.now value.now) (Gives_fields family.now value.now)) }
-    ensures fault { IfErr result (λ fault. fault ≢ SchemaFault.Memory → Refuses_fields place.now family.now value.now fault) }
+    ensures fields { IfOk result (λ found.
+        MatchOption found (IsForeign family.now value.now) (Gives_fields family.now value.now)) }
+    ensures fault { IfErr result (λ fault. fault ≢ SchemaFault.Memory →
+        Refuses_fields place.now family.now value.now fault) }
 {
     match found_object(value) {
         Some(found) => match named(family, found.name) {
@@ -238,7 +262,7 @@ pub(crate) fn read_object(
                 if found.version > schema.version() {
                     return Err(newer_fault(alloc, place));
                 }
-                let values = read_rows(alloc, table_of(schema), found.members, place)?;
+                let values = read_rows(alloc, schema.table(), found.members, place)?;
                 finished(alloc, schema, values, found.members, place)
             }
             None => Ok(None),

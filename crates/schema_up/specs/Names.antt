@@ -1,5 +1,6 @@
--- The schema that an object names: the text of its member `OTIO_SCHEMA`, a name without points, a point and a version of
--- one to nine digits. An old name and a first version are told from the others.
+-- The schema that an object names: the text of its member `OTIO_SCHEMA`, a name without points, a
+-- point and a version of one to nine digits. An old name and a first version are told from the
+-- others.
 use Rattle.std.specs.Prelude.{◌≡◌, ◌==◌, ℕ, Bool, ◌&&◌, nat_lt, nat_le, List, length, Option, Some, None, if◌then◌else◌, codes}
 use Rattle.std.specs.List.{before_first, after_first, list_all}
 use Rattle.std.specs.Char.{is_ascii_digit}
@@ -23,7 +24,8 @@ pub record IsSplit (text before behind : List ℕ) : Type 0 where
 -- the number that one to nine digits write
 abbrev pub version_in : List ℕ → Option ℕ
 version_in digits =
-    if nat_lt 0 (length digits) && nat_le (length digits) 9 && list_all is_ascii_digit digits then Some (digits_value 10 digits) else None
+    if nat_lt 0 (length digits) && nat_le (length digits) 9 && list_all is_ascii_digit digits
+    then Some (digits_value 10 digits) else None
 
 -- the schema of a name, in its first version or another
 abbrev pub named : List ℕ → Bool → Schema

@@ -1,5 +1,5 @@
--- What stands at a member of an object, by the tables of the schemas: a value that is kept as it is, an object, a list of
--- objects, or media, which are objects under names.
+-- What stands at a member of an object, by the tables of the schemas: a value that is kept as it
+-- is, an object, a list of objects, or media, which are objects under names.
 use Rattle.std.specs.Prelude.{ℕ, Bool, true, false, List, if◌then◌else◌, codes}
 use Rattle.std.specs.Str.{bytes_eq}
 use Rattle.schema_up.specs.declared.names.Schema.{Schema}
@@ -13,13 +13,16 @@ where_holds false row = Kept
 
 -- a stack or a track: its children and its markers
 abbrev pub parent_row_of : List ℕ → Row
-parent_row_of member = if bytes_eq member (codes "children") then Objects else where_holds (bytes_eq member (codes "markers")) Objects
+parent_row_of member = if bytes_eq member (codes "children") then Objects
+    else where_holds (bytes_eq member (codes "markers")) Objects
 
 -- a clip: its media under this name, and its markers
 abbrev pub clip_row_of : List ℕ → Row → List ℕ → Row
-clip_row_of media row member = if bytes_eq member media then row else where_holds (bytes_eq member (codes "markers")) Objects
+clip_row_of media row member = if bytes_eq member media then row
+    else where_holds (bytes_eq member (codes "markers")) Objects
 
--- the member of a name in an object of a schema: in metadata, in effects and in members that no table has, values are kept
+-- the member of a name in an object of a schema: in metadata, in effects and in members that no
+-- table has, values are kept
 abbrev pub row_of : Schema → List ℕ → Row
 row_of Timeline member = where_holds (bytes_eq member (codes "tracks")) Object
 row_of Collection member = where_holds (bytes_eq member (codes "children")) Objects

@@ -28,7 +28,8 @@ without name (m ∷ ms) = if bytes_eq name m.0 then ms else m ∷ without name m
 -- the members, where the one of the old name has the new name
 abbrev pub named_anew : List ℕ → List ℕ → Pairs → Pairs
 named_anew old new [] = []
-named_anew old new (m ∷ ms) = if bytes_eq old m.0 then (new, m.1) ∷ ms else m ∷ named_anew old new ms
+named_anew old new (m ∷ ms) = if bytes_eq old m.0 then (new, m.1) ∷ ms
+    else m ∷ named_anew old new ms
 
 -- the version of a schema's text, with the point before it
 abbrev pub version_part : Option (List ℕ) → List ℕ
@@ -61,19 +62,25 @@ medium_of (Some value) = medium_in (out-Json value) value
 abbrev pub media_of : Json → Json
 media_of medium = Map ((codes "DEFAULT_MEDIA", medium) ∷ [])
 
--- the members of a clip of the first version without its one reference and without members of the new names
+-- the members of a clip of the first version without its one reference and without members of the
+-- new names
 abbrev pub clip_kept : Pairs → Pairs
-clip_kept members = without (codes "active_media_reference_key") (without (codes "media_references") (without (codes "media_reference") members))
+clip_kept members = without (codes "active_media_reference_key")
+    (without (codes "media_references") (without (codes "media_reference") members))
 
--- a clip of the second version: at the end its media, which are those of the one reference, and `DEFAULT_MEDIA` as the active key
+-- a clip of the second version: at the end its media, which are those of the one reference, and
+-- `DEFAULT_MEDIA` as the active key
 abbrev pub second_clip : Pairs → Pairs
 second_clip members =
     let media = media_of (medium_of (value_of (codes "media_reference") members)) in
-    put (codes "active_media_reference_key") (Str (codes "DEFAULT_MEDIA")) (put (codes "media_references") media (with_schema (codes "Clip.2") (clip_kept members)))
+    put (codes "active_media_reference_key") (Str (codes "DEFAULT_MEDIA"))
+    (put (codes "media_references") media (with_schema (codes "Clip.2") (clip_kept members)))
 
--- a marker of the second version: without a member `marked_range`, then with `range` under that name, in its place
+-- a marker of the second version: without a member `marked_range`, then with `range` under that
+-- name, in its place
 abbrev pub second_marker : Pairs → Pairs
-second_marker members = with_schema (codes "Marker.2") (named_anew (codes "range") (codes "marked_range") (without (codes "marked_range") members))
+second_marker members = with_schema (codes "Marker.2")
+    (named_anew (codes "range") (codes "marked_range") (without (codes "marked_range") members))
 
 -- an object's members with its old name or version rewritten
 abbrev pub renewed : Schema → Pairs → Pairs
@@ -90,7 +97,8 @@ renewed Filler members = with_name (codes "Gap") members
 renewed FirstMarker members = second_marker members
 renewed Other members = members
 
--- the members of an object at a place, once those inside are rewritten: only an object of its own is renewed
+-- the members of an object at a place, once those inside are rewritten: only an object of its own
+-- is renewed
 abbrev pub renewed_at : Row → Schema → Pairs → Pairs
 renewed_at Kept schema members = members
 renewed_at Object schema members = renewed schema members
@@ -103,7 +111,8 @@ schema_among members = schema_in (map (λ member. (member.0, member.1 Kept)) mem
 
 -- the members of an object at a place, each rewritten by what stands there
 abbrev pub members_at : Row → Schema → List (List ℕ × (Row → Json)) → Pairs
-members_at row schema members = map (λ member. (member.0, member.1 (member_row row schema member.0))) members
+members_at row schema members =
+    map (λ member. (member.0, member.1 (member_row row schema member.0))) members
 
 -- a value, with the values right inside it known by what they become at each place
 abbrev pub upgrade_step : Json-F (Row → Json) → Row → Json
@@ -112,7 +121,8 @@ upgrade_step (Json-F.Bool b) row = JsonOfBool b
 upgrade_step (Json-F.Num numeral) row = Num numeral
 upgrade_step (Json-F.Str text) row = Str text
 upgrade_step (Json-F.List items) row = JsonOfList (map (λ item. item (item_row row)) items)
-upgrade_step (Json-F.Map members) row = Map (renewed_at row (schema_among members) (members_at row (schema_among members) members))
+upgrade_step (Json-F.Map members) row =
+    Map (renewed_at row (schema_among members) (members_at row (schema_among members) members))
 
 -- what a value becomes at a place
 abbrev pub upgraded_at : Json → Row → Json
@@ -134,6 +144,7 @@ pair_at row schema member = (member.0, upgraded_at member.1 (member_row row sche
 abbrev pub pairs_at : Row → Schema → Pairs → Pairs
 pairs_at row schema members = map (pair_at row schema) members
 
--- what an object's members become at a place: the values inside them first, and then their old name or version
+-- what an object's members become at a place: the values inside them first, and then their old name
+-- or version
 abbrev pub map_at : Row → Pairs → Pairs
 map_at row members = renewed_at row (schema_in members) (pairs_at row (schema_in members) members)

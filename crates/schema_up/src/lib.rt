@@ -1,4 +1,5 @@
-//! Upgrades of OpenTimelineIO objects: old names and versions of schemas are rewritten in the objects' JSON.
+//! Upgrades of OpenTimelineIO objects: old names and versions of schemas are rewritten in the
+//! objects' JSON.
 #![tactic(auto)]
 
 mod names;

@@ -45,7 +45,7 @@ fn is(text: &str, other: &str) -> bool
     text == other
 }
 
-// The text of the member `OTIO_SCHEMA`, where that is a string.
+/// The text of the member `OTIO_SCHEMA`, where that is a string.
 pub fn schema_text(members: &Members) -> Option<&str>
     ensures { option_copied result ≡ text_in members.now }
 {
@@ -55,7 +55,7 @@ pub fn schema_text(members: &Members) -> Option<&str>
     }
 }
 
-// The schema that an object's members name.
+/// The schema that an object's members name.
 pub fn schema_of(members: &Members) -> Schema
     ensures { result ≡ schema_in members.now }
 {
@@ -65,15 +65,17 @@ pub fn schema_of(members: &Members) -> Schema
     }
 }
 
-// What stands before the first point of a text, and what stands behind it; none where there is no point.
+// What stands before the first point of a text, and what stands behind it; none where there is no
+// point.
 #[tactic(auto, using(crate::proofs::Points::at_point))]
 fn split_point(text: &str) -> Option<(&str, &str)>
-    ensures { MatchOption result (after_first is_point text.now ≡ []) (λ parts. IsSplit text.now parts.0.now parts.1.now) }
+    ensures { MatchOption result (after_first is_point text.now ≡ [])
+        (λ parts. IsSplit text.now parts.0.now parts.1.now) }
 {
     text.split_once('.')
 }
 
-// What stands behind the first point of a text; nothing where there is no point.
+/// What stands behind the first point of a text; nothing where there is no point.
 pub fn behind_point(text: &str) -> &str
     ensures { result.now ≡ after_first is_point text.now }
 {
@@ -161,7 +163,7 @@ impl Schema {
     ghost use Rattle.std.specs.Prelude.{Bool};
     ghost use Rattle.schema_up.specs.Rows.{row_of};
 
-    // What stands at the member of that name in an object of this schema.
+    /// What stands at the member of that name in an object of this schema.
     pub fn row(self, member: &str) -> Row
         ensures { result ≡ row_of self member.now }
     {
@@ -209,7 +211,7 @@ fn clip_row(member: &str, media: &str, row: Row) -> Row
 impl Row {
     ghost use Rattle.schema_up.specs.Rows.{item_row, member_row};
 
-    // What stands at each item of a list at this place.
+    /// What stands at each item of a list at this place.
     pub fn item(self) -> Row
         ensures { result ≡ item_row self }
     {
@@ -219,7 +221,7 @@ impl Row {
         }
     }
 
-    // What stands at the member of that name of an object of this schema at this place.
+    /// What stands at the member of that name of an object of this schema at this place.
     pub fn member(self, schema: Schema, name: &str) -> Row
         ensures { result ≡ member_row self schema name.now }
     {

@@ -10,7 +10,8 @@ use json_value::{Json, Members};
 use sequences::{NamedValues, Text};
 use std::alloc::{AllocError, Global};
 
-// The members of an object of this schema, with an old name or version rewritten.
+/// The members of an object of this schema, with an old name or version rewritten. An error comes
+/// where memory runs out.
 pub fn renew(alloc: Global, members: Members, schema: Schema) -> Result<Members, AllocError>
     ensures { IfOk result (λ made. made ≡ upgrades.renewed schema members) }
 {

@@ -10,14 +10,16 @@ use sequences::{NamedValues, Sequence};
 use std::alloc::{AllocError, Global};
 use std::mem;
 
-/// The value with old names and old versions of OpenTimelineIO schemas rewritten, in the object that it is and in the
-/// objects that it holds in `children`, `tracks`, `markers`, `media_references` and `media_reference`. Nothing else
-/// changes, and what isn't rewritten stays in its memory.
+/// The value with old names and old versions of OpenTimelineIO schemas rewritten, in the object
+/// that it is and in the objects that it holds in `children`, `tracks`, `markers`,
+/// `media_references` and `media_reference`. Nothing else changes, and what isn't rewritten stays
+/// in its memory.
 ///
-/// - `Sequence`, `Filler` and `SerializeableCollection` become `Track`, `Gap` and `SerializableCollection`, of the same version.
-/// - `Clip.1` becomes `Clip.2`: its `media_reference` becomes the one medium of `media_references`, at the key
-///   `DEFAULT_MEDIA`, which is its `active_media_reference_key`. Where it is absent or null, the medium is
-///   `{"OTIO_SCHEMA": "MissingReference.1"}`.
+/// - `Sequence`, `Filler` and `SerializeableCollection` become `Track`, `Gap` and
+///   `SerializableCollection`, of the same version.
+/// - `Clip.1` becomes `Clip.2`: its `media_reference` becomes the one medium of `media_references`,
+///   at the key `DEFAULT_MEDIA`, which is its `active_media_reference_key`. Where it is absent or
+///   null, the medium is `{"OTIO_SCHEMA": "MissingReference.1"}`.
 /// - `Marker.1` becomes `Marker.2`: its `range` is named `marked_range`.
 /// - Members of the new names that such a clip or marker has already are dropped.
 ///

@@ -73,9 +73,11 @@ pub all_added : {X : Type 0} (new behind front none rows rest : List X) (x : X) 
 all_added new behind front none rows rest x a b c d =
     a ∙ ap (λ l. l ++ rest) (b ∙ ap (λ l. l ++ rows) (c ∙ ap (λ l. l ++ x ∷ []) d))
 
-pub length-rows : (table : List Field) (values : List Json) → length values ≡ length table → length values ≡ length (map row_of table)
-length-rows table values h = h ∙ same table
+-- as many values as a table has rows
+pub table-length : (table : List Field) (values : List Json)
+    → length values ≡ length (map row_of table) → length values ≡ length table
+table-length table values h = h ∙ same table
   where
-    same : (table : List Field) → length table ≡ length (map row_of table)
+    same : (table : List Field) → length (map row_of table) ≡ length table
     same [] = refl
     same (f ∷ table) = ap suc (same table)

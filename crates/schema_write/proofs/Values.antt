@@ -5,7 +5,8 @@ use Rattle.otio_model.specs.declared.sources.Media.{Media}
 use Rattle.sequences.specs.Pairs.{names_of}
 use Rattle.schema_rows.specs.declared.schemas.Schema.{Schema}
 use Rattle.schema_write.specs.Written.{written}
-use Rattle.schema_write.specs.Objects.{plain_schema, medium_pair}
+use Rattle.schema_rows.specs.Readings.{plain_schema}
+use Rattle.schema_write.specs.Objects.{medium_pair}
 
 pub cons : {x y : Json} {xs ys : List Json} → x ≡ y → xs ≡ ys → (x ∷ xs) ≡ (y ∷ ys)
 cons p q = ap₂ (λ v vs. v ∷ vs) p q

@@ -1,5 +1,5 @@
 -- Objects of OpenTimelineIO in JSON, by the tables of their schemas.
-use Rattle.std.specs.Prelude.{ℕ, Bool, true, false, List, [], ◌∷◌, Option, Some, None, map, codes}
+use Rattle.std.specs.Prelude.{ℕ, List, [], ◌∷◌, Option, Some, None, map, codes}
 use Rattle.json_value.specs.declared.Json.{Json, Null, Bool as JsonOfBool, Num, Str, List as JsonOfList, Map}
 use Rattle.tick_time.specs.declared.times.Time.{Time}
 use Rattle.tick_time.specs.declared.spans.Span.{Span}
@@ -30,8 +30,8 @@ use Rattle.otio_model.specs.declared.sources.External.{External}
 use Rattle.otio_model.specs.declared.sources.Missing.{Missing}
 use Rattle.otio_model.specs.declared.sources.Generator.{Generator}
 use Rattle.otio_model.specs.declared.sources.Sequence.{Sequence}
-use Rattle.schema_rows.specs.declared.schemas.Schema.{Schema}
 use Rattle.schema_rows.specs.declared.schemas.Schema.TheVariants as S
+use Rattle.schema_rows.specs.Readings.{plain_schema}
 use Rattle.schema_write.specs.Texts.{decimal_text, rate_text, value_text}
 use Rattle.schema_write.specs.Written.{written}
 
@@ -55,19 +55,20 @@ span_json (Some span) = range_json span
 
 -- LinearTimeWarp.1
 abbrev pub warp_json : Warp → Json
-warp_json w = written S.Warp (Map w.metadata ∷ Str w.name ∷ Str w.effect_name ∷ Num (decimal_text w.time_scalar) ∷ []) w.rest
+warp_json w =
+    written S.Warp (Map w.metadata ∷ Str w.name ∷ Str w.effect_name
+    ∷ Num (decimal_text w.time_scalar) ∷ []) w.rest
 
 -- FreezeFrame.1, whose speed is 0 whatever its field holds
 abbrev pub freeze_json : Freeze → Json
-freeze_json f = written S.Freeze (Map f.metadata ∷ Str f.name ∷ Str f.effect_name ∷ Num (codes "0.0") ∷ []) f.rest
+freeze_json f =
+    written S.Freeze (Map f.metadata ∷ Str f.name ∷ Str f.effect_name ∷ Num (codes "0.0")
+    ∷ []) f.rest
 
 -- TimeEffect.1 or Effect.1
-abbrev pub plain_schema : Bool → Schema
-plain_schema true = S.TimeEffect
-plain_schema false = S.Effect
-
 abbrev pub plain_json : Plain → Json
-plain_json p = written (plain_schema p.timed) (Map p.metadata ∷ Str p.name ∷ Str p.effect_name ∷ []) p.rest
+plain_json p =
+    written (plain_schema p.timed) (Map p.metadata ∷ Str p.name ∷ Str p.effect_name ∷ []) p.rest
 
 abbrev pub effect_json : Effect → Json
 effect_json (E.Warp w) = warp_json w
@@ -85,19 +86,26 @@ marker_json (K.Kept json) = json
 
 -- ExternalReference.1
 abbrev pub external_json : External → Json
-external_json e = written S.External (Map e.metadata ∷ Str e.name ∷ span_json e.available_range ∷ Str e.target_url ∷ []) e.rest
+external_json e =
+    written S.External (Map e.metadata ∷ Str e.name ∷ span_json e.available_range ∷ Str e.target_url
+    ∷ []) e.rest
 
 -- MissingReference.1
 abbrev pub missing_json : Missing → Json
-missing_json m = written S.Missing (Map m.metadata ∷ Str m.name ∷ span_json m.available_range ∷ []) m.rest
+missing_json m =
+    written S.Missing (Map m.metadata ∷ Str m.name ∷ span_json m.available_range ∷ []) m.rest
 
 -- GeneratorReference.1
 abbrev pub generator_json : Generator → Json
-generator_json g = written S.Generator (Map g.metadata ∷ Str g.name ∷ span_json g.available_range ∷ Str g.generator_kind ∷ []) g.rest
+generator_json g =
+    written S.Generator (Map g.metadata ∷ Str g.name ∷ span_json g.available_range
+    ∷ Str g.generator_kind ∷ []) g.rest
 
 -- ImageSequenceReference.1
 abbrev pub images_json : Sequence → Json
-images_json s = written S.Images (Map s.metadata ∷ Str s.name ∷ span_json s.available_range ∷ Str s.target_url_base ∷ Str s.name_prefix ∷ Str s.name_suffix ∷ []) s.rest
+images_json s =
+    written S.Images (Map s.metadata ∷ Str s.name ∷ span_json s.available_range
+    ∷ Str s.target_url_base ∷ Str s.name_prefix ∷ Str s.name_suffix ∷ []) s.rest
 
 abbrev pub medium_json : Media → Json
 medium_json (M.External e) = external_json e
@@ -122,28 +130,34 @@ markers_json markers = JsonOfList (map marker_json markers)
 -- Clip.2
 abbrev pub clip_json : Clip → Json
 clip_json c = written S.Clip (
-    Map c.metadata ∷ Str c.name ∷ span_json c.source_range ∷ effects_json c.effects ∷ markers_json c.markers ∷ JsonOfBool c.enabled
+    Map c.metadata ∷ Str c.name ∷ span_json c.source_range ∷ effects_json c.effects
+    ∷ markers_json c.markers ∷ JsonOfBool c.enabled
     ∷ media_json c.media_references ∷ Str c.active_media_reference_key ∷ []) c.rest
 
 -- Gap.1
 abbrev pub gap_json : Gap → Json
 gap_json g = written S.Gap (
-    Map g.metadata ∷ Str g.name ∷ span_json g.source_range ∷ effects_json g.effects ∷ markers_json g.markers ∷ JsonOfBool g.enabled ∷ []) g.rest
+    Map g.metadata ∷ Str g.name ∷ span_json g.source_range ∷ effects_json g.effects
+    ∷ markers_json g.markers ∷ JsonOfBool g.enabled ∷ []) g.rest
 
 -- Transition.1
 abbrev pub transition_json : Transition → Json
-transition_json t = written S.Transition (Map t.metadata ∷ Str t.name ∷ Str t.transition_type ∷ offset_json t.in_offset ∷ offset_json t.out_offset ∷ []) t.rest
+transition_json t =
+    written S.Transition (Map t.metadata ∷ Str t.name ∷ Str t.transition_type
+    ∷ offset_json t.in_offset ∷ offset_json t.out_offset ∷ []) t.rest
 
 -- Stack.1, its children being known in JSON
 abbrev pub stack_by : {C : Type 0} → (C → List Json) → StackOf C → Json
 stack_by f s = written S.Stack (
-    Map s.metadata ∷ Str s.name ∷ span_json s.source_range ∷ effects_json s.effects ∷ markers_json s.markers ∷ JsonOfBool s.enabled
+    Map s.metadata ∷ Str s.name ∷ span_json s.source_range ∷ effects_json s.effects
+    ∷ markers_json s.markers ∷ JsonOfBool s.enabled
     ∷ JsonOfList (f s.children) ∷ []) s.rest
 
 -- Track.1, its children being known in JSON
 abbrev pub track_by : {C : Type 0} → (C → List Json) → TrackOf C → Json
 track_by f t = written S.Track (
-    Map t.metadata ∷ Str t.name ∷ span_json t.source_range ∷ effects_json t.effects ∷ markers_json t.markers ∷ JsonOfBool t.enabled
+    Map t.metadata ∷ Str t.name ∷ span_json t.source_range ∷ effects_json t.effects
+    ∷ markers_json t.markers ∷ JsonOfBool t.enabled
     ∷ JsonOfList (f t.children) ∷ Str t.kind ∷ []) t.rest
 
 -- an item, its children being known in JSON
@@ -166,7 +180,9 @@ item_json = item_by children_json
 
 -- Timeline.1
 abbrev pub timeline_json : Timeline → Json
-timeline_json t = written S.Timeline (Map t.metadata ∷ Str t.name ∷ offset_json t.global_start_time ∷ stack_by children_json t.tracks ∷ []) t.rest
+timeline_json t =
+    written S.Timeline (Map t.metadata ∷ Str t.name ∷ offset_json t.global_start_time
+    ∷ stack_by children_json t.tracks ∷ []) t.rest
 
 -- an object, those in it being known in JSON
 abbrev pub object_step : Object-F Json Json → Json
@@ -176,7 +192,8 @@ object_step (Object-F.Item i) = item_json i
 
 -- SerializableCollection.1, the objects in it being known in JSON
 abbrev pub collection_step : Collection-F Json Json → Json
-collection_step c = written S.Collection (Map c.metadata ∷ Str c.name ∷ JsonOfList c.children ∷ []) c.rest
+collection_step c =
+    written S.Collection (Map c.metadata ∷ Str c.name ∷ JsonOfList c.children ∷ []) c.rest
 
 -- an object in JSON
 abbrev pub json_of : Object → Json
@@ -186,4 +203,5 @@ json_of = fold-Object Json Json object_step collection_step
 abbrev pub collection_json : Collection → Json
 collection_json collection =
     let c = out-Collection collection in
-    written S.Collection (Map c.metadata ∷ Str c.name ∷ JsonOfList (map json_of c.children) ∷ []) c.rest
+    written S.Collection (Map c.metadata ∷ Str c.name ∷ JsonOfList (map json_of c.children)
+    ∷ []) c.rest

@@ -1,4 +1,5 @@
--- The written form of objects by the tables of their schemas: a value for each row, then the other members.
+-- The written form of objects by the tables of their schemas: a value for each row, then the other
+-- members.
 use Rattle.std.specs.Prelude.{ℕ, ◌*◌, ◌/◌, ◌^◌, List, map}
 use Rattle.json_value.specs.declared.Json.{Json, Bool as JsonOfBool, Num, Str, List as JsonOfList, Map}
 use Rattle.tick_time.specs.declared.decimals.Decimal.{Decimal}
@@ -15,7 +16,8 @@ use Rattle.schema_write.specs.Objects.{offset_json, span_json, effects_json, mar
 
 -- the whole millionths of a decimal
 abbrev pub millionths_text : Decimal → List ℕ
-millionths_text d = decimal_text (signed d.neg (d.digits * 10 ^ raised d.exp * 1000000 / 10 ^ lowered d.exp))
+millionths_text d =
+    decimal_text (signed d.neg (d.digits * 10 ^ raised d.exp * 1000000 / 10 ^ lowered d.exp))
 
 -- the value of a row in JSON
 abbrev pub value_json : Value → Json
@@ -36,7 +38,9 @@ value_json (V.Numeral decimal) = Num (millionths_text decimal)
 
 -- an object of a schema by its fields; a freeze frame's speed is 0 whatever its field holds
 abbrev pub fields_json : Fields → Json
-fields_json fields = written fields.schema (map (λ value. value_json (stilled fields.schema value)) fields.values) fields.rest
+fields_json fields =
+    written fields.schema (map (λ value.
+    value_json (stilled fields.schema value)) fields.values) fields.rest
 
 -- what was read, or the value that was kept
 abbrev pub reading_json : Reading → Json

@@ -17,6 +17,9 @@ named_values [] values = []
 named_values (row ∷ rows) [] = []
 named_values (row ∷ rows) (value ∷ values) = (row.name, value) ∷ named_values rows values
 
--- the object's schema, then the values of the schema's rows from left to right, then the other members in their order
+-- the object's schema, then the values of the schema's rows from left to right, then the other
+-- members in their order
 abbrev pub written : Schema → List Json → List (List ℕ × Json) → Json
-written schema values rest = Map ((schema_key, Str (text_of schema)) ∷ (named_values (rows_of schema) values ++ others (rows_of schema) rest))
+written schema values rest =
+    Map ((schema_key, Str (text_of schema))
+    ∷ (named_values (rows_of schema) values ++ others (rows_of schema) rest))

@@ -1,4 +1,5 @@
-// Effects.
+//! Effects.
+
 ghost use Rattle.std.specs.Prelude.{◌≡◌, IfOk};
 ghost use Rattle.schema_write.specs.Objects as objects;
 
@@ -6,11 +7,11 @@ use crate::numerals::{speed_numeral, zero_numeral};
 use crate::writing::{object, string, written};
 use json_value::{Json, copy_json};
 use otio_model::{Effect, Effects, Freeze, Plain, Warp};
-use schema_rows::{EFFECT, FREEZE, Schema, TIME_EFFECT, WARP};
+use schema_rows::Schema;
 use sequences::Sequence;
 use std::alloc::{AllocError, Global};
 
-// The effects of an item, in order.
+/// The effects of an item, in order.
 pub fn effects_json(alloc: Global, effects: &Effects) -> Result<Json, AllocError>
     ensures { IfOk result (λ json. json ≡ objects.effects_json effects.now) }
 {
@@ -41,7 +42,7 @@ fn warp_json(alloc: Global, warp: &Warp) -> Result<Json, AllocError>
     let effect_name = string(alloc, &warp.effect_name)?;
     let speed = speed_numeral(alloc, warp.time_scalar)?;
     let values = vec![in alloc; metadata, name, effect_name, speed]?;
-    written(alloc, Schema::Warp, &WARP, values, &warp.rest)
+    written(alloc, Schema::Warp, values, &warp.rest)
 }
 
 fn freeze_json(alloc: Global, freeze: &Freeze) -> Result<Json, AllocError>
@@ -52,7 +53,7 @@ fn freeze_json(alloc: Global, freeze: &Freeze) -> Result<Json, AllocError>
     let effect_name = string(alloc, &freeze.effect_name)?;
     let speed = zero_numeral(alloc)?;
     let values = vec![in alloc; metadata, name, effect_name, speed]?;
-    written(alloc, Schema::Freeze, &FREEZE, values, &freeze.rest)
+    written(alloc, Schema::Freeze, values, &freeze.rest)
 }
 
 fn plain_json(alloc: Global, plain: &Plain) -> Result<Json, AllocError>
@@ -63,7 +64,7 @@ fn plain_json(alloc: Global, plain: &Plain) -> Result<Json, AllocError>
     let effect_name = string(alloc, &plain.effect_name)?;
     let values = vec![in alloc; metadata, name, effect_name]?;
     if plain.timed {
-        return written(alloc, Schema::TimeEffect, &TIME_EFFECT, values, &plain.rest);
+        return written(alloc, Schema::TimeEffect, values, &plain.rest);
     }
-    written(alloc, Schema::Effect, &EFFECT, values, &plain.rest)
+    written(alloc, Schema::Effect, values, &plain.rest)
 }

@@ -1,6 +1,6 @@
-// Items.
-ghost use Rattle.std.specs.Prelude.{◌≡◌, ◌<◌, IfOk, Some, length, slice_get};
-ghost use Rattle.otio_model.specs.Trees.{items_of};
+//! Items.
+
+ghost use Rattle.std.specs.Prelude.{◌≡◌, IfOk};
 ghost use Rattle.schema_write.specs.Objects as objects;
 
 use crate::effects::effects_json;
@@ -10,11 +10,11 @@ use crate::times::span_json;
 use crate::writing::{object, string, written};
 use json_value::{Json, JsonList};
 use otio_model::{Children, Item, ItemOf, Stack, Track};
-use schema_rows::{STACK, Schema, TRACK};
+use schema_rows::Schema;
 use sequences::Sequence;
 use std::alloc::{AllocError, Global};
 
-// An item.
+/// An item.
 #[cycle(item)]
 pub fn item_json(alloc: Global, item: &Item) -> Result<Json, AllocError>
     ensures { IfOk result (λ json. json ≡ objects.item_json item.now) }
@@ -34,30 +34,19 @@ pub fn item_json(alloc: Global, item: &Item) -> Result<Json, AllocError>
     }
 }
 
-// The children of a composition, in order.
+/// The children of a composition, in order.
 #[cycle(item)]
 fn children_json(alloc: Global, children: &Children) -> Result<JsonList, AllocError>
     ensures { IfOk result (λ made. made ≡ objects.children_json children.now) }
 {
     let mut values = Vec::with_capacity(alloc, children.len())?;
     'items: for index in 0..children.len() {
-        values.push(item_json(alloc, child(children, index))?)?;
+        values.push(item_json(alloc, children.child(index))?)?;
     }
     Ok(Sequence::of(values))
 }
 
-// The child at an index.
-fn child(children: &Children, index: usize) -> &Item
-    requires { index < length (items_of children.now) }
-    ensures { slice_get (items_of children.now) index ≡ Some result.now }
-{
-    match children.item(index) {
-        Some(item) => item,
-        None => unreachable!(),
-    }
-}
-
-// A timeline's root stack.
+/// A timeline's root stack.
 pub fn stack_json(alloc: Global, stack: &Stack) -> Result<Json, AllocError>
     ensures { IfOk result (λ json. json ≡ objects.stack_by objects.children_json stack.now) }
 {
@@ -65,7 +54,7 @@ pub fn stack_json(alloc: Global, stack: &Stack) -> Result<Json, AllocError>
     stack_of(alloc, stack, children)
 }
 
-// A stack whose children are these.
+/// A stack whose children are these.
 fn stack_of(alloc: Global, stack: &Stack, children: JsonList) -> Result<Json, AllocError>
     ensures { IfOk result (λ json. json ≡ objects.stack_by (λ _. children) stack.now) }
 {
@@ -77,10 +66,10 @@ fn stack_of(alloc: Global, stack: &Stack, children: JsonList) -> Result<Json, Al
     let enabled = Json::Bool(stack.enabled);
     let children = Json::List(children);
     let values = vec![in alloc; metadata, name, range, effects, markers, enabled, children]?;
-    written(alloc, Schema::Stack, &STACK, values, &stack.rest)
+    written(alloc, Schema::Stack, values, &stack.rest)
 }
 
-// A track whose children are these.
+/// A track whose children are these.
 fn track_of(alloc: Global, track: &Track, children: JsonList) -> Result<Json, AllocError>
     ensures { IfOk result (λ json. json ≡ objects.track_by (λ _. children) track.now) }
 {
@@ -95,5 +84,5 @@ fn track_of(alloc: Global, track: &Track, children: JsonList) -> Result<Json, Al
     let values = vec![in alloc;
         metadata, name, range, effects, markers, enabled, children, kind,
     ]?;
-    written(alloc, Schema::Track, &TRACK, values, &track.rest)
+    written(alloc, Schema::Track, values, &track.rest)
 }

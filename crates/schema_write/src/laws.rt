@@ -16,19 +16,21 @@ ghost use Rattle.schema_write.specs.Tables.{fields_json, reading_json};
 ghost use Rattle.schema_write.specs.Texts.{decimal_text, rate_text, value_text};
 ghost use Rattle.schema_write.specs.Reread.{ReadsAsMillionths, ReadsAsRate, ReadsAsTime};
 
-/// Law: what is written of an object, an item, an effect, a marker and a media reference is the text of its schema, a value
-/// for each row of the schema's table in the table's order, and its other members; a value that was kept is written as it
-/// is. It does nothing.
+/// Law: what is written of an object, an item, an effect, a marker and a media reference is the
+/// text of its schema, a value for each row of the schema's table in the table's order, and its
+/// other members; a value that was kept is written as it is. It does nothing.
 pub fn written_by_tables()
     ensures objects { (object : Object) → json_of object ≡ fields_json (object_fields object) }
     ensures items { (item : ItemOf Listed) → item_json item ≡ fields_json (item_fields item) }
-    ensures effects { (effect : Effect) → effect_json effect ≡ reading_json (effect_reading effect) }
-    ensures markers { (marker : Marker) → marker_json marker ≡ reading_json (marker_reading marker) }
+    ensures effects { (effect : Effect) →
+        effect_json effect ≡ reading_json (effect_reading effect) }
+    ensures markers { (marker : Marker) →
+        marker_json marker ≡ reading_json (marker_reading marker) }
     ensures media { (medium : Media) → medium_json medium ≡ reading_json (medium_reading medium) }
 {}
 
-/// Law: the text that is written of a speed, of a rate and of the value of a time is read as that speed, that rate and that
-/// time. It does nothing.
+/// Law: the text that is written of a speed, of a rate and of the value of a time is read as that
+/// speed, that rate and that time. It does nothing.
 pub fn texts_are_read()
     ensures speeds { (speed : ℤ) → IsSpeed speed → ReadsAsMillionths (decimal_text speed) speed }
     ensures rates { (rate : Rate) → ReadsAsRate (rate_text rate) rate }

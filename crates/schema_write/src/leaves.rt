@@ -1,4 +1,5 @@
-// Items without children.
+//! Items without children.
+
 ghost use Rattle.std.specs.Prelude.{◌≡◌, IfOk};
 ghost use Rattle.schema_write.specs.Objects as objects;
 
@@ -9,9 +10,10 @@ use crate::times::{offset_json, span_json};
 use crate::writing::{object, string, written};
 use json_value::Json;
 use otio_model::{Clip, Gap, Transition};
-use schema_rows::{CLIP, GAP, Schema, TRANSITION};
+use schema_rows::Schema;
 use std::alloc::{AllocError, Global};
 
+/// A clip. An error comes where memory runs out.
 pub fn clip_json(alloc: Global, clip: &Clip) -> Result<Json, AllocError>
     ensures { IfOk result (λ json. json ≡ objects.clip_json clip.now) }
 {
@@ -26,9 +28,10 @@ pub fn clip_json(alloc: Global, clip: &Clip) -> Result<Json, AllocError>
     let values = vec![in alloc;
         metadata, name, range, effects, markers, enabled, media, key,
     ]?;
-    written(alloc, Schema::Clip, &CLIP, values, &clip.rest)
+    written(alloc, Schema::Clip, values, &clip.rest)
 }
 
+/// A gap. An error comes where memory runs out.
 pub fn gap_json(alloc: Global, gap: &Gap) -> Result<Json, AllocError>
     ensures { IfOk result (λ json. json ≡ objects.gap_json gap.now) }
 {
@@ -39,9 +42,10 @@ pub fn gap_json(alloc: Global, gap: &Gap) -> Result<Json, AllocError>
     let markers = markers_json(alloc, &gap.markers)?;
     let enabled = Json::Bool(gap.enabled);
     let values = vec![in alloc; metadata, name, range, effects, markers, enabled]?;
-    written(alloc, Schema::Gap, &GAP, values, &gap.rest)
+    written(alloc, Schema::Gap, values, &gap.rest)
 }
 
+/// A transition. An error comes where memory runs out.
 pub fn transition_json(alloc: Global, transition: &Transition) -> Result<Json, AllocError>
     ensures { IfOk result (λ json. json ≡ objects.transition_json transition.now) }
 {
@@ -51,11 +55,5 @@ pub fn transition_json(alloc: Global, transition: &Transition) -> Result<Json, A
     let before = offset_json(alloc, transition.in_offset)?;
     let after = offset_json(alloc, transition.out_offset)?;
     let values = vec![in alloc; metadata, name, kind, before, after]?;
-    written(
-        alloc,
-        Schema::Transition,
-        &TRANSITION,
-        values,
-        &transition.rest,
-    )
+    written(alloc, Schema::Transition, values, &transition.rest)
 }

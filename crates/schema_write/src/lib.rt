@@ -1,7 +1,7 @@
 //! Objects of OpenTimelineIO in JSON, in the written order of their schemas' tables.
 //!
-//! The rows of an object's table stand behind its schema, from left to right, and then all its other members in the order in
-//! which they were read.
+//! The rows of an object's table stand behind its schema, from left to right, and then all its
+//! other members in the order in which they were read.
 #![tactic(auto)]
 
 mod effects;
@@ -17,6 +17,3 @@ mod writing;
 
 pub use laws::{texts_are_read, written_by_tables};
 pub use objects::json_of;
-
-#[cfg(test)]
-mod tests;

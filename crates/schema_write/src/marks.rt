@@ -1,4 +1,5 @@
-// Markers.
+//! Markers.
+
 ghost use Rattle.std.specs.Prelude.{◌≡◌, IfOk};
 ghost use Rattle.schema_write.specs.Objects as objects;
 
@@ -6,11 +7,11 @@ use crate::times::span_json;
 use crate::writing::{object, string, written};
 use json_value::{Json, copy_json};
 use otio_model::{Mark, Marker, Markers};
-use schema_rows::{MARKER, Schema};
+use schema_rows::Schema;
 use sequences::Sequence;
 use std::alloc::{AllocError, Global};
 
-// The markers of an item, in order.
+/// The markers of an item, in order.
 pub fn markers_json(alloc: Global, markers: &Markers) -> Result<Json, AllocError>
     ensures { IfOk result (λ json. json ≡ objects.markers_json markers.now) }
 {
@@ -38,5 +39,5 @@ fn mark_json(alloc: Global, mark: &Mark) -> Result<Json, AllocError>
     let name = string(alloc, &mark.name)?;
     let range = span_json(alloc, mark.marked_range)?;
     let values = vec![in alloc; metadata, name, range]?;
-    written(alloc, Schema::Marker, &MARKER, values, &mark.rest)
+    written(alloc, Schema::Marker, values, &mark.rest)
 }

@@ -1,4 +1,5 @@
-// Media references.
+//! Media references.
+
 ghost use Rattle.std.specs.Prelude.{◌≡◌, IfOk, map};
 ghost use Rattle.sequences.specs.Pairs.{names_of, AreDistinct};
 ghost use Rattle.schema_write.specs.Objects as objects;
@@ -7,11 +8,11 @@ use crate::times::span_json;
 use crate::writing::{object, string, written};
 use json_value::{Json, copy_json};
 use otio_model::{External, Generator, Media, MediaMap, Missing, Sequence};
-use schema_rows::{EXTERNAL, GENERATOR, IMAGES, MISSING, Schema};
+use schema_rows::Schema;
 use sequences::{NamedValues, Text};
 use std::alloc::{AllocError, Global};
 
-// The media references of a clip, under their keys.
+/// The media references of a clip, under their keys.
 pub fn media_json(alloc: Global, media: &MediaMap) -> Result<Json, AllocError>
     ensures { IfOk result (λ json. json ≡ objects.media_json media.now) }
 {
@@ -51,7 +52,7 @@ fn external_json(alloc: Global, medium: &External) -> Result<Json, AllocError>
     let range = span_json(alloc, medium.available_range)?;
     let url = string(alloc, &medium.target_url)?;
     let values = vec![in alloc; metadata, name, range, url]?;
-    written(alloc, Schema::External, &EXTERNAL, values, &medium.rest)
+    written(alloc, Schema::External, values, &medium.rest)
 }
 
 fn missing_json(alloc: Global, medium: &Missing) -> Result<Json, AllocError>
@@ -61,7 +62,7 @@ fn missing_json(alloc: Global, medium: &Missing) -> Result<Json, AllocError>
     let name = string(alloc, &medium.name)?;
     let range = span_json(alloc, medium.available_range)?;
     let values = vec![in alloc; metadata, name, range]?;
-    written(alloc, Schema::Missing, &MISSING, values, &medium.rest)
+    written(alloc, Schema::Missing, values, &medium.rest)
 }
 
 fn generator_json(alloc: Global, medium: &Generator) -> Result<Json, AllocError>
@@ -72,7 +73,7 @@ fn generator_json(alloc: Global, medium: &Generator) -> Result<Json, AllocError>
     let range = span_json(alloc, medium.available_range)?;
     let kind = string(alloc, &medium.generator_kind)?;
     let values = vec![in alloc; metadata, name, range, kind]?;
-    written(alloc, Schema::Generator, &GENERATOR, values, &medium.rest)
+    written(alloc, Schema::Generator, values, &medium.rest)
 }
 
 fn images_json(alloc: Global, medium: &Sequence) -> Result<Json, AllocError>
@@ -85,5 +86,5 @@ fn images_json(alloc: Global, medium: &Sequence) -> Result<Json, AllocError>
     let prefix = string(alloc, &medium.name_prefix)?;
     let suffix = string(alloc, &medium.name_suffix)?;
     let values = vec![in alloc; metadata, name, range, base, prefix, suffix]?;
-    written(alloc, Schema::Images, &IMAGES, values, &medium.rest)
+    written(alloc, Schema::Images, values, &medium.rest)
 }

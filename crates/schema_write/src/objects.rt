@@ -1,4 +1,5 @@
-// What may stand at the root of a file.
+//! What may stand at the root of a file.
+
 ghost use Rattle.std.specs.Prelude.{◌≡◌, IfOk, map};
 ghost use Rattle.otio_model.specs.declared.roots.Collection.{out-Collection};
 ghost use Rattle.schema_write.specs.Objects as objects;
@@ -8,16 +9,16 @@ use crate::times::offset_json;
 use crate::writing::{object, string, written};
 use json_value::{Json, JsonList};
 use otio_model::{Collection, Object, Objects, Timeline};
-use schema_rows::{COLLECTION, Schema, TIMELINE};
+use schema_rows::Schema;
 use sequences::Sequence;
 use std::alloc::{AllocError, Global};
 
-/// The object in JSON (OpenTimelineIO's schema pages): `OTIO_SCHEMA` with the name and the version of its table, the rows of
-/// the table from left to right, and then all its other members in their order. A member of `rest` that has the name of a row
-/// or `OTIO_SCHEMA` is left out.
+/// The object in JSON (OpenTimelineIO's schema pages): `OTIO_SCHEMA` with the name and the version
+/// of its table, the rows of the table from left to right, and then all its other members in their
+/// order. A member of `rest` that has the name of a row or `OTIO_SCHEMA` is left out.
 ///
-/// Times and ranges that are absent are null, kept values stand word for word, and a FreezeFrame's speed is `0.0` whatever
-/// its field holds. An error comes where memory runs out.
+/// Times and ranges that are absent are null, kept values stand word for word, and a FreezeFrame's
+/// speed is `0.0` whatever its field holds. An error comes where memory runs out.
 #[cycle(object)]
 pub fn json_of(alloc: Global, object: &Object) -> Result<Json, AllocError>
     ensures { IfOk result (λ json. json ≡ objects.json_of object.now) }
@@ -37,16 +38,10 @@ fn collection_json(alloc: Global, collection: &Collection) -> Result<Json, Alloc
     let name = string(alloc, &collection.name)?;
     let children = Json::List(objects_json(alloc, &collection.children)?);
     let values = vec![in alloc; metadata, name, children]?;
-    written(
-        alloc,
-        Schema::Collection,
-        &COLLECTION,
-        values,
-        &collection.rest,
-    )
+    written(alloc, Schema::Collection, values, &collection.rest)
 }
 
-// The objects of a collection, in order.
+/// The objects of a collection, in order.
 #[cycle(object)]
 fn objects_json(alloc: Global, inside: &Objects) -> Result<JsonList, AllocError>
     ensures { IfOk result (λ made. made ≡ map objects.json_of inside.now) }
@@ -67,5 +62,5 @@ fn timeline_json(alloc: Global, timeline: &Timeline) -> Result<Json, AllocError>
     let start = offset_json(alloc, timeline.global_start_time)?;
     let tracks = stack_json(alloc, &timeline.tracks)?;
     let values = vec![in alloc; metadata, name, start, tracks]?;
-    written(alloc, Schema::Timeline, &TIMELINE, values, &timeline.rest)
+    written(alloc, Schema::Timeline, values, &timeline.rest)
 }

@@ -1,16 +1,17 @@
-// Times and ranges of time.
+//! Times and ranges of time.
+
 ghost use Rattle.std.specs.Prelude.{◌≡◌, IfOk};
 ghost use Rattle.schema_write.specs.Objects as objects;
 
 use crate::numerals::{rate_numeral, value_numeral};
 use crate::writing::written;
 use json_value::Json;
-use schema_rows::{RATIONAL_TIME, Schema, TIME_RANGE};
+use schema_rows::Schema;
 use sequences::NamedValues;
 use std::alloc::{AllocError, Global};
 use tick_time::{Span, Time};
 
-// A time.
+/// A time.
 pub fn time_json(alloc: Global, time: Time) -> Result<Json, AllocError>
     ensures { IfOk result (λ json. json ≡ objects.time_json time) }
 {
@@ -19,13 +20,12 @@ pub fn time_json(alloc: Global, time: Time) -> Result<Json, AllocError>
     written(
         alloc,
         Schema::RationalTime,
-        &RATIONAL_TIME,
         values,
         &NamedValues::new(alloc),
     )
 }
 
-// A time, or null.
+/// A time, or null.
 pub fn offset_json(alloc: Global, offset: Option<Time>) -> Result<Json, AllocError>
     ensures { IfOk result (λ json. json ≡ objects.offset_json offset) }
 {
@@ -35,7 +35,7 @@ pub fn offset_json(alloc: Global, offset: Option<Time>) -> Result<Json, AllocErr
     }
 }
 
-// A range of time, or null.
+/// A range of time, or null.
 pub fn span_json(alloc: Global, span: Option<Span>) -> Result<Json, AllocError>
     ensures { IfOk result (λ json. json ≡ objects.span_json span) }
 {
@@ -50,11 +50,5 @@ fn range_json(alloc: Global, span: Span) -> Result<Json, AllocError>
 {
     let duration = time_json(alloc, span.len)?;
     let values = vec![in alloc; duration, time_json(alloc, span.start)?]?;
-    written(
-        alloc,
-        Schema::TimeRange,
-        &TIME_RANGE,
-        values,
-        &NamedValues::new(alloc),
-    )
+    written(alloc, Schema::TimeRange, values, &NamedValues::new(alloc))
 }

@@ -1,4 +1,5 @@
-// An object of a schema in the written order.
+//! An object of a schema in the written order.
+
 ghost use Rattle.std.specs.Prelude.{◌≡◌, ◌<◌, ◌++◌, ◌∷◌, [], ◌||◌, length, map, IfOk, OnOk, Some, option_map, slice_get};
 ghost use Rattle.std.specs.List.{list_any};
 ghost use Rattle.std.specs.Str.{bytes_eq};
@@ -16,14 +17,14 @@ use sequences::{NamedValues, Text};
 use std::alloc::{AllocError, Global};
 use std::mem;
 
-// A string of the characters of a text.
+/// A string of the characters of a text.
 pub fn string(alloc: Global, text: &Text) -> Result<Json, AllocError>
     ensures { IfOk result (λ json. json ≡ Str text.now) }
 {
     Ok(Json::Str(Text::of(alloc, text.as_str())?))
 }
 
-// An object that is kept as it is.
+/// An object that is kept as it is.
 pub fn object(alloc: Global, members: &Members) -> Result<Json, AllocError>
     ensures { IfOk result (λ json. json ≡ Map members.now) }
 {
@@ -43,19 +44,19 @@ fn copy_pairs(alloc: Global, members: &Members) -> Result<Vec<(Text, Json)>, All
     Ok(copies)
 }
 
-// An object of a schema by its table: the schema, a value for each row, and the other members.
+/// An object of a schema by its table: the schema, a value for each row, and the other members.
 pub fn written(
     alloc: Global,
     schema: Schema,
-    table: &[Field],
     values: Vec<Json>,
     rest: &Members,
 ) -> Result<Json, AllocError>
-    requires rows { map row_of table.now ≡ rows_of schema }
-    requires all { length values.items ≡ length table.now }
+    requires { length values.items ≡ length (rows_of schema) }
     ensures { IfOk result (λ json. json ≡ order.written schema values.items rest.now) }
 {
-    let mut pairs = Vec::with_capacity(alloc, values.len().saturating_add(rest.len()))?;
+    let table = schema.table();
+    let room = values.len().saturating_add(rest.len()).saturating_add(1);
+    let mut pairs = Vec::with_capacity(alloc, room)?;
     let text = Json::Str(Text::of(alloc, schema.text())?);
     pairs.push((Text::of(alloc, "OTIO_SCHEMA")?, text))?;
     put_rows(alloc, &mut pairs, table, values)?;
@@ -63,7 +64,7 @@ pub fn written(
     Ok(Json::Map(NamedValues::of(pairs)))
 }
 
-// Adds a value for each row of a table.
+/// Adds a value for each row of a table.
 fn put_rows(
     alloc: Global,
     pairs: &mut Vec<(Text, Json)>,
@@ -71,7 +72,8 @@ fn put_rows(
     values: Vec<Json>,
 ) -> Result<(), AllocError>
     requires { length values.items ≡ length table.now }
-    ensures { OnOk result (pairs.new.items ≡ pairs.old.items ++ order.named_values (map row_of table.now) values.items) }
+    ensures { OnOk result (pairs.new.items
+        ≡ pairs.old.items ++ order.named_values (map row_of table.now) values.items) }
 {
     let mut list = values;
     'rows: for index in 0..list.len() {
@@ -81,7 +83,7 @@ fn put_rows(
     Ok(())
 }
 
-// The name of the row at an index.
+/// The name of the row at an index.
 fn name_at(table: &[Field], index: usize) -> &'static str
     requires { index < length table.now }
     ensures { option_map name_of (slice_get table.now index) ≡ Some result.now }
@@ -92,14 +94,15 @@ fn name_at(table: &[Field], index: usize) -> &'static str
     }
 }
 
-// Adds the members that a table has no row for.
+/// Adds the members that a table has no row for.
 fn put_others(
     alloc: Global,
     pairs: &mut Vec<(Text, Json)>,
     table: &[Field],
     rest: &Members,
 ) -> Result<(), AllocError>
-    ensures added { OnOk result (pairs.new.items ≡ pairs.old.items ++ others (map row_of table.now) rest.now) }
+    ensures added { OnOk result (pairs.new.items
+        ≡ pairs.old.items ++ others (map row_of table.now) rest.now) }
     ensures distinct { AreDistinct (names_of rest.now) }
 {
     let members = rest.as_slice();
@@ -112,7 +115,7 @@ fn put_others(
     Ok(())
 }
 
-// Whether that is the name of the schema's member or of a row.
+/// Whether that is the name of the schema's member or of a row.
 fn is_named(table: &[Field], name: &str) -> bool
     ensures { result ≡ (bytes_eq name.now schema_key || is_row (map row_of table.now) name.now) }
 {

@@ -1,11 +1,11 @@
 -- Instants that don't fit 128 bits lie outside every sound timeline.
-use Rattle.std.proofs.Common.{◌≡◌, refl, sym, ◌∙◌, ℕ, ◌≤◌, ℤ, pos, ◌*ℤ◌, Bool, true, false, FitsSigned, arith}
+use Rattle.std.proofs.Common.{◌≡◌, refl, sym, ◌∙◌, ℕ, ◌≤◌, ℤ, pos, negsuc, ◌*ℤ◌, ◌≤ℤ◌, Bool, true, false, FitsSigned, arith}
 use Rattle.std.specs.Prelude.{unsigned_abs, Option, Some, None, SomeIff}
-use Rattle.show_prog.specs.Found.{IsInstant}
+use Rattle.otio_model.specs.Overlaps.{within}
+use Rattle.show_prog.specs.Walk.{IsInstant}
 use Rattle.std.specs.Int.{w128}
 use Rattle.std.proofs.lemmas.Int.{ints, unsigned_abs-mul, fits_signed_from_abs}
 use Rattle.std.proofs.lemmas.Nat.{mul-le}
-use Rattle.coord.specs.Looks.{within}
 use Rattle.show_prog.proofs.Steps.{within_is}
 
 small_fits : (z : ℤ) → unsigned_abs z ≤ 705600000000000000000000 → FitsSigned w128 z
@@ -32,6 +32,12 @@ instant_by (Some u) z w h e = h.1 ∙ e
 pub none_by : (o : Option ℤ) (d w : ℤ) (f : ℕ) → SomeIff o (FitsSigned w128 d) d → o ≡ None → 1 ≤ f → w ≡ d *ℤ pos f → IsInstant w None
 none_by None d w f h e p q = rw q (far_offset d f p h)
 none_by (Some u) d w f h e p q = absurd (cc e)
+
+-- the same with the ticks as a whole number
+pub none_by_ticks : (o : Option ℤ) (d w k : ℤ) → SomeIff o (FitsSigned w128 d) d → o ≡ None
+    → pos 1 ≤ℤ k → w ≡ d *ℤ k → IsInstant w None
+none_by_ticks o d w (pos f) h e p q = none_by o d w f h e (omega (arith, ints)) q
+none_by_ticks o d w (negsuc f) h e p q = absurd (omega (arith, ints))
 
 pub value_by : (P : Type 0) (o : Option ℤ) (u d : ℤ) → SomeIff o P d → o ≡ Some u → u ≡ d
 value_by P None u d h e = absurd (cc e)

@@ -3,8 +3,9 @@ mod Euclid
 mod Far
 pub mod PrintTexts
 mod Roots
-mod Seen
 mod ShowLemmas
 mod Sound
 mod Steps
 mod Walk
+pub mod Seated
+pub mod Reached

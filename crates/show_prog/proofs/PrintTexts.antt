@@ -4,7 +4,7 @@ use Rattle.std.proofs.lemmas.Grind.{flat_map-append}
 use Rattle.std.specs.Global.{Box}
 use Rattle.json_layout.specs.Strings.{escape, escaped}
 use Rattle.coord.specs.Looks.{Sequence}
-use Rattle.show_prog.specs.Images.{Image, Mixture}
+use Rattle.coord.specs.Images.{Image, Mixture}
 use Rattle.show_prog.specs.Pictures.{image_of, image_step, kind_of}
 use Rattle.show_prog.specs.Texts.{key_text}
 use Rattle.show_prog.specs.declared.picture.MixKind.{MixKind}
@@ -15,7 +15,7 @@ use Rattle.show_prog.specs.declared.picture.Picture.TheFolds.{fold-roll-Picture}
 
 -- what a mix stands for
 pub image_of-Mix : (kind : MixKind) (from to : Box Picture) (num den : ℤ)
-    → image_of (Mix kind from to num den) ≡ Mixture (kind_of kind) (image_of from.value) (image_of to.value) (record { num = unsigned_abs num; den = unsigned_abs den })
+    → image_of (Mix kind from to num den) ≡ Mixture (kind_of kind) (image_of from.value) (image_of to.value) (record { num = num; den = den })
 unfolding Rattle.show_prog.specs.declared.picture.Picture.TheViews.roll-Picture denote.Hole.Carrier.roll
 image_of-Mix kind from to num den = fold-roll-Picture Image image_step (Picture-F.Mix kind from to num den)
 

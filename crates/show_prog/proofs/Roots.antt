@@ -1,36 +1,39 @@
 -- What root children show.
-use Rattle.std.proofs.Common.{◌≡◌, refl, sym, ap, ◌∙◌, ℕ, ℤ, pos, ◌≤ℤ◌, ◌<ℤ◌, false, Some, None, slice_get, arith}
+use Rattle.std.proofs.Common.{◌≡◌, refl, sym, ap, ap₂, ◌∙◌, ℕ, ℤ, pos, ◌-ℤ◌, ◌*ℤ◌, ◌≤ℤ◌, ◌<ℤ◌, false, Some, None, slice_get, arith}
 use Rattle.std.proofs.lemmas.Int.{ints, by_lt_z}
 use Rattle.otio_model.specs.declared.compositions.ItemOf.{ItemOf}
 use Rattle.otio_model.specs.declared.compositions.Listed.{Listed}
 use Rattle.otio_model.specs.declared.timelines.Timeline.{Timeline}
 use Rattle.otio_model.specs.Trees.{items_of}
-use Rattle.otio_model.specs.Lengths.{length_of}
-use Rattle.coord.specs.Looks.{FrameRate, Blank, within}
-use Rattle.coord.specs.Sights.{sight, known}
+use Rattle.otio_model.specs.Lengths.{length_of, or_zero}
+use Rattle.otio_model.specs.Overlaps.{within}
+use Rattle.coord.specs.Looks.{FrameRate, Blank}
+use Rattle.coord.specs.Sights.{sight}
 use Rattle.coord.specs.Programs.{kind_of, child_shows, shown_by, instant, program}
 use Rattle.coord.specs.Soundness.{fault_of}
-use Rattle.show_prog.specs.Found.{exact}
-use Rattle.show_prog.proofs.Seen.{length_seen}
+use Rattle.coord.specs.Sights.{exact}
+use Rattle.show_prog.specs.declared.program.Clock.{Clock}
+use Rattle.show_prog.specs.Clocks.{IsClockOf}
+use Rattle.coord.proofs.Seen.{length_seen}
 use Rattle.show_prog.proofs.Sound.{is_short}
 use Rattle.show_prog.proofs.Steps.{yes, below, above}
 
 abbrev same : FrameRate → FrameRate
 same = λ rate. rate
 
-length_as : (x : ItemOf Listed) → pos (known (sight x).length) ≡ pos (known (length_of x))
-length_as x = ap (λ o. pos (known o)) (length_seen x)
+length_as : (x : ItemOf Listed) → pos (or_zero (sight x).length) ≡ pos (or_zero (length_of x))
+length_as x = ap (λ o. pos (or_zero o)) (length_seen x)
 
-pub child_in : (x : ItemOf Listed) (u : ℤ) → pos 0 ≤ℤ u → u <ℤ pos (known (length_of x)) → (sight x).shows (exact (kind_of x)) u ≡ child_shows same x u
-child_in x u low high = let k = length_as x in rw (yes (pos 0) (pos (known (sight x).length)) u low (omega (arith, ints))) refl
+pub child_in : (x : ItemOf Listed) (u : ℤ) → pos 0 ≤ℤ u → u <ℤ pos (or_zero (length_of x)) → (sight x).shows (exact (kind_of x)) u ≡ child_shows same x u
+child_in x u low high = let k = length_as x in rw (yes (pos 0) (pos (or_zero (sight x).length)) u low (omega (arith, ints))) refl
 
 pub child_before : (x : ItemOf Listed) (u : ℤ) → u <ℤ pos 0 → Blank ≡ child_shows same x u
-child_before x u h = rw (below (pos 0) (pos (known (sight x).length)) u h) refl
+child_before x u h = rw (below (pos 0) (pos (or_zero (sight x).length)) u h) refl
 
-pub child_behind : (x : ItemOf Listed) (u : ℤ) → pos (known (length_of x)) ≤ℤ u → Blank ≡ child_shows same x u
-child_behind x u h = let k = length_as x in rw (above (pos 0) (pos (known (sight x).length)) u (omega (arith, ints))) refl
+pub child_behind : (x : ItemOf Listed) (u : ℤ) → pos (or_zero (length_of x)) ≤ℤ u → Blank ≡ child_shows same x u
+child_behind x u h = let k = length_as x in rw (above (pos 0) (pos (or_zero (sight x).length)) u (omega (arith, ints))) refl
 
-pub child_short : (x : ItemOf Listed) → fault_of x ≡ None → pos (known (length_of x)) ≤ℤ pos 705600000000000000000000
+pub child_short : (x : ItemOf Listed) → fault_of x ≡ None → pos (or_zero (length_of x)) ≤ℤ pos 705600000000000000000000
 child_short x e = let s = (is_short x e).ticks in omega (arith, ints)
 
 far_end : (u : ℤ) → pos 0 ≤ℤ u → within (pos 0) (pos 705600000000000000000001) u ≡ false → pos 705600000000000000000001 ≤ℤ u
@@ -45,3 +48,9 @@ child_far x u s e = by_lt_z u (pos 0) (λ h. child_before x u h) (λ h. let f = 
 -- what a root child shows is what is shown of it at the record frame
 pub program_of : (t : Timeline) (k : ℕ) (n u : ℤ) (x : ItemOf Listed) → slice_get (items_of t.tracks.children) k ≡ Some x → u ≡ instant t n → child_shows same x u ≡ program t k n
 program_of t k n u x e f = ap (child_shows same x) f ∙ ap (λ o. shown_by same o (instant t n)) (sym e)
+
+-- the instant by a clock of the timeline
+pub instant_of : (t : Timeline) (c : Clock) (n m start ticks : ℤ) → IsClockOf t c → m ≡ n
+    → start ≡ c.start → ticks ≡ c.ticks → (m -ℤ start) *ℤ ticks ≡ instant t n
+instant_of t c n m start ticks k e f g =
+    ap (λ z. (z -ℤ start) *ℤ ticks) e ∙ ap₂ (λ s f. (n -ℤ s) *ℤ f) (f ∙ k.start) (g ∙ k.ticks)

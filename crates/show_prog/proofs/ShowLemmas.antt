@@ -10,17 +10,18 @@ use Rattle.otio_model.specs.declared.compositions.ItemOf.{ItemOf}
 use Rattle.otio_model.specs.declared.compositions.ItemOf.TheVariants.{Stack, Track}
 use Rattle.otio_model.specs.declared.compositions.Listed.{Listed}
 use Rattle.otio_model.specs.Trees.{items_of}
-use Rattle.otio_model.specs.Lengths.{added, lengths, length_of}
-use Rattle.coord.specs.Looks.{Show, Blank, Frame, Mix, Look, Weight, weight, is_blank, blank, mixed, mix_shows, item_shows, track_shows, stack_shows, within}
-use Rattle.coord.specs.Sights.{View, sight, sights, seen, looks, shows_inside, known}
-use Rattle.show_prog.specs.Images.{Image, Empty, Single, Mixture, Kind, image, is_mix}
+use Rattle.otio_model.specs.Lengths.{added, lengths, length_of, or_zero}
+use Rattle.otio_model.specs.Overlaps.{within}
+use Rattle.coord.specs.Looks.{Show, Blank, Frame, Mix, Look, Weight, weight, is_blank, blank, mixed, mix_shows, item_shows, track_shows, stack_shows}
+use Rattle.coord.specs.Sights.{exact, View, sight, sights, seen, looks, shows_inside}
+use Rattle.coord.specs.Images.{Image, Empty, Single, Mixture, Kind, image, is_mix}
 use Rattle.show_prog.specs.Pictures.{image_of, image_step}
-use Rattle.show_prog.specs.Found.{mixture, is_empty, exact}
+use Rattle.show_prog.specs.Walk.{mixture, is_empty}
 use Rattle.show_prog.specs.declared.picture.Picture.{Picture}
 use Rattle.show_prog.specs.declared.picture.Picture.TheVariants.{Blank as NoPicture}
 use Rattle.show_prog.specs.declared.picture.Picture.TheOpen.{Picture-F}
 use Rattle.show_prog.specs.declared.picture.Picture.TheFolds.{fold-roll-Picture}
-use Rattle.show_prog.proofs.Seen.{looks-items, look_length}
+use Rattle.coord.proofs.Seen.{looks-items, look_length}
 use Rattle.show_prog.proofs.Steps.{yes, below, above}
 use Rattle.show_prog.proofs.Walk.{total_is}
 
@@ -59,7 +60,7 @@ mix_not_blank Blank e = absurd (cc e)
 mix_not_blank (Frame k m r) e = refl
 mix_not_blank (Mix k a b w) e = refl
 
-seen_if : (t : Bool) (k : List ℕ) (a b : Show) (w : Weight) → cond t Empty (Mixture (Rattle.show_prog.specs.Images.kind_of k) (image a) (image b) w) ≡ image (cond t Blank (Mix k a b w))
+seen_if : (t : Bool) (k : List ℕ) (a b : Show) (w : Weight) → cond t Empty (Mixture (Rattle.coord.specs.Images.kind_of k) (image a) (image b) w) ≡ image (cond t Blank (Mix k a b w))
 seen_if true k a b w = refl
 seen_if false k a b w = refl
 
@@ -147,16 +148,16 @@ stack_down v l n i x at all get e same nothing =
 
 -- the upper item shows something
 pub stack_here : (v : View) (l : List (ItemOf Listed)) (n i : ℕ) (x : ItemOf Listed) (at : ℤ) (all : Show) → slice_get l i ≡ Some x → n ≡ suc i → all ≡ stack_shows (looks v (take n l)) at
-    → pos 0 ≤ℤ at → at <ℤ pos (known (length_of x)) → is_blank ((sight x).shows v at) ≡ false → all ≡ (sight x).shows v at
+    → pos 0 ≤ℤ at → at <ℤ pos (or_zero (length_of x)) → is_blank ((sight x).shows v at) ≡ false → all ≡ (sight x).shows v at
 stack_here v l n i x at all get e same low high something =
-    let k = look_length v x (known (length_of x)) refl in
+    let k = look_length v x (or_zero (length_of x)) refl in
     let in_length : within (pos 0) (seen v (sight x)).length at ≡ true = yes (pos 0) (seen v (sight x)).length at low (omega (arith, ints)) in
     same ∙ ap (λ k. stack_shows (looks v (take k l)) at) e ∙ ap (λ k. stack_shows k at) (looks_take v l i x get)
     ∙ stack-last (looks v (take i l)) (seen v (sight x)) at ∙ rw (in_length, something) refl
 
-pub nothing_past : (v : View) (x : ItemOf Listed) (at : ℤ) → pos (known (length_of x)) ≤ℤ at → one (seen v (sight x)) at ≡ Blank
+pub nothing_past : (v : View) (x : ItemOf Listed) (at : ℤ) → pos (or_zero (length_of x)) ≤ℤ at → one (seen v (sight x)) at ≡ Blank
 nothing_past v x at h =
-    let k = look_length v x (known (length_of x)) refl in
+    let k = look_length v x (or_zero (length_of x)) refl in
     rw (above (pos 0) (seen v (sight x)).length at (omega (arith, ints))) refl
 
 pub nothing_shown : (v : View) (x : ItemOf Listed) (at : ℤ) → is_blank ((sight x).shows v at) ≡ true → one (seen v (sight x)) at ≡ Blank

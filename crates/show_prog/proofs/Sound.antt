@@ -1,47 +1,31 @@
 -- What the soundness of items says.
 use Rattle.std.proofs.Common.{◌≡◌, refl, ap, ◌∙◌, ℕ, zero, suc, ◌+◌, ◌<◌, ◌≤◌, ◌^◌, ℤ, pos, ◌-ℤ◌, ◌≤ℤ◌, ◌||◌, Bool, true, false, cond, List, [], ◌∷◌, map, Option, Some, None, length, drop, slice_get, add-one, arith}
-use Rattle.std.specs.Prelude.{option_and_then, nat_lt}
+use Rattle.std.specs.Prelude.{option_map, nat_lt}
+use Rattle.std.specs.Option.{option_or}
 use Rattle.std.proofs.lemmas.Int.{ints}
-use Rattle.tick_time.specs.Times.{most_ticks}
+use Rattle.limits.specs.Limits.{most_ticks}
 use Rattle.tick_time.specs.declared.spans.Span.{Span}
 use Rattle.otio_model.specs.declared.compositions.ItemOf.{ItemOf}
 use Rattle.otio_model.specs.declared.compositions.ItemOf.TheVariants.{Clip, Gap, Transition, Stack, Track}
 use Rattle.otio_model.specs.declared.compositions.Listed.{Listed}
 use Rattle.otio_model.specs.declared.compositions.StackOf.{StackOf}
 use Rattle.otio_model.specs.declared.compositions.TrackOf.{TrackOf}
-use Rattle.otio_model.specs.Trees.{items_of, children_of, below, item_at}
-use Rattle.otio_model.specs.Lengths.{added, lengths, length_of, clip_range}
+use Rattle.otio_model.specs.Trees.{items_of}
+use Rattle.otio_model.specs.Lengths.{added, lengths, length_of, clip_range, Range, range_of, range_start, from_zero, or_zero, trimmed_start}
 use Rattle.otio_model.specs.Counts.{count, count_of}
 use Rattle.otio_model.specs.Falls.{child_counts}
 use Rattle.coord.specs.declared.faults.ItemFault.{ItemFault}
 use Rattle.coord.specs.Speeds.{effects_of, keeps_speed}
-use Rattle.coord.specs.Sights.{known, start_or, trimmed_start}
-use Rattle.coord.specs.Soundness.{available_ticks, is_long, ranged_fault, fault_of, AreSound}
-use Rattle.show_prog.specs.Found.{IsSoundItem}
-use Rattle.show_prog.proofs.Seen.{lengths-items}
-
-next_in : {A : Type 0} (xs : List A) (i : ℕ) (x : A) → slice_get xs i ≡ Some x → drop i xs ≡ x ∷ drop (suc i) xs
-next_in [] zero x e = absurd (cc e)
-next_in [] (suc i) x e = absurd (cc e)
-next_in (y ∷ xs) zero x e = let same : y ≡ x = cc e in ap (λ z. z ∷ xs) same
-next_in (y ∷ xs) (suc i) x e = next_in xs i x e
-
--- the members from an index on begin with the one there
-pub next : {A : Type 0} (xs : List A) (i : ℕ) (x : A) → slice_get xs i ≡ Some x → drop i xs ≡ x ∷ drop (i + 1) xs
-next xs i x e = rw add-one (next_in xs i x e)
-
--- behind the last there is none
-pub none_left : {A : Type 0} (xs : List A) (i : ℕ) → length xs ≤ i → drop i xs ≡ []
-none_left [] zero h = refl
-none_left [] (suc i) h = refl
-none_left (x ∷ xs) zero h = absurd (omega (arith, h))
-none_left (x ∷ xs) (suc i) h = none_left xs i (omega (arith, h))
+use Rattle.coord.specs.Soundness.{available_ticks, is_long, ranged_fault, fault_of, AreFaultless, IsFaultlessItem}
+use Rattle.coord.proofs.Members.{next, none_left}
+use Rattle.coord.proofs.Seen.{lengths-items}
+use Rattle.coord.proofs.Judged.{sound_child, children_sound}
 
 -- ---- the lengths of an item without a fault
 
 -- no longer than a million seconds, in its length and in what is available
 pub record IsShort (x : ItemOf Listed) : Type 0 where
-  pub ticks : known (length_of x) ≤ 705600000000000000000000
+  pub ticks : or_zero (length_of x) ≤ 705600000000000000000000
   pub available : available_ticks x ≤ 705600000000000000000000
 
 not_long : (a b c : Bool) → (a || (b || c)) ≡ false → (a ≡ false) × (b ≡ false)
@@ -81,32 +65,19 @@ is_short (Track c) h = short_in (Track c) (length_of (Track c)) refl h
 
 -- ---- items of children without a fault
 
-in_list : (l : Listed) (i : ℕ) (x : ItemOf Listed) (place : List ℕ) → slice_get (items_of l) i ≡ Some x → item_at (i ∷ place) l ≡ below place x
-in_list l i x place e = ap (option_and_then (below place)) e
-
-in_item : (x : ItemOf Listed) (l : Listed) (i : ℕ) (place : List ℕ) → children_of x ≡ Some l → below (i ∷ place) x ≡ item_at (i ∷ place) l
-in_item x l i place e = ap (option_and_then (λ m. option_and_then (below place) (slice_get (items_of m) i))) e
-
-pub sound_child : (l : Listed) (i : ℕ) (x : ItemOf Listed) → slice_get (items_of l) i ≡ Some x → AreSound l → IsSoundItem x
-sound_child l i x e s = λ place y b. s (i ∷ place) y (in_list l i x place e ∙ b)
-
-children_sound : (x : ItemOf Listed) (l : Listed) → children_of x ≡ Some l → IsSoundItem x → AreSound l
-children_sound x l e s [] y b = absurd (cc b)
-children_sound x l e s (i ∷ place) y b = s (i ∷ place) y (in_item x l i place e ∙ b)
-
-pub no_fault : (x : ItemOf Listed) → IsSoundItem x → fault_of x ≡ None
+pub no_fault : (x : ItemOf Listed) → IsFaultlessItem x → fault_of x ≡ None
 no_fault x s = s [] x refl
 
 -- what is known of a sound track or stack
 pub record Nested (l : Listed) (all : ℕ) (x : ItemOf Listed) : Type 0 where
-  pub sound : AreSound l
+  pub sound : AreFaultless l
   pub fits : all ≤ 705600000000000000000000
   pub few : count_of x ≡ count l + 1
 
-pub track_facts : (t : TrackOf Listed) → IsSoundItem (Track t) → Nested t.children (added (lengths t.children)) (Track t)
+pub track_facts : (t : TrackOf Listed) → IsFaultlessItem (Track t) → Nested t.children (added (lengths t.children)) (Track t)
 track_facts t s = record { sound = children_sound (Track t) t.children refl s; fits = (is_short (Track t) (no_fault (Track t) s)).available; few = refl }
 
-pub stack_facts : (t : StackOf Listed) → IsSoundItem (Stack t) → Nested t.children 0 (Stack t)
+pub stack_facts : (t : StackOf Listed) → IsFaultlessItem (Stack t) → Nested t.children 0 (Stack t)
 stack_facts t s = record { sound = children_sound (Stack t) t.children refl s; fits = omega arith; few = refl }
 
 -- ---- where an item starts
@@ -115,19 +86,24 @@ record IsNear (z : ℤ) : Type 0 where
   low : (pos 0 -ℤ pos 705600000000000000000000) ≤ℤ z
   high : z ≤ℤ pos 705600000000000000000000
 
-start_near : (s : Option Span) (z : ℤ) → IsNear z → IsNear (start_or s z)
-start_near None z h = h
-start_near (Some s) z h = record { low = s.start.low; high = s.start.high }
-
 zero_near : IsNear (pos 0)
 zero_near = record { low = omega (arith, ints); high = omega (arith, ints) }
 
+start_near : (s : Option Span) (r : Option Range) → IsNear (range_start r)
+    → IsNear (range_start (option_or (option_map range_of s) r))
+start_near None r h = h
+start_near (Some s) r h = record { low = s.start.low; high = s.start.high }
+
+span_near : (s : Option Span) → IsNear (range_start (option_map range_of s))
+span_near None = zero_near
+span_near (Some s) = record { low = s.start.low; high = s.start.high }
+
 near : (x : ItemOf Listed) → IsNear (trimmed_start x)
-near (Clip c) = start_near c.source_range _ (start_near (clip_range c) (pos 0) zero_near)
-near (Gap c) = start_near c.source_range (pos 0) zero_near
+near (Clip c) = start_near c.source_range (option_map range_of (clip_range c)) (span_near (clip_range c))
+near (Gap c) = start_near c.source_range (Some (from_zero 0)) zero_near
 near (Transition c) = zero_near
-near (Stack c) = start_near c.source_range (pos 0) zero_near
-near (Track c) = start_near c.source_range (pos 0) zero_near
+near (Stack c) = start_near c.source_range (Some (from_zero 0)) zero_near
+near (Track c) = start_near c.source_range (Some (from_zero 0)) zero_near
 
 pub start_low : (x : ItemOf Listed) → (pos 0 -ℤ pos 705600000000000000000000) ≤ℤ trimmed_start x
 start_low x = (near x).low
@@ -141,7 +117,7 @@ start_high x = (near x).high
 abbrev pub left_from : Listed → ℕ → ℕ
 left_from l i = added (map length_of (drop i (items_of l)))
 
-added_more : (o : Option ℕ) (ns : List (Option ℕ)) → added (o ∷ ns) ≡ known o + added ns
+added_more : (o : Option ℕ) (ns : List (Option ℕ)) → added (o ∷ ns) ≡ or_zero o + added ns
 added_more None ns = omega arith
 added_more (Some n) ns = refl
 
@@ -149,13 +125,13 @@ added_more (Some n) ns = refl
 pub record Here (l : Listed) (i : ℕ) (x : ItemOf Listed) : Type 0 where
   pub next : drop i (items_of l) ≡ x ∷ drop (i + 1) (items_of l)
   pub get : slice_get (items_of l) i ≡ Some x
-  pub sound : IsSoundItem x
-  pub ticks : known (length_of x) ≤ 705600000000000000000000
-  pub sum : left_from l i ≡ known (length_of x) + left_from l (i + 1)
+  pub sound : IsFaultlessItem x
+  pub ticks : or_zero (length_of x) ≤ 705600000000000000000000
+  pub sum : left_from l i ≡ or_zero (length_of x) + left_from l (i + 1)
   pub count : count_of x ≤ count l
   pub few : count_of x < 2 ^ 32
 
-pub here : (l : Listed) (i : ℕ) (x : ItemOf Listed) → slice_get (items_of l) i ≡ Some x → AreSound l → count l < 2 ^ 32 → Here l i x
+pub here : (l : Listed) (i : ℕ) (x : ItemOf Listed) → slice_get (items_of l) i ≡ Some x → AreFaultless l → count l < 2 ^ 32 → Here l i x
 here l i x e s h =
     let k = child_counts l i x e in
     let n = next (items_of l) i x e in

@@ -2,7 +2,8 @@
 use Rattle.std.proofs.Common.{◌≡◌, refl, ℤ, pos, ◌-ℤ◌, ◌≤ℤ◌, ◌<ℤ◌, ◌&&◌, Bool, true, false, List, ◌∷◌, Some, None, arith}
 use Rattle.std.specs.Prelude.{int_lt, int_le}
 use Rattle.std.proofs.lemmas.Int.{ints}
-use Rattle.coord.specs.Looks.{Show, Look, Overlap, within, item_shows, next_shows, from_end, mix_shows}
+use Rattle.otio_model.specs.Overlaps.{within}
+use Rattle.coord.specs.Looks.{Show, Look, Overlap, item_shows, next_shows, from_end, mix_shows}
 
 pub both : (p q : Bool) → (p && q) ≡ true → (p ≡ true) × (q ≡ true)
 both true q e = (refl, e)

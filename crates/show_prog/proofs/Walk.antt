@@ -8,14 +8,16 @@ use Rattle.otio_model.specs.declared.compositions.ItemOf.{ItemOf}
 use Rattle.otio_model.specs.declared.compositions.ItemOf.TheVariants.{Clip, Gap, Transition, Stack, Track}
 use Rattle.otio_model.specs.declared.compositions.Listed.{Listed}
 use Rattle.otio_model.specs.Trees.{items_of}
-use Rattle.otio_model.specs.Lengths.{added, lengths, length_of}
-use Rattle.coord.specs.Looks.{Show, total, mixed, item_shows, next_shows, mix_shows, blank, within}
-use Rattle.coord.specs.Sights.{View, sight, seen, looks, known, offset_of}
-use Rattle.show_prog.specs.Found.{side, IsCrossing, IsHolder}
-use Rattle.show_prog.specs.declared.lists.Crossing.{Crossing}
+use Rattle.otio_model.specs.Lengths.{added, lengths, length_of, or_zero}
+use Rattle.otio_model.specs.Overlaps.{within, offset_of}
+use Rattle.coord.specs.Looks.{Show, total, mixed, item_shows, next_shows, mix_shows, blank}
+use Rattle.coord.specs.Sights.{View, sight, seen, looks}
+use Rattle.show_prog.specs.Walk.{side, IsActive, IsHolder}
+use Rattle.show_prog.specs.declared.lists.ActiveTransition.{ActiveTransition}
 use Rattle.show_prog.specs.declared.lists.Held.{Held}
-use Rattle.show_prog.proofs.Seen.{look_length}
-use Rattle.show_prog.proofs.Sound.{Here, next, none_left, left_from, left_all, left_none}
+use Rattle.coord.proofs.Members.{next, none_left}
+use Rattle.coord.proofs.Seen.{look_length}
+use Rattle.show_prog.proofs.Sound.{Here, left_from, left_all, left_none}
 use Rattle.show_prog.proofs.Steps.{item_hit, item_past, mix_item, mix_miss, side_item, yes, below, above, within_is}
 
 abbrev most : ℤ
@@ -44,9 +46,9 @@ next_here v u l i x all get n same =
 
 sum_length : (v : View) (l : List (ItemOf Listed)) → total (looks v l) ≡ pos (added (map length_of l))
 sum_length v [] = refl
-sum_length v (x ∷ l) = let e = look_length v x (known (length_of x)) refl in let f = sum_length v l in let g = more (length_of x) (map length_of l) in omega (arith, ints, e, f, g)
+sum_length v (x ∷ l) = let e = look_length v x (or_zero (length_of x)) refl in let f = sum_length v l in let g = more (length_of x) (map length_of l) in omega (arith, ints, e, f, g)
   where
-    more : (o : Option ℕ) (ns : List (Option ℕ)) → added (o ∷ ns) ≡ known o + added ns
+    more : (o : Option ℕ) (ns : List (Option ℕ)) → added (o ∷ ns) ≡ or_zero o + added ns
     more None ns = omega arith
     more (Some n) ns = refl
 
@@ -69,25 +71,25 @@ passed_begins l at start e h = let a = left_all l in record {
   same = λ v. ap (item_shows (looks v (items_of l))) (omega (arith, ints));
 }
 
-pub passed_next : (l : Listed) (at : ℤ) (i : ℕ) (x : ItemOf Listed) (start after : ℤ) → Passed l at i start → Here l i x → after ≡ start +ℤ pos (known (length_of x)) → after ≤ℤ at → Passed l at (i + 1) after
+pub passed_next : (l : Listed) (at : ℤ) (i : ℕ) (x : ItemOf Listed) (start after : ℤ) → Passed l at i start → Here l i x → after ≡ start +ℤ pos (or_zero (length_of x)) → after ≤ℤ at → Passed l at (i + 1) after
 passed_next l at i x start after p h e past = let a = p.low in let b = p.passed in let c = p.sum in let d = h.sum in record {
   low = omega (arith, ints);
   passed = past;
   sum = omega (arith, ints);
-  same = λ v. let n = look_length v x (known (length_of x)) refl in
+  same = λ v. let n = look_length v x (or_zero (length_of x)) refl in
       p.same v ∙ ap (λ m. item_shows (looks v m) (at -ℤ start)) h.next
       ∙ item_past (seen v (sight x)) (looks v (drop (i + 1) (items_of l))) (at -ℤ start) (omega (arith, ints))
       ∙ ap (item_shows (looks v (drop (i + 1) (items_of l)))) (omega (arith, ints));
 }
 
-pub passed_here : (l : Listed) (at : ℤ) (i : ℕ) (x : ItemOf Listed) (start : ℤ) (held : Held) → Passed l at i start → Here l i x → i < length (items_of l) → at <ℤ (start +ℤ pos (known (length_of x)))
+pub passed_here : (l : Listed) (at : ℤ) (i : ℕ) (x : ItemOf Listed) (start : ℤ) (held : Held) → Passed l at i start → Here l i x → i < length (items_of l) → at <ℤ (start +ℤ pos (or_zero (length_of x)))
     → held.index ≡ i → held.ticks ≡ at -ℤ start → IsHolder l at held
 passed_here l at i x start held p h index hit e f = let a = p.low in let b = p.passed in let c = p.sum in let d = h.sum in let n = h.ticks in record {
   inside = yes (pos 0) (pos (added (lengths l))) at (omega (arith, ints)) (omega (arith, ints));
   index = rw e index;
   low = omega (arith, ints);
   high = omega (arith, ints);
-  shows = λ v. let k = look_length v x (known (length_of x)) refl in
+  shows = λ v. let k = look_length v x (or_zero (length_of x)) refl in
       p.same v ∙ ap (λ m. item_shows (looks v m) (at -ℤ start)) h.next
       ∙ item_hit (seen v (sight x)) (looks v (drop (i + 1) (items_of l))) (at -ℤ start) (omega (arith, ints)) (omega (arith, ints))
       ∙ rw (e, h.get) (ap ((sight x).shows v) (sym f));
@@ -110,7 +112,7 @@ pub record Walked (l : Listed) (at : ℤ) (i : ℕ) (start since : ℤ) (before 
   pub earlier : IfSome before (λ j. j < i)
   pub same : (v : View) → mix_shows blank (looks v (items_of l)) at ≡ mix_shows (λ z. side v (items_of l) before (z +ℤ since)) (looks v (drop i (items_of l))) (at -ℤ start)
 
-later : (o : Option ℕ) (m n : ℕ) → m ≤ n → IfSome o (λ j. j < m) → IfSome o (λ j. j < n)
+pub later : (o : Option ℕ) (m n : ℕ) → m ≤ n → IfSome o (λ j. j < m) → IfSome o (λ j. j < n)
 later None m n h k = tt
 later (Some j) m n h k = omega (arith, h, k)
 
@@ -125,10 +127,10 @@ walk_begins l at start since before e f g = let a = left_all l in record {
 }
 
 mix_past_item : (v : View) (l : Listed) (i : ℕ) (x : ItemOf Listed) (before : ℤ → Show) (at start after since : ℤ) → Here l i x → (sight x).overlap ≡ None
-    → mix_shows blank (looks v (items_of l)) at ≡ mix_shows before (looks v (drop i (items_of l))) (at -ℤ start) → after ≡ start +ℤ pos (known (length_of x)) → since ≡ pos (known (length_of x))
+    → mix_shows blank (looks v (items_of l)) at ≡ mix_shows before (looks v (drop i (items_of l))) (at -ℤ start) → after ≡ start +ℤ pos (or_zero (length_of x)) → since ≡ pos (or_zero (length_of x))
     → mix_shows blank (looks v (items_of l)) at ≡ mix_shows (λ z. side v (items_of l) (Some i) (z +ℤ since)) (looks v (drop (i + 1) (items_of l))) (at -ℤ after)
 mix_past_item v l i x before at start after since h none same e f =
-    let n = look_length v x (known (length_of x)) refl in
+    let n = look_length v x (or_zero (length_of x)) refl in
     let g : since ≡ (seen v (sight x)).length = f ∙ sym n in
     same ∙ ap (λ m. mix_shows before (looks v m) (at -ℤ start)) h.next
     ∙ mix_item before (seen v (sight x)) (looks v (drop (i + 1) (items_of l))) (at -ℤ start) none
@@ -138,7 +140,7 @@ mix_past_item v l i x before at start after since h none same e f =
 
 pub walk_item : (l : Listed) (at : ℤ) (i : ℕ) (x : ItemOf Listed) (start since next_start next_since : ℤ) (before next_before : Option ℕ) → Walked l at i start since before → Here l i x
     → ((w : TransitionRow) → x ≡ Transition w → ⊥)
-    → next_start ≡ start +ℤ pos (known (length_of x)) → next_since ≡ pos (known (length_of x)) → next_before ≡ Some i → Walked l at (i + 1) next_start next_since next_before
+    → next_start ≡ start +ℤ pos (or_zero (length_of x)) → next_since ≡ pos (or_zero (length_of x)) → next_before ≡ Some i → Walked l at (i + 1) next_start next_since next_before
 walk_item l at i x start since next_start next_since before next_before s h n e f g = let t = h.ticks in let k = s.low in let m = s.sum in let j = h.sum in record {
   low = omega (arith, ints);
   sum = omega (arith, ints);
@@ -177,12 +179,12 @@ walk_here v l at i x w start since from_u to_u num den before to s h is u held s
 pub walk_end : (v : View) (l : Listed) (at : ℤ) (i : ℕ) (start since : ℤ) (before : Option ℕ) → Walked l at i start since before → length (items_of l) ≤ i → mix_shows blank (looks v (items_of l)) at ≡ None
 walk_end v l at i start since before s h = s.same v ∙ ap (λ m. mix_shows (λ z. side v (items_of l) before (z +ℤ since)) (looks v m) (at -ℤ start)) (none_left (items_of l) i h)
 
-pub crossing_within : (l : Listed) (at : ℤ) (i n : ℕ) (w : TransitionRow) (start since : ℤ) (before : Option ℕ) (c : Crossing) → Walked l at i start since before → i ≤ n
+pub active_within : (l : Listed) (at : ℤ) (i n : ℕ) (w : TransitionRow) (start since : ℤ) (before : Option ℕ) (c : ActiveTransition) → Walked l at i start since before → i ≤ n
     → pos 0 ≤ℤ at → at ≤ℤ most → start ≤ℤ most
     → (u : ℤ) → true ≡ within (pos 0 -ℤ offset_of w.in_offset) (offset_of w.out_offset) u → u ≡ at -ℤ start
     → c.from ≡ before → IfSome c.to (λ j. j < n) → c.from_ticks ≡ (at -ℤ start) +ℤ since → c.to_ticks ≡ at -ℤ start
-    → c.part ≡ (at -ℤ start) +ℤ offset_of w.in_offset → c.whole ≡ offset_of w.in_offset +ℤ offset_of w.out_offset → IsCrossing n c
-crossing_within l at i n w start since before c s h low high past u held same e to f g p q =
+    → c.part ≡ (at -ℤ start) +ℤ offset_of w.in_offset → c.whole ≡ offset_of w.in_offset +ℤ offset_of w.out_offset → IsActive n c
+active_within l at i n w start since before c s h low high past u held same e to f g p q =
     let a = s.low in let b = s.since_low in let d = s.since_high in
     let k = within_is (pos 0 -ℤ offset_of w.in_offset) (offset_of w.out_offset) u (sym held) in
     let k_low = k.0 in let k_high = k.1 in

@@ -1,5 +1,5 @@
 -- What is seen at each record frame, and its text.
-pub mod Found
-pub mod Images
+pub mod Clocks
+pub mod Walk
 pub mod Pictures
 pub mod Texts

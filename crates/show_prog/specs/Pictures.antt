@@ -1,7 +1,7 @@
 -- What pictures stand for.
 use Rattle.std.specs.Prelude.{unsigned_abs}
 use Rattle.coord.specs.Looks.{Key, Url, Sequence, Generator, Reel, Name}
-use Rattle.show_prog.specs.Images.{Kind, Dissolve, Wipe, Other, Image, Empty, Single, Mixture}
+use Rattle.coord.specs.Images.{Kind, Dissolve, Wipe, Other, Image, Empty, Single, Mixture}
 use Rattle.show_prog.specs.declared.picture.KeyRef.{KeyRef}
 use Rattle.show_prog.specs.declared.picture.KeyRef.TheVariants as key
 use Rattle.show_prog.specs.declared.picture.MixKind.{MixKind}
@@ -24,7 +24,8 @@ kind_of (kind.Other type) = Other type.now
 abbrev pub image_step : Picture-F Image → Image
 image_step Picture-F.Blank = Empty
 image_step (Picture-F.Frame key number) = Single (key_of key) number
-image_step (Picture-F.Mix kind from to num den) = Mixture (kind_of kind) from.value to.value (record { num = unsigned_abs num; den = unsigned_abs den })
+image_step (Picture-F.Mix kind from to num den) =
+    Mixture (kind_of kind) from.value to.value (record { num = num; den = den })
 
 -- what a picture stands for
 abbrev pub image_of : Picture → Image

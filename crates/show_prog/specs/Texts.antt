@@ -3,9 +3,10 @@ use Rattle.std.specs.Prelude.{ℕ, ◌+◌, ◌/◌, ◌%◌, List, [], ◌∷�
 use Rattle.std.specs.Fmt.{signed_decimal}
 use Rattle.json_layout.specs.Strings.{quoted}
 use Rattle.coord.specs.Looks.{Key, Url, Sequence, Generator, Reel, Name, Weight}
-use Rattle.show_prog.specs.Images.{Kind, Dissolve, Wipe, Other, Image, Empty, Single, Mixture}
+use Rattle.coord.specs.Images.{Kind, Dissolve, Wipe, Other, Image, Empty, Single, Mixture}
 
--- what a key is, a colon, and its text as a JSON string; the number of an image stands as `#` between the texts of a sequence
+-- what a key is, a colon, and its text as a JSON string; the number of an image stands as `#`
+-- between the texts of a sequence
 abbrev pub key_text : Key → List ℕ
 key_text (Url url) = codes "url:" ++ quoted url
 key_text (Sequence base prefix suffix) = codes "seq:" ++ quoted (base ++ (prefix ++ (35 ∷ suffix)))
@@ -23,9 +24,10 @@ kind_text (Wipe code) = codes "wipe " ++ three code
 kind_text (Other type) = quoted type
 
 abbrev pub weight_text : Weight → List ℕ
-weight_text w = decimal w.num ++ (codes "/" ++ decimal w.den)
+weight_text w = signed_decimal w.num ++ (codes "/" ++ signed_decimal w.den)
 
--- nothing as `-`, a frame as its key, `@` and its number, and a mix as its kind, its weight and its two sides
+-- nothing as `-`, a frame as its key, `@` and its number, and a mix as its kind, its weight and its
+-- two sides
 abbrev pub image_text : Image → List ℕ
 image_text Empty = codes "-"
 image_text (Single key number) = key_text key ++ (codes "@" ++ signed_decimal number)

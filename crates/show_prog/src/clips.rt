@@ -4,10 +4,9 @@ ghost use Rattle.std.specs.Prelude.{◌≡◌, ℕ, ◌-◌, ◌≤◌, List, op
 ghost use Rattle.std.specs.Option.{option_copied};
 ghost use Rattle.coord.specs.Keys as keys;
 ghost use Rattle.coord.specs.Looks.{Blank};
-ghost use Rattle.coord.specs.Sights.{framed};
-ghost use Rattle.show_prog.specs.Found as found;
-ghost use Rattle.show_prog.specs.Found.{exact};
-ghost use Rattle.show_prog.specs.Images as images;
+ghost use Rattle.coord.specs.Sights.{exact, framed};
+ghost use Rattle.show_prog.specs.Walk as found;
+ghost use Rattle.coord.specs.Images as images;
 ghost use Rattle.show_prog.specs.Pictures as pictures;
 
 use crate::picture::{KeyRef, MixKind, Picture};
@@ -95,7 +94,9 @@ fn frame_number(at: i128, rate: Rate) -> i128
 
 /// What a clip shows at an instant of its media.
 pub(crate) fn show_clip(clip: &Clip, at: i128) -> Picture<'_>
-    ensures { (kind : List ℕ) → pictures.image_of result ≡ images.image (cond clip.now.enabled (framed (exact kind) (keys.key_of clip.now) at (keys.media_rate clip.now)) Blank) }
+    ensures { (kind : List ℕ) → pictures.image_of result ≡
+        images.image (cond clip.now.enabled
+        (framed (exact kind) (keys.key_of clip.now) at (keys.media_rate clip.now)) Blank) }
 {
     if !clip.enabled {
         return Picture::Blank;

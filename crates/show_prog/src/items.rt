@@ -2,22 +2,23 @@
 
 ghost use Rattle.std.specs.Prelude.{◌≡◌, ℤ, pos, ◌-ℤ◌, ◌*ℤ◌, ◌≤ℤ◌, ◌<ℤ◌, ◌<◌, ◌≤◌, ◌^◌, ◌&&◌, true, false, IfOk, IfSome, OnErr, length};
 ghost use Rattle.std.specs.Int.{int_div_euclid};
+ghost use Rattle.limits.specs.Limits.{most_ticks};
 ghost use Rattle.otio_model.specs.Counts.{count, count_of};
+ghost use Rattle.otio_model.specs.Lengths as ranges;
 ghost use Rattle.otio_model.specs.Lengths.{added, lengths};
 ghost use Rattle.otio_model.specs.Trees.{items_of};
 ghost use Rattle.coord.specs.Looks.{track_shows, stack_shows};
 ghost use Rattle.coord.specs.Sights as sights;
-ghost use Rattle.coord.specs.Sights.{sight, looks, shows_inside};
+ghost use Rattle.coord.specs.Sights.{exact, sight, looks, shows_inside};
 ghost use Rattle.coord.specs.Speeds as speeds;
 ghost use Rattle.coord.specs.Speeds.{speed_of};
-ghost use Rattle.coord.specs.Soundness.{AreSound, fault_of};
-ghost use Rattle.show_prog.specs.Found.{exact, side, mixture, is_empty, IsSoundItem};
-ghost use Rattle.show_prog.specs.Images.{image, is_mix};
+ghost use Rattle.coord.specs.Soundness.{AreFaultless, fault_of, IsFaultlessItem};
+ghost use Rattle.show_prog.specs.Walk.{side, mixture, is_empty};
+ghost use Rattle.coord.specs.Images.{image, is_mix};
 ghost use Rattle.show_prog.specs.Pictures.{image_of};
 
-use crate::children::{child_at, ticks_of};
 use crate::clips::{mix_kind, show_clip};
-use crate::lists::{Crossing, holder, overlap_at};
+use crate::lists::{ActiveTransition, holder, overlap_at};
 use crate::picture::Picture;
 use crate::weights::lowest;
 use coord::{speed, trimmed_start};
@@ -39,19 +40,20 @@ fn media_ticks(speed: i64, ticks: i128) -> i128
 
 /// Where the trimmed range of an item starts.
 fn start_of(item: &Item) -> i128
-    ensures value { result ≡ sights.trimmed_start item.now }
-    ensures low { (pos 0 -ℤ pos 705600000000000000000000) ≤ℤ result }
-    ensures high { result ≤ℤ pos 705600000000000000000000 }
+    ensures value { result ≡ ranges.trimmed_start item.now }
+    ensures low { (pos 0 -ℤ pos most_ticks) ≤ℤ result }
+    ensures high { result ≤ℤ pos most_ticks }
 {
     trimmed_start(item)
 }
 
-/// The instant of an item's media, or of its children, that is reached so many ticks from its start.
+/// The instant of an item's media, or of its children, that is reached so many ticks from its
+/// start.
 fn media_at(item: &Item, ticks: i128) -> i128
     requires sound { fault_of item.now ≡ None }
     requires low { (pos 0 -ℤ pos 2822400000000000000000000) ≤ℤ ticks }
     requires high { ticks ≤ℤ pos 2822400000000000000000000 }
-    ensures { result ≡ speeds.media_at (sights.trimmed_start item.now) (speed_of item.now) ticks }
+    ensures { result ≡ speeds.media_at (ranges.trimmed_start item.now) (speed_of item.now) ticks }
 {
     start_of(item) + media_ticks(speed(item), ticks)
 }
@@ -65,10 +67,11 @@ pub(crate) fn show_item<'a>(
     ticks: i128,
 ) -> Result<Picture<'a>, AllocError>
     requires few { count_of item.now < 2 ^ 32 }
-    requires sound { IsSoundItem item.now }
+    requires sound { IsFaultlessItem item.now }
     requires low { (pos 0 -ℤ pos 2822400000000000000000000) ≤ℤ ticks }
     requires high { ticks ≤ℤ pos 2822400000000000000000000 }
-    ensures image { IfOk result (λ p. image_of p ≡ image ((sight item.now).shows (exact kind.now) ticks)) }
+    ensures image { IfOk result (λ p. image_of p ≡
+        image ((sight item.now).shows (exact kind.now) ticks)) }
     ensures memory { OnErr result (is_mix ((sight item.now).shows (exact kind.now) ticks) ≡ true) }
 {
     show_inside(alloc, item, kind, media_at(item, ticks))
@@ -83,9 +86,11 @@ fn show_inside<'a>(
     at: i128,
 ) -> Result<Picture<'a>, AllocError>
     requires few { count_of item.now < 2 ^ 32 }
-    requires sound { IsSoundItem item.now }
-    ensures image { IfOk result (λ p. image_of p ≡ image (shows_inside sights.sights item.now (exact kind.now) at)) }
-    ensures memory { OnErr result (is_mix (shows_inside sights.sights item.now (exact kind.now) at) ≡ true) }
+    requires sound { IsFaultlessItem item.now }
+    ensures image { IfOk result (λ p. image_of p ≡
+        image (shows_inside sights.sights item.now (exact kind.now) at)) }
+    ensures memory { OnErr result (is_mix
+        (shows_inside sights.sights item.now (exact kind.now) at) ≡ true) }
 {
     match item {
         ItemOf::Clip(clip) => Ok(show_clip(clip, at)),
@@ -115,15 +120,17 @@ fn show_side<'a>(
     ticks: i128,
 ) -> Result<Picture<'a>, AllocError>
     requires few { count children.now < 2 ^ 32 }
-    requires sound { AreSound children.now }
+    requires sound { AreFaultless children.now }
     requires within { IfSome index (λ i. i < length (items_of children.now)) }
     requires low { (pos 0 -ℤ pos 2822400000000000000000000) ≤ℤ ticks }
     requires high { ticks ≤ℤ pos 2822400000000000000000000 }
-    ensures image { IfOk result (λ p. image_of p ≡ image (side (exact kind.now) (items_of children.now) index ticks)) }
-    ensures memory { OnErr result (is_mix (side (exact kind.now) (items_of children.now) index ticks) ≡ true) }
+    ensures image { IfOk result (λ p. image_of p ≡
+        image (side (exact kind.now) (items_of children.now) index ticks)) }
+    ensures memory { OnErr result (is_mix
+        (side (exact kind.now) (items_of children.now) index ticks) ≡ true) }
 {
     match index {
-        Some(index) => show_item(alloc, child_at(children, index), kind, ticks),
+        Some(index) => show_item(alloc, children.child(index), kind, ticks),
         None => Ok(Picture::Blank),
     }
 }
@@ -137,19 +144,21 @@ fn show_track<'a>(
     at: i128,
 ) -> Result<Picture<'a>, AllocError>
     requires few { count children.now < 2 ^ 32 }
-    requires sound { AreSound children.now }
-    requires fits { added (lengths children.now) ≤ 705600000000000000000000 }
-    ensures image { IfOk result (λ p. image_of p ≡ image (track_shows (looks (exact kind.now) (items_of children.now)) at)) }
-    ensures memory { OnErr result (is_mix (track_shows (looks (exact kind.now) (items_of children.now)) at) ≡ true) }
+    requires sound { AreFaultless children.now }
+    requires fits { added (lengths children.now) ≤ most_ticks }
+    ensures image { IfOk result (λ p. image_of p ≡
+        image (track_shows (looks (exact kind.now) (items_of children.now)) at)) }
+    ensures memory { OnErr result (is_mix
+        (track_shows (looks (exact kind.now) (items_of children.now)) at) ≡ true) }
 {
     match holder(children, at) {
         None => Ok(Picture::Blank),
         Some(held) => match overlap_at(children, at) {
             None => show_side(alloc, children, Some(held.index), kind, held.ticks),
-            Some(crossing) => {
-                let from = show_side(alloc, children, crossing.from, kind, crossing.from_ticks)?;
-                let to = show_side(alloc, children, crossing.to, kind, crossing.to_ticks)?;
-                mix(alloc, crossing, from, to)
+            Some(active) => {
+                let from = show_side(alloc, children, active.from, kind, active.from_ticks)?;
+                let to = show_side(alloc, children, active.to, kind, active.to_ticks)?;
+                mix(alloc, active, from, to)
             }
         },
     }
@@ -158,21 +167,24 @@ fn show_track<'a>(
 /// A mix of two pictures; of two that are Blank it is Blank.
 fn mix<'a>(
     alloc: Global,
-    crossing: Crossing<'a>,
+    active: ActiveTransition<'a>,
     from: Picture<'a>,
     to: Picture<'a>,
 ) -> Result<Picture<'a>, AllocError>
-    requires part { pos 0 ≤ℤ crossing.part }
-    requires whole { pos 0 <ℤ crossing.whole }
-    ensures image { IfOk result (λ p. image_of p ≡ mixture crossing.entry.kind.now (image_of from.entry) (image_of to.entry) crossing.entry.part crossing.entry.whole) }
-    ensures memory { OnErr result ((is_empty (image_of from.entry) && is_empty (image_of to.entry)) ≡ false) }
+    requires part { pos 0 ≤ℤ active.part }
+    requires whole { pos 0 <ℤ active.whole }
+    ensures image { IfOk result (λ p. image_of p ≡
+        mixture active.entry.kind.now (image_of from.entry)
+        (image_of to.entry) active.entry.part active.entry.whole) }
+    ensures memory { OnErr result ((is_empty (image_of from.entry) && is_empty
+        (image_of to.entry)) ≡ false) }
 {
     if is_blank(&from) && is_blank(&to) {
         return Ok(Picture::Blank);
     }
-    let share = lowest(crossing.part, crossing.whole);
+    let share = lowest(active.part, active.whole);
     Ok(Picture::Mix {
-        kind: mix_kind(crossing.kind),
+        kind: mix_kind(active.kind),
         from: Box::new(alloc, from)?,
         to: Box::new(alloc, to)?,
         num: share.num,
@@ -195,16 +207,18 @@ fn show_stack<'a>(
     at: i128,
 ) -> Result<Picture<'a>, AllocError>
     requires few { count children.now < 2 ^ 32 }
-    requires sound { AreSound children.now }
-    ensures image { IfOk result (λ p. image_of p ≡ image (stack_shows (looks (exact kind.now) (items_of children.now)) at)) }
-    ensures memory { OnErr result (is_mix (stack_shows (looks (exact kind.now) (items_of children.now)) at) ≡ true) }
+    requires sound { AreFaultless children.now }
+    ensures image { IfOk result (λ p. image_of p ≡
+        image (stack_shows (looks (exact kind.now) (items_of children.now)) at)) }
+    ensures memory { OnErr result (is_mix
+        (stack_shows (looks (exact kind.now) (items_of children.now)) at) ≡ true) }
 {
     if at < 0 {
         return Ok(Picture::Blank);
     }
     'children: for index in (0..children.len()).rev() {
-        let item = child_at(children, index);
-        if at < ticks_of(item) {
+        let item = children.child(index);
+        if at < item.length_or_zero() {
             let picture = show_item(alloc, item, kind, at)?;
             if !is_blank(&picture) {
                 return Ok(picture);

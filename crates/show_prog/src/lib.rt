@@ -3,7 +3,6 @@
 //! A [`Picture`] borrows the texts of the timeline that it was taken from.
 #![tactic(auto)]
 
-mod children;
 mod clips;
 mod items;
 mod lists;
@@ -14,7 +13,7 @@ mod weights;
 
 pub use picture::{KeyRef, MixKind, Picture};
 pub use print::{print_show, put_show};
-pub use program::show;
+pub use program::{Clock, clock_of, show, show_at};
 
 #[cfg(test)]
 mod tests;

@@ -1,22 +1,25 @@
 //! What holds an instant in a list: an overlap, or an item.
 
-ghost use Rattle.std.specs.Prelude.{◌≡◌, ℕ, ℤ, pos, ◌-ℤ◌, ◌≤ℤ◌, ◌<◌, ◌≤◌, ◌^◌, IfSome, drop, length};
+ghost use Rattle.std.specs.Prelude.{◌≡◌, ℕ, ℤ, pos, ◌-ℤ◌, ◌≤ℤ◌, ◌<◌, ◌≤◌, ◌^◌, Some, IfSome, drop, length};
+ghost use Rattle.limits.specs.Limits.{most_ticks};
 ghost use Rattle.otio_model.specs.Counts.{count};
 ghost use Rattle.otio_model.specs.Lengths.{added, lengths};
 ghost use Rattle.otio_model.specs.Trees.{items_of};
-ghost use Rattle.coord.specs.Looks.{blank, mix_shows, next_shows, within};
-ghost use Rattle.coord.specs.Sights.{View, looks, offset_of};
-ghost use Rattle.coord.specs.Soundness.{AreSound};
-ghost use Rattle.show_prog.specs.Found.{side, crossing_shows, IsCrossing, IsHeld};
+ghost use Rattle.otio_model.specs.Overlaps.{offset_of};
+ghost use Rattle.otio_model.specs.Seats.{IsFirstOverlap};
+ghost use Rattle.coord.specs.Looks.{blank, mix_shows, next_shows};
+ghost use Rattle.coord.specs.Sights.{View, looks};
+ghost use Rattle.coord.specs.Soundness.{AreFaultless};
+ghost use Rattle.show_prog.specs.Walk as walk;
+ghost use Rattle.show_prog.specs.Walk.{side, active_shows, IsActive, IsHeld};
 
-use crate::children::{child_at, ticks_of};
-use otio_model::{Children, ItemOf, Transition};
+use otio_model::{Children, ItemOf, Seat};
 use sequences::Text;
 use tick_time::Time;
 
 /// An overlap that holds an instant: its two sides, each with its own instant.
 #[derive(Clone, Copy, Debug)]
-pub(crate) struct Crossing<'a> {
+pub(crate) struct ActiveTransition<'a> {
     /// The transition's type.
     pub(crate) kind: &'a Text,
     /// The item before the transition, and the instant there.
@@ -40,8 +43,8 @@ pub(crate) struct Held {
 /// An offset that isn't given is 0.
 fn offset_ticks(offset: Option<Time>) -> i128
     ensures value { result ≡ offset_of offset }
-    ensures low { (pos 0 -ℤ pos 705600000000000000000000) ≤ℤ result }
-    ensures high { result ≤ℤ pos 705600000000000000000000 }
+    ensures low { (pos 0 -ℤ pos most_ticks) ≤ℤ result }
+    ensures high { result ≤ℤ pos most_ticks }
 {
     match offset {
         Some(time) => time.ticks,
@@ -49,21 +52,15 @@ fn offset_ticks(offset: Option<Time>) -> i128
     }
 }
 
-/// Whether a transition's overlap holds an instant that is counted from its cut.
-fn holds(transition: &Transition, at: i128) -> bool
-    ensures { result ≡ within (pos 0 -ℤ offset_of transition.now.in_offset) (offset_of transition.now.out_offset) at }
-{
-    -offset_ticks(transition.in_offset) <= at && at < offset_ticks(transition.out_offset)
-}
-
 /// The first item from an index on that isn't a transition.
 fn next_item(children: &Children, start: usize) -> Option<usize>
     requires { start ≤ length (items_of children.now) }
-    ensures side { (v : View) (u : ℤ) → next_shows (looks v (drop start (items_of children.now))) u ≡ side v (items_of children.now) result u }
+    ensures side { (v : View) (u : ℤ) → next_shows (looks v (drop start (items_of children.now))) u
+        ≡ side v (items_of children.now) result u }
     ensures within { IfSome result (λ i. i < length (items_of children.now)) }
 {
     'children: for index in start..children.len() {
-        match child_at(children, index) {
+        match children.child(index) {
             ItemOf::Transition(_) => {}
             _ => return Some(index),
         }
@@ -71,65 +68,91 @@ fn next_item(children: &Children, start: usize) -> Option<usize>
     None
 }
 
-/// The first overlap that holds an instant.
-pub(crate) fn overlap_at(children: &Children, at: i128) -> Option<Crossing<'_>>
-    requires few { count children.now < 2 ^ 32 }
-    requires sound { AreSound children.now }
-    requires fits { added (lengths children.now) ≤ 705600000000000000000000 }
-    requires low { pos 0 ≤ℤ at }
-    requires high { at ≤ℤ pos 705600000000000000000000 }
-    ensures shows { (v : View) → mix_shows blank (looks v (items_of children.now)) at ≡ crossing_shows v (items_of children.now) result }
-    ensures within { IfSome result (λ c. IsCrossing (length (items_of children.now)) c) }
+/// The last item before an index that isn't a transition.
+fn item_before(children: &Children, end: usize) -> Option<usize>
+    requires { end ≤ length (items_of children.now) }
+    ensures { result ≡ walk.item_before (items_of children.now) end }
 {
-    let mut start: i128 = 0;
-    let mut since: i128 = 0;
-    let mut before: Option<usize> = None;
-    'children: for index in 0..children.len() {
-        match child_at(children, index) {
-            ItemOf::Transition(transition) => {
-                if holds(transition, at - start) {
-                    return Some(Crossing {
-                        kind: &transition.transition_type,
-                        from: before,
-                        from_ticks: at - start + since,
-                        to: next_item(children, index + 1),
-                        to_ticks: at - start,
-                        part: at - start + offset_ticks(transition.in_offset),
-                        whole: offset_ticks(transition.in_offset)
-                            + offset_ticks(transition.out_offset),
-                    });
-                }
-            }
-            item => {
-                since = ticks_of(item);
-                before = Some(index);
-                start += since;
-            }
+    'children: for index in (0..end).rev() {
+        match children.child(index) {
+            ItemOf::Transition(_) => {}
+            _ => return Some(index),
         }
     }
     None
 }
 
+/// How long the item at an index is, 0 where there is none.
+fn ticks_at(children: &Children, index: Option<usize>) -> i128
+    requires few { count children.now < 2 ^ 32 }
+    requires within { IfSome index (λ i. i < length (items_of children.now)) }
+    ensures { result ≡ walk.ticks_at (items_of children.now) index }
+{
+    match index {
+        Some(index) => children.child(index).length_or_zero(),
+        None => 0,
+    }
+}
+
+/// The transition at a seat, whose overlap is the first that holds an instant.
+fn active_at(children: &Children, seat: Seat, at: i128) -> ActiveTransition<'_>
+    requires few { count children.now < 2 ^ 32 }
+    requires sound { AreFaultless children.now }
+    requires fits { added (lengths children.now) ≤ most_ticks }
+    requires low { pos 0 ≤ℤ at }
+    requires high { at ≤ℤ pos most_ticks }
+    requires first { IsFirstOverlap children.now at seat }
+    ensures shows { (v : View) → mix_shows blank (looks v (items_of children.now)) at
+        ≡ active_shows v (items_of children.now) (Some result) }
+    ensures within { IsActive (length (items_of children.now)) result }
+{
+    let ticks = at - seat.start;
+    match children.child(seat.index) {
+        ItemOf::Transition(transition) => {
+            let before = item_before(children, seat.index);
+            ActiveTransition {
+                kind: &transition.transition_type,
+                from: before,
+                from_ticks: ticks + ticks_at(children, before),
+                to: next_item(children, seat.index + 1),
+                to_ticks: ticks,
+                part: ticks + offset_ticks(transition.in_offset),
+                whole: offset_ticks(transition.in_offset) + offset_ticks(transition.out_offset),
+            }
+        }
+        _ => unreachable!(),
+    }
+}
+
+/// The first transition whose overlap holds an instant.
+pub(crate) fn overlap_at(children: &Children, at: i128) -> Option<ActiveTransition<'_>>
+    requires few { count children.now < 2 ^ 32 }
+    requires sound { AreFaultless children.now }
+    requires fits { added (lengths children.now) ≤ most_ticks }
+    requires low { pos 0 ≤ℤ at }
+    requires high { at ≤ℤ pos most_ticks }
+    ensures shows { (v : View) → mix_shows blank (looks v (items_of children.now)) at
+        ≡ active_shows v (items_of children.now) result }
+    ensures within { IfSome result (IsActive (length (items_of children.now))) }
+{
+    match children.first_overlap(at) {
+        Some(seat) => Some(active_at(children, seat, at)),
+        None => None,
+    }
+}
+
 /// The item that holds an instant; `None` exactly where it lies outside what is available.
 pub(crate) fn holder(children: &Children, at: i128) -> Option<Held>
     requires few { count children.now < 2 ^ 32 }
-    requires sound { AreSound children.now }
-    requires fits { added (lengths children.now) ≤ 705600000000000000000000 }
+    requires sound { AreFaultless children.now }
+    requires fits { added (lengths children.now) ≤ most_ticks }
     ensures { IsHeld children.now at result }
 {
-    if at < 0 {
-        return None;
+    match children.holder(at) {
+        Some(seat) => Some(Held {
+            index: seat.index,
+            ticks: at - seat.start,
+        }),
+        None => None,
     }
-    let mut start: i128 = 0;
-    'children: for index in 0..children.len() {
-        let ticks = ticks_of(child_at(children, index));
-        if at < start + ticks {
-            return Some(Held {
-                index,
-                ticks: at - start,
-            });
-        }
-        start += ticks;
-    }
-    None
 }

@@ -2,7 +2,7 @@
 
 ghost use Rattle.std.specs.Prelude.{◌≡◌, ◌++◌, codes, decimal, unsigned_abs};
 ghost use Rattle.std.specs.Fmt.{signed_decimal};
-ghost use Rattle.dev_io.specs.Buffer.{standing, Puts};
+ghost use Rattle.dev_io.specs.Buffer.{HandsOver};
 ghost use Rattle.dev_io.specs.Calls.{Tells, SendsAll};
 ghost use Rattle.dev_io.specs.Causes.{HasCause};
 ghost use Rattle.json_layout.specs.Strings.{quoted};
@@ -16,14 +16,18 @@ use itoa::Buffer;
 use json_layout::{put_escaped, put_string};
 use sequences::Text;
 
-/// Sends the text of a picture: `-` where nothing is seen, a frame as `KEY@NUMBER`, and a mix as `mix(KIND NUM/DEN FROM TO)`.
+/// Sends the text of a picture: `-` where nothing is seen, a frame as `KEY@NUMBER`, and a mix as
+/// `mix(KIND NUM/DEN FROM TO)`.
 ///
-/// A KEY is `url:`, `seq:`, `gen:`, `reel:` or `name:` and a JSON string (RFC 8259, section 7), with `#` for the number in the name of a sequence's
-/// images. A KIND is `dissolve`, `wipe` and three digits, or the type of the transition as a JSON string. Numbers are decimal.
+/// A KEY is `url:`, `seq:`, `gen:`, `reel:` or `name:` and a JSON string (RFC 8259, section 7),
+/// with `#` for the number in the name of a sequence's images. A KIND is `dissolve`, `wipe` and
+/// three digits, or the type of the transition as a JSON string. Numbers are decimal.
 ///
-/// It answers `Sink` where a write failed, and then a prefix of the text was sent and the count of faults rose. It takes no memory.
+/// It answers `Sink` where a write failed, and then a prefix of the text was sent and the count of
+/// faults rose. It takes no memory.
 pub fn print_show<W: Out>(value: &Picture<'_>, out: &mut W) -> Result<(), WriteFault>
-    ensures told { Tells (SendsAll (image_text (image_of value.now)) result) (W.known out.old) (W.known out.new) }
+    ensures told { Tells (SendsAll (image_text (image_of value.now)) result) (W.known out.old)
+        (W.known out.new) }
     ensures cause { HasCause (W.faults out.old) (W.faults out.new) result }
 {
     let mut buffer = OutBuffer::new();
@@ -31,9 +35,11 @@ pub fn print_show<W: Out>(value: &Picture<'_>, out: &mut W) -> Result<(), WriteF
     buffer.flush(out)
 }
 
-/// Hands the text of a picture to the buffer beside a stream; [`print_show`] says what the text is. It takes no memory.
+/// Hands the text of a picture to the buffer beside a stream; [`print_show`] says what the text is.
+/// It takes no memory.
 pub fn put_show<W: Out>(buffer: &mut OutBuffer, out: &mut W, value: &Picture<'_>)
-    ensures { Puts (standing W.known W.faults out.old buffer.old) (standing W.known W.faults out.new buffer.new) (image_text (image_of value.now)) }
+    ensures { HandsOver W.known W.faults out.old out.new buffer.old buffer.new
+        (image_text (image_of value.now)) }
 {
     match value {
         Picture::Blank => buffer.put(out, b"-"),
@@ -60,7 +66,7 @@ pub fn put_show<W: Out>(buffer: &mut OutBuffer, out: &mut W, value: &Picture<'_>
 
 // Hands over a frame: its key and its number.
 fn put_frame<W: Out>(buffer: &mut OutBuffer, out: &mut W, key: &KeyRef<'_>, number: i128)
-    ensures { Puts (standing W.known W.faults out.old buffer.old) (standing W.known W.faults out.new buffer.new)
+    ensures { HandsOver W.known W.faults out.old out.new buffer.old buffer.new
         (key_text (key_of key.now) ++ (codes "@" ++ signed_decimal number)) }
 {
     put_key(buffer, out, key);
@@ -70,7 +76,8 @@ fn put_frame<W: Out>(buffer: &mut OutBuffer, out: &mut W, key: &KeyRef<'_>, numb
 
 // Hands over what a frame's clip is known by.
 fn put_key<W: Out>(buffer: &mut OutBuffer, out: &mut W, key: &KeyRef<'_>)
-    ensures { Puts (standing W.known W.faults out.old buffer.old) (standing W.known W.faults out.new buffer.new) (key_text (key_of key.now)) }
+    ensures { HandsOver W.known W.faults out.old out.new buffer.old buffer.new
+        (key_text (key_of key.now)) }
 {
     match key {
         KeyRef::Url(url) => put_headed(buffer, out, b"url:", url),
@@ -83,13 +90,15 @@ fn put_key<W: Out>(buffer: &mut OutBuffer, out: &mut W, key: &KeyRef<'_>)
 
 // Hands over a head and a text as a JSON string.
 fn put_headed<W: Out>(buffer: &mut OutBuffer, out: &mut W, head: &[u8], text: &Text)
-    ensures { Puts (standing W.known W.faults out.old buffer.old) (standing W.known W.faults out.new buffer.new) (head.now ++ quoted text.now) }
+    ensures { HandsOver W.known W.faults out.old out.new buffer.old buffer.new
+        (head.now ++ quoted text.now) }
 {
     buffer.put(out, head);
     put_string(buffer, out, text.as_str().as_bytes());
 }
 
-// Hands over the key of an image sequence: its three texts in one JSON string, with the number as `#` before the last.
+// Hands over the key of an image sequence: its three texts in one JSON string, with the number as
+// `#` before the last.
 fn put_sequence<W: Out>(
     buffer: &mut OutBuffer,
     out: &mut W,
@@ -97,7 +106,7 @@ fn put_sequence<W: Out>(
     prefix: &Text,
     suffix: &Text,
 )
-    ensures { Puts (standing W.known W.faults out.old buffer.old) (standing W.known W.faults out.new buffer.new)
+    ensures { HandsOver W.known W.faults out.old out.new buffer.old buffer.new
         (key_text (Sequence base.now prefix.now suffix.now)) }
 {
     buffer.put(out, b"seq:\"");
@@ -110,7 +119,8 @@ fn put_sequence<W: Out>(
 
 // Hands over the kind of a mix.
 fn put_kind<W: Out>(buffer: &mut OutBuffer, out: &mut W, kind: &MixKind<'_>)
-    ensures { Puts (standing W.known W.faults out.old buffer.old) (standing W.known W.faults out.new buffer.new) (kind_text (kind_of kind.now)) }
+    ensures { HandsOver W.known W.faults out.old out.new buffer.old buffer.new
+        (kind_text (kind_of kind.now)) }
 {
     match kind {
         MixKind::Dissolve => buffer.put(out, b"dissolve"),
@@ -121,7 +131,8 @@ fn put_kind<W: Out>(buffer: &mut OutBuffer, out: &mut W, kind: &MixKind<'_>)
 
 // Hands over a wipe of this code.
 fn put_wipe<W: Out>(buffer: &mut OutBuffer, out: &mut W, code: u16)
-    ensures { Puts (standing W.known W.faults out.old buffer.old) (standing W.known W.faults out.new buffer.new) (codes "wipe " ++ three code) }
+    ensures { HandsOver W.known W.faults out.old out.new buffer.old buffer.new
+        (codes "wipe " ++ three code) }
 {
     let digits = last_three(code);
     buffer.put(out, b"wipe ");
@@ -141,24 +152,18 @@ fn last_three(number: u16) -> [u8; 3]
 
 // Hands over how much of a mix is its incoming side.
 fn put_weight<W: Out>(buffer: &mut OutBuffer, out: &mut W, num: i128, den: i128)
-    ensures { Puts (standing W.known W.faults out.old buffer.old) (standing W.known W.faults out.new buffer.new) (decimal (unsigned_abs num) ++ (codes "/" ++ decimal (unsigned_abs den))) }
+    ensures { HandsOver W.known W.faults out.old out.new buffer.old buffer.new
+        (signed_decimal num ++ (codes "/" ++ signed_decimal den)) }
 {
-    put_unsigned(buffer, out, num);
+    put_signed(buffer, out, num);
     buffer.put(out, b"/");
-    put_unsigned(buffer, out, den);
-}
-
-// Hands over the digits of a number, without its sign.
-fn put_unsigned<W: Out>(buffer: &mut OutBuffer, out: &mut W, number: i128)
-    ensures { Puts (standing W.known W.faults out.old buffer.old) (standing W.known W.faults out.new buffer.new) (decimal (unsigned_abs number)) }
-{
-    let mut digits = Buffer::new();
-    buffer.put(out, digits.format(number.unsigned_abs()).as_bytes());
+    put_signed(buffer, out, den);
 }
 
 // Hands over a number in decimal digits, with `-` where it is negative.
 fn put_signed<W: Out>(buffer: &mut OutBuffer, out: &mut W, number: i128)
-    ensures { Puts (standing W.known W.faults out.old buffer.old) (standing W.known W.faults out.new buffer.new) (signed_decimal number) }
+    ensures { HandsOver W.known W.faults out.old out.new buffer.old buffer.new
+        (signed_decimal number) }
 {
     let mut digits = Buffer::new();
     buffer.put(out, digits.format(number).as_bytes());

@@ -2,7 +2,7 @@
 
 ghost use Rattle.std.specs.Prelude.{◌≡◌, ◌<◌, pos, ◌≤ℤ◌, ◌<ℤ◌, unsigned_abs};
 ghost use Rattle.coord.specs.Looks as looks;
-ghost use Rattle.show_prog.specs.Found.{weight_of};
+ghost use Rattle.show_prog.specs.Walk.{weight_of};
 
 /// A fraction `num / den` in lowest terms.
 #[derive(Clone, Copy, Debug)]

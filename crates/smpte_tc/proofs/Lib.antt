@@ -8,3 +8,4 @@ pub mod Once
 pub mod Rounds
 pub mod Written
 pub mod Coprime
+pub mod FrameLemmas

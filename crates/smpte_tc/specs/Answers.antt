@@ -28,16 +28,20 @@ pub record Says (bytes : List ℕ) (a : TimeAddress) : Type 0 where
 abbrev pub IsUnsaid : List ℕ → Type 0
 IsUnsaid bytes = (a : TimeAddress) → Says bytes a → ⊥
 
--- the bytes, with either mark, are the label of the frame number n: as many labels of the day come before it
+-- the bytes, with either mark, are the label of the frame number n: as many labels of the day come
+-- before it
 abbrev pub HasLabel : Mode → ℤ → List ℕ → Type 0
-HasLabel mode n bytes = (k : ℕ) × (n ≡ pos k) × IsMark (ninth bytes) × IsLabelWith (ninth bytes) mode k bytes
+HasLabel mode n bytes =
+    (k : ℕ) × (n ≡ pos k) × IsMark (ninth bytes) × IsLabelWith (ninth bytes) mode k bytes
 
--- what reading a label answers where the rate is counted so: the number, or the first refusal that holds
+-- what reading a label answers where the rate is counted so: the number, or the first refusal that
+-- holds
 abbrev pub Reads : Mode → List ℕ → Result ℤ TcFault → Type 0
 Reads mode bytes (Ok n) = HasLabel mode n bytes
 Reads mode bytes (Err Form) = IsUnsaid bytes
 Reads mode bytes (Err Field) = (a : TimeAddress) × Says bytes a × (IsInDay mode.nominal a → ⊥)
-Reads mode bytes (Err Dropped) = (a : TimeAddress) × Says bytes a × IsInDay mode.nominal a × (is_left_out mode a ≡ true)
+Reads mode bytes (Err Dropped) =
+    (a : TimeAddress) × Says bytes a × IsInDay mode.nominal a × (is_left_out mode a ≡ true)
 Reads mode bytes (Err Day) = ⊥
 Reads mode bytes (Err NoTimecode) = ⊥
 
@@ -46,7 +50,8 @@ abbrev pub ReadsAt : Option Mode → List ℕ → Result ℤ TcFault → Type 0
 ReadsAt None bytes result = result ≡ Err NoTimecode
 ReadsAt (Some mode) bytes result = Reads mode bytes result
 
--- what writing a label answers where the rate is counted so: the label, or that the number is not of the day
+-- what writing a label answers where the rate is counted so: the label, or that the number is not
+-- of the day
 abbrev pub Writes : Mode → ℤ → Result (List ℕ) TcFault → Type 0
 Writes mode n (Ok bytes) = (k : ℕ) × (n ≡ pos k) × IsLabel mode k bytes
 Writes mode n (Err Day) = (k : ℕ) → n ≡ pos k → length (counted_of mode) ≤ k
@@ -69,7 +74,9 @@ abbrev pub ReadsWritten : Option Mode → ℤ → Result ℤ TcFault → Type 0
 ReadsWritten o n (Ok k) = (k ≡ n) × ((bytes : List ℕ) × WritesAt o n (Ok bytes))
 ReadsWritten o n (Err fault) = WritesAt o n (Err fault)
 
--- writing a number that was read: the label with the mark that is written, which has a number, or why it has none
+-- writing a number that was read: the label with the mark that is written, which has a number, or
+-- why it has none
 abbrev pub WritesRead : Option Mode → Bool → List ℕ → Result (List ℕ) TcFault → Type 0
-WritesRead o drop bytes (Ok written) = (written ≡ with_mark drop bytes) × ((n : ℤ) × ReadsAt o bytes (Ok n))
+WritesRead o drop bytes (Ok written) =
+    (written ≡ with_mark drop bytes) × ((n : ℤ) × ReadsAt o bytes (Ok n))
 WritesRead o drop bytes (Err fault) = ReadsAt o bytes (Err fault)

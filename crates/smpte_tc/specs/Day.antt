@@ -28,7 +28,8 @@ hour_of nominal h = flat_map (minute_of nominal h) (below 60)
 unfoldable pub day_of : ℕ → List TimeAddress
 day_of nominal = flat_map (hour_of nominal) (below 24)
 
--- drop-frame leaves out the first frame numbers of each minute whose number is not a multiple of ten
+-- drop-frame leaves out the first frame numbers of each minute whose number is not a multiple of
+-- ten
 abbrev pub is_left_out : Mode → TimeAddress → Bool
 is_left_out mode a = (a.seconds == 0) && nat_lt a.frames mode.dropped && not (a.minutes % 10 == 0)
 
@@ -51,7 +52,8 @@ units n = 48 + n % 10
 -- eleven bytes: two digits each, with ':' between, and a mark of its own before the frames
 abbrev pub spelled : ℕ → TimeAddress → List ℕ
 spelled mark a =
-    tens a.hours ∷ units a.hours ∷ 58 ∷ tens a.minutes ∷ units a.minutes ∷ 58 ∷ tens a.seconds ∷ units a.seconds ∷ mark ∷ tens a.frames ∷ units a.frames ∷ []
+    tens a.hours ∷ units a.hours ∷ 58 ∷ tens a.minutes ∷ units a.minutes ∷ 58 ∷ tens a.seconds
+    ∷ units a.seconds ∷ mark ∷ tens a.frames ∷ units a.frames ∷ []
 
 -- the labels of a day in order, with this mark before the frames
 unfoldable pub labels_with : ℕ → Mode → List (List ℕ)

@@ -3,3 +3,4 @@ pub mod Spelling
 pub mod Laws
 pub mod Modes
 pub mod Answers
+pub mod Frames

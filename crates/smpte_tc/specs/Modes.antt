@@ -12,13 +12,23 @@ mode count dropped = record { nominal = count; dropped = dropped }
 abbrev pub plain_mode : ℤ → ℤ → Option Mode
 plain_mode num den = option_map (λ count. mode (unsigned_abs count) 0) (nominal num den)
 
--- drop-frame exists at 30000/1001, where two numbers are left out, and at 60000/1001, where four are
+-- drop-frame exists at 30000/1001, where two numbers are left out, and at 60000/1001, where four
+-- are
 abbrev pub drop_mode : ℤ → ℤ → Option Mode
-drop_mode num den = cond (unsigned_abs den == 1001) (cond (unsigned_abs num == 30000) (Some (mode 30 2)) (cond (unsigned_abs num == 60000) (Some (mode 60 4)) None)) None
+drop_mode num den =
+    cond (unsigned_abs den == 1001)
+    (cond (unsigned_abs num == 30000) (Some (mode 30 2))
+    (cond (unsigned_abs num == 60000) (Some (mode 60 4)) None))
+    None
 
--- how the frames of a rate are counted, with drop-frame or without; none where the rate has no such timecode
+-- how frames are counted at num/den frames a second, with drop-frame or without; none where there
+-- is no such timecode
+abbrev pub mode_at : ℤ → ℤ → Bool → Option Mode
+mode_at num den drop = cond drop (drop_mode num den) (plain_mode num den)
+
+-- the same at a rate
 abbrev pub mode_of : Rate → Bool → Option Mode
-mode_of rate drop = cond drop (drop_mode rate.num rate.den) (plain_mode rate.num rate.den)
+mode_of rate drop = mode_at rate.num rate.den drop
 
 -- a mode that a rate can have
 pub record IsMode (m : Mode) : Type 0 where

@@ -37,7 +37,8 @@ fn pair(first: u8, second: u8) -> Option<u8>
 }
 
 #[tactic(auto, using(crate::proofs::Spellings::spelling_from))]
-/// The time address that eleven bytes spell, with this mark before the frames: two digits each, and `:` between.
+/// The time address that eleven bytes spell, with this mark before the frames: two digits each, and
+/// `:` between.
 pub fn spelling(label: &[u8], mark: u8) -> Option<TimeAddress>
     ensures { MatchOption result (IsNoSpelling mark label.now) (λ a. IsSpelling mark a label.now) }
 {

@@ -66,11 +66,13 @@ impl Mode {
         }
     }
 
-    /// The minute of a frame number, and its frame there: of ten minutes the first is whole, and of the others drop-frame leaves out the first numbers.
+    /// The minute of a frame number, and its frame there: of ten minutes the first is whole, and of
+    /// the others drop-frame leaves out the first numbers.
     fn minute_of(&self, n: u32) -> MinutePlace
         requires fair { IsMode self.now }
         requires of_day { n < length (counted_of self.now) }
-        ensures place { n + self.now.dropped * (result.minute - result.minute / 10) ≡ result.minute * (60 * self.now.nominal) + result.frame }
+        ensures place { n + self.now.dropped * (result.minute - result.minute / 10)
+            ≡ result.minute * (60 * self.now.nominal) + result.frame }
         ensures day { result.minute < 1440 }
         ensures within { result.frame < 60 * self.now.nominal }
         ensures counted { (result.minute % 10 ≡ 0) ⊎ (self.now.dropped ≤ result.frame) }

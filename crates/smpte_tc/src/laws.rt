@@ -24,19 +24,21 @@ pub fn bytes_of_labels()
     ensures plain { HasPlainBytes }
 {}
 
-/// At a rate, with drop-frame or without, bytes have one answer to [`read`], and a number one answer to [`label`].
+/// At a rate, with drop-frame or without, bytes have one answer to [`read`], and a number one
+/// answer to [`label`].
 pub fn one_answer()
     ensures reading { HasOneReading }
     ensures writing { HasOneWriting }
 {}
 
-/// A label that [`label`] writes is read again as its number, means drop-frame exactly where drop-frame was asked for, and has `;` as
-/// its ninth byte there and `:` elsewhere.
+/// A label that [`label`] writes is read again as its number, means drop-frame exactly where
+/// drop-frame was asked for, and has `;` as its ninth byte there and `:` elsewhere.
 pub fn labels_read_again()
     ensures { IsReadAgain }
 {}
 
-/// A day has 2 073 600 labels at 24 frames a second, with drop-frame 2 589 408 at 30000/1001 and 5 178 816 at 60000/1001.
+/// A day has 2 073 600 labels at 24 frames a second, with drop-frame 2 589 408 at 30000/1001 and 5
+/// 178 816 at 60000/1001.
 pub fn counts_of_days()
     ensures { HasKnownCounts }
 {}
@@ -59,7 +61,8 @@ pub fn read_written(n: i64, rate: Rate, drop: bool) -> Result<i64, TcFault>
 /// # Errors
 /// Those of [`read`] alone.
 pub fn write_read(bytes: &[u8], rate: Rate, drop: bool) -> Result<[u8; 11], TcFault>
-    ensures { WritesRead (mode_at rate (drop_meant bytes.now drop)) (drop_meant bytes.now drop) bytes.now result }
+    ensures { WritesRead (mode_at rate (drop_meant bytes.now drop))
+        (drop_meant bytes.now drop) bytes.now result }
 {
     match read(bytes, rate, drop) {
         Ok(n) => label(n, rate, means_drop(bytes, drop)),

@@ -15,4 +15,4 @@ pub use laws::{
     bytes_of_labels, counts_of_days, labels_of_numbers, labels_read_again, numbers_of_labels,
     one_answer, read_written, write_read,
 };
-pub use timecode::{label, read};
+pub use timecode::{label, label_frame, read};

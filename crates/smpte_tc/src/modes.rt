@@ -9,11 +9,13 @@ use tick_time::Rate;
 pub struct Mode {
     /// The frame numbers of a second, from 1 to 60.
     pub nominal: u8,
-    /// How many frame numbers drop-frame leaves out of a minute whose number is not a multiple of ten; 0 without drop-frame.
+    /// How many frame numbers drop-frame leaves out of a minute whose number is not a multiple of
+    /// ten; 0 without drop-frame.
     pub dropped: u8,
 }
 
-/// How the frames of a rate are counted, with drop-frame or without. None where the rate has no such timecode.
+/// How the frames of a rate are counted, with drop-frame or without. None where the rate has no
+/// such timecode.
 pub fn mode_of(rate: Rate, drop: bool) -> Option<Mode>
     ensures mode { result ≡ mode_at rate drop }
     ensures fair { IfSome result IsMode }

@@ -2,7 +2,7 @@
 ghost use Rattle.std.specs.Prelude.{◌≡◌, ◌<◌, ◌≤◌, ◌*◌, ◌%◌, ◌≤ℤ◌, pos, unsigned_abs, IsTrue};
 ghost use Rattle.tick_time.specs.Rates.{is_rate, per_millionth};
 
-use crate::{TcFault, label, read};
+use crate::{TcFault, label, label_frame, read};
 use std::process::Abort;
 use tick_time::Rate;
 
@@ -130,6 +130,8 @@ fn drop_frame_at_30(rt: HostRuntime) {
         }
     }
     assert_eq!(rt; read(b"00:01:00;02", rate, false), Ok(1_800));
+    assert_eq!(rt; label_frame(b"00:01:00;02", rate, false), Some(1_800));
+    assert_eq!(rt; label_frame(b"00:01:00;00", rate, false), None);
     assert_eq!(rt; read(b"00:01:00:02", rate, true), Ok(1_800));
     assert_eq!(rt; read(b"00:01:00:00", rate, false), Ok(1_800));
     assert_eq!(rt; label(1_800, rate, false), Ok(*b"00:01:00:00"));
@@ -161,7 +163,8 @@ fn drop_frame_at_60(rt: HostRuntime) {
     assert_eq!(rt; label(5_178_816, rate, true), Err(TcFault::Day));
 }
 
-/// The first number of a minute, with drop-frame at 30000/1001 or twice that: 17 982 or 35 964 numbers in ten minutes, 1 800 or 3 600 in the first.
+/// The first number of a minute, with drop-frame at 30000/1001 or twice that: 17 982 or 35 964
+/// numbers in ten minutes, 1 800 or 3 600 in the first.
 fn first_number(tens: u32, minute: u32, twice: u32) -> u32
     requires tens { tens < 144 }
     requires minute { minute < 10 }

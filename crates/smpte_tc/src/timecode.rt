@@ -1,5 +1,6 @@
 // Labels at every rate.
-ghost use Rattle.std.specs.Prelude.{◌≡◌, ◌==◌, MatchOption};
+ghost use Rattle.std.specs.Prelude.{◌≡◌, ◌==◌, IfSome, MatchOption};
+ghost use Rattle.smpte_tc.specs.Frames.{label_frame as frame_named, IsFrameOfDay};
 ghost use Rattle.smpte_tc.specs.Modes.{mode_of as mode_at, IsMode};
 ghost use Rattle.smpte_tc.specs.Answers.{means_drop as drop_meant, Says, IsUnsaid, Reads, ReadsAt, Writes, WritesAt};
 
@@ -10,12 +11,14 @@ use tick_time::Rate;
 
 /// The frame number in the day that a label names, at a rate, with drop-frame or without.
 ///
-/// A label is eleven bytes, `HH:MM:SS:FF` or `HH:MM:SS;FF` (SMPTE ST 12-1). A `;` as the ninth byte means drop-frame whatever `drop` says.
+/// A label is eleven bytes, `HH:MM:SS:FF` or `HH:MM:SS;FF` (SMPTE ST 12-1). A `;` as the ninth byte
+/// means drop-frame whatever `drop` says.
 ///
 /// # Errors
-/// In this order: `NoTimecode` where the rate has no timecode, or drop-frame is meant and the rate has none; `Form` where the bytes
-/// do not have the form; `Field` where hours exceed 23, minutes or seconds 59, or frames are not below the rate's count; `Dropped`
-/// where drop-frame leaves the label out.
+/// In this order: `NoTimecode` where the rate has no timecode, or drop-frame is meant and the rate
+/// has none; `Form` where the bytes do not have the form; `Field` where hours exceed 23, minutes or
+/// seconds 59, or frames are not below the rate's count; `Dropped` where drop-frame leaves the
+/// label out.
 pub fn read(label: &[u8], rate: Rate, drop: bool) -> Result<i64, TcFault>
     ensures { ReadsAt (mode_at rate (drop_meant label.now drop)) label.now result }
 {
@@ -25,12 +28,24 @@ pub fn read(label: &[u8], rate: Rate, drop: bool) -> Result<i64, TcFault>
     mode.read(label)
 }
 
-/// The label of a frame number of the day, at a rate, with drop-frame or without (SMPTE ST 12-1). The byte before the frames is `;` for
-/// drop-frame, else `:`.
+/// The frame number in the day that a label names, at a rate, with drop-frame or without. It is
+/// that of [`read`], and none exactly where [`read`] refuses the label.
+pub fn label_frame(label: &[u8], rate: Rate, drop: bool) -> Option<u32>
+    ensures frame { result ≡ frame_named rate drop label.now }
+    ensures of_day { IfSome result IsFrameOfDay }
+{
+    match read(label, rate, drop) {
+        Ok(frame) => Some(frame as u32),
+        Err(_) => None,
+    }
+}
+
+/// The label of a frame number of the day, at a rate, with drop-frame or without (SMPTE ST 12-1).
+/// The byte before the frames is `;` for drop-frame, else `:`.
 ///
 /// # Errors
-/// First `NoTimecode` where the rate has no timecode, or drop-frame is asked for and the rate has none; then `Day` where the number is
-/// negative or not below the count of a day.
+/// First `NoTimecode` where the rate has no timecode, or drop-frame is asked for and the rate has
+/// none; then `Day` where the number is negative or not below the count of a day.
 pub fn label(n: i64, rate: Rate, drop: bool) -> Result<[u8; 11], TcFault>
     ensures { WritesAt (mode_at rate drop) n result }
 {

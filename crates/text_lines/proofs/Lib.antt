@@ -5,3 +5,4 @@ pub mod Returns
 pub mod Splitting
 pub mod Stripping
 pub mod Trimming
+pub mod ReelLemmas

@@ -1,2 +1,3 @@
 pub mod First
 pub mod Lines
+pub mod ReelNames

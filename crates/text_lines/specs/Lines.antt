@@ -25,15 +25,18 @@ last_of (part ∷ next ∷ parts) = last_of (next ∷ parts)
 abbrev pub parts_of : List ℕ → List (List ℕ)
 parts_of bytes = slice_split (λ b. b == 10) bytes
 
--- the lines of a text that have an end, a line feed or a carriage return and a line feed, each without its end
+-- the lines of a text that have an end, a line feed or a carriage return and a line feed, each
+-- without its end
 unfoldable pub ended_lines : List ℕ → List (List ℕ)
 ended_lines bytes = map without_return (but_last (parts_of bytes))
 
--- the last line of a text, which has no end: what stands behind the last line feed, a carriage return at its end with it
+-- the last line of a text, which has no end: what stands behind the last line feed, a carriage
+-- return at its end with it
 unfoldable pub last_line : List ℕ → List ℕ
 last_line bytes = last_of (parts_of bytes)
 
--- the lines of a text: those that have an end, and the last, which has none and is empty behind a line feed
+-- the lines of a text: those that have an end, and the last, which has none and is empty behind a
+-- line feed
 abbrev pub lines_of : List ℕ → List (List ℕ)
 lines_of bytes = ended_lines bytes ++ last_line bytes ∷ []
 
@@ -42,7 +45,8 @@ abbrev pub is_field : List ℕ → Bool
 is_field [] = false
 is_field (b ∷ bytes) = true
 
--- the fields of a line: what stands between its spaces and tabs, of which one or more part two fields
+-- the fields of a line: what stands between its spaces and tabs, of which one or more part two
+-- fields
 unfoldable pub fields_of : List ℕ → List (List ℕ)
 fields_of line = filter is_field (slice_split is_blank line)
 

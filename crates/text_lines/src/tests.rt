@@ -1,7 +1,7 @@
 // Tables of short texts.
 use crate::{
-    after, before, first_blank, first_byte, is_blank, is_text, split_field, split_line, strip_back,
-    strip_front, strip_return, trim_blanks, trim_front,
+    after, before, first_blank, first_byte, is_blank, is_text, reel_name, split_field, split_line,
+    strip_back, strip_front, strip_return, trim_blanks, trim_front,
 };
 
 fn is_same(found: Option<&[u8]>, wanted: Option<&str>) -> bool {
@@ -146,5 +146,24 @@ fn trims_blanks(rt: HostRuntime) {
             trim_blanks(text.as_bytes()) == trimmed.as_bytes(),
             "{text}"
         );
+    }
+}
+
+#[test]
+fn names_of_reels(rt: HostRuntime) {
+    for (bytes, is_name) in [
+        ("A", true),
+        ("TAPE0001", true),
+        ("!~", true),
+        ("bl", true),
+        ("BLX", true),
+        ("BL", false),
+        ("", false),
+        ("TAPE00001", false),
+        ("A B", false),
+        ("A\u{7f}", false),
+        ("\u{e9}", false),
+    ] {
+        assert!(rt; reel_name(bytes.as_bytes()).is_some() == is_name, "{bytes}");
     }
 }

@@ -11,7 +11,8 @@ pub fn is_text(bytes: &[u8], text: &[u8]) -> bool
 /// What follows a text that the bytes begin with; none where they don't begin with it.
 #[tactic(auto, using(crate::proofs::Stripping::behind_front))]
 pub fn strip_front<'a>(bytes: &'a [u8], front: &[u8]) -> Option<&'a [u8]>
-    ensures { MatchOption result ((rest : List ℕ) → bytes.now ≡ front.now ++ rest → ⊥) (λ rest. bytes.now ≡ front.now ++ rest.now) }
+    ensures { MatchOption result ((rest : List ℕ) → bytes.now ≡ front.now ++ rest → ⊥)
+        (λ rest. bytes.now ≡ front.now ++ rest.now) }
 {
     bytes.strip_prefix(front)
 }
@@ -19,7 +20,8 @@ pub fn strip_front<'a>(bytes: &'a [u8], front: &[u8]) -> Option<&'a [u8]>
 /// What precedes a text that the bytes end with; none where they don't end with it.
 #[tactic(auto, using(crate::proofs::Stripping::before_back))]
 pub fn strip_back<'a>(bytes: &'a [u8], back: &[u8]) -> Option<&'a [u8]>
-    ensures { MatchOption result ((rest : List ℕ) → bytes.now ≡ rest ++ back.now → ⊥) (λ rest. bytes.now ≡ rest.now ++ back.now) }
+    ensures { MatchOption result ((rest : List ℕ) → bytes.now ≡ rest ++ back.now → ⊥)
+        (λ rest. bytes.now ≡ rest.now ++ back.now) }
 {
     bytes.strip_suffix(back)
 }

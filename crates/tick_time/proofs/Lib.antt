@@ -19,3 +19,4 @@ pub mod Rereadings
 pub mod Once
 pub mod Again
 pub mod Examples
+pub mod SameValues

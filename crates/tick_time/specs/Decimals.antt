@@ -14,7 +14,8 @@ lowered (negsuc n) = n + 1
 
 -- the fraction that a sign, digits and an exponent stand for
 abbrev pub decimal_value : Bool → ℕ → ℤ → Fraction
-decimal_value neg digits exp = record { top = signed neg (digits * 10 ^ raised exp); bottom = 10 ^ lowered exp }
+decimal_value neg digits exp =
+    record { top = signed neg (digits * 10 ^ raised exp); bottom = 10 ^ lowered exp }
 
 -- the power of ten that an exponent and so many decimals leave
 abbrev pub scale : Bool → ℕ → ℕ → ℤ
@@ -24,7 +25,8 @@ scale true power places = pos 0 -ℤ pos (power + places)
 -- n is the whole number nearest to the fraction, and the even one of two
 pub record IsHalfEven (value : Fraction) (n : ℤ) : Type 0 where
   pub near : 2 * unsigned_abs (value.top -ℤ (n *ℤ pos value.bottom)) ≤ value.bottom
-  pub even : 2 * unsigned_abs (value.top -ℤ (n *ℤ pos value.bottom)) ≡ value.bottom → unsigned_abs n % 2 ≡ 0
+  pub even : 2 * unsigned_abs (value.top -ℤ (n *ℤ pos value.bottom)) ≡ value.bottom
+      → unsigned_abs n % 2 ≡ 0
 
 -- a million times the fraction
 abbrev pub millionths : Fraction → Fraction
@@ -47,7 +49,8 @@ IsRounded value n = IsHalfEven (millionths value) n × (unsigned_abs n ≤ 10000
 
 -- the millionths are more than 10 ^ 24, either way
 abbrev pub IsHuge : Fraction → Type 0
-IsHuge value = (n : ℤ) × IsHalfEven (millionths value) n × (1000000000000000000000000 < unsigned_abs n)
+IsHuge value = (n : ℤ) × IsHalfEven (millionths value) n
+    × (1000000000000000000000000 < unsigned_abs n)
 
 -- the speed that a value stands for, in millionths
 pub record IsTooFast (value : Fraction) : Type 0 where

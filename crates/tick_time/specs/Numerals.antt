@@ -3,7 +3,8 @@ use Rattle.std.specs.Prelude.{◌≡◌, ◌⊎◌, ℕ, ◌+◌, ◌*◌, ◌^�
 use Rattle.std.specs.Char.{digit_value}
 use Rattle.std.specs.Str.Parse.{AllDigits, digits_value}
 
--- a number's parts: a minus or none, the digits before the point, those behind it, and the exponent with what stands before its digits
+-- a number's parts: a minus or none, the digits before the point, those behind it, and the exponent
+-- with what stands before its digits
 pub record Numeral : Type 0 where
   pub neg : Bool
   pub whole : List ℕ
@@ -40,14 +41,18 @@ pub record AreDigits (digits : List ℕ) : Type 0 where
 -- exp: nothing, or `e` or `E`, then `+`, `-` or no sign, then digits
 pub data IsExp (mark : List ℕ) (down : Bool) (power : List ℕ) : Type 0 where
   absent : mark ≡ [] → down ≡ false → power ≡ [] → IsExp mark down power
-  plain : (letter : ℕ) → (letter ≡ 101) ⊎ (letter ≡ 69) → mark ≡ letter ∷ [] → down ≡ false → AreDigits power → IsExp mark down power
-  raised : (letter : ℕ) → (letter ≡ 101) ⊎ (letter ≡ 69) → mark ≡ letter ∷ 43 ∷ [] → down ≡ false → AreDigits power → IsExp mark down power
-  lowered : (letter : ℕ) → (letter ≡ 101) ⊎ (letter ≡ 69) → mark ≡ letter ∷ 45 ∷ [] → down ≡ true → AreDigits power → IsExp mark down power
+  plain : (letter : ℕ) → (letter ≡ 101) ⊎ (letter ≡ 69) → mark ≡ letter ∷ [] → down ≡ false
+      → AreDigits power → IsExp mark down power
+  raised : (letter : ℕ) → (letter ≡ 101) ⊎ (letter ≡ 69) → mark ≡ letter ∷ 43 ∷ [] → down ≡ false
+      → AreDigits power → IsExp mark down power
+  lowered : (letter : ℕ) → (letter ≡ 101) ⊎ (letter ≡ 69) → mark ≡ letter ∷ 45 ∷ [] → down ≡ true
+      → AreDigits power → IsExp mark down power
 
 -- digits, perhaps behind `+` or `-`
 pub data IsSigned (text : List ℕ) : Type 0 where
   bare : AreDigits text → IsSigned text
-  behind : (sign : ℕ) (digits : List ℕ) → (sign ≡ 43) ⊎ (sign ≡ 45) → text ≡ sign ∷ digits → AreDigits digits → IsSigned text
+  behind : (sign : ℕ) (digits : List ℕ) → (sign ≡ 43) ⊎ (sign ≡ 45) → text ≡ sign ∷ digits
+      → AreDigits digits → IsSigned text
 
 -- an exponent, or nothing
 pub record IsExponent (text : List ℕ) : Type 0 where
@@ -67,7 +72,8 @@ pub record IsTail (text : List ℕ) : Type 0 where
 
 -- the text is that of a number of these parts
 pub record Spells (text : List ℕ) (number : Numeral) : Type 0 where
-  pub spelled : text ≡ minus number.neg ++ (number.whole ++ (frac number.decimals ++ (number.mark ++ number.power)))
+  pub spelled : text ≡ minus number.neg
+      ++ (number.whole ++ (frac number.decimals ++ (number.mark ++ number.power)))
   pub int : IsInt number.whole
   pub decimals : AllDigits 10 number.decimals
   pub exp : IsExp number.mark number.down number.power
@@ -93,7 +99,8 @@ signed true n = neg_ℤ (pos n)
 -- the fraction that a number stands for
 abbrev pub fraction : Numeral → Fraction
 fraction number = record {
-  top = signed number.neg (digits_value 10 (number.whole ++ number.decimals) * 10 ^ cond number.down 0 (digits_value 10 number.power));
+  top = signed number.neg
+      (digits_value 10 (number.whole ++ number.decimals) * 10 ^ cond number.down 0 (digits_value 10 number.power));
   bottom = 10 ^ (length number.decimals + cond number.down (digits_value 10 number.power) 0);
 }
 

@@ -29,7 +29,8 @@ is_relative num den = (den == 1001) && list_any (λ n. num == 1000 * n) counts
 abbrev pub is_near : ℕ → ℕ → ℕ → Bool
 is_near num den n = nat_le (100 * abs_diff (1001 * num) (1000 * n * den)) (1001 * den)
 
--- num / den has at most six decimals, lies from 1 to the finest rate, and num divides the finest rate
+-- num / den has at most six decimals, lies from 1 to the finest rate, and num divides the finest
+-- rate
 abbrev pub is_spelled : ℕ → ℕ → Bool
 is_spelled num den = (1000000 % den == 0) && nat_le den num && (per_millionth % num == 0)
 
@@ -51,10 +52,13 @@ pub record IsSpelledRate (top bottom num den : ℕ) : Type 0 where
   pub lowest : IsLowest num den
   pub profile : is_spelled num den ≡ true
 
--- top / bottom stands for the rate num / den: near a 1001 relative for that, else for what it spells
+-- top / bottom stands for the rate num / den: near a 1001 relative for that, else for what it
+-- spells
 pub data IsRateOf (top bottom num den : ℕ) : Type 0 where
-  relative : (n : ℕ) → Contains counts n → is_near top bottom n ≡ true → num ≡ 1000 * n → den ≡ 1001 → IsRateOf top bottom num den
-  spelled : is_near_any top bottom ≡ false → IsSpelledRate top bottom num den → IsRateOf top bottom num den
+  relative : (n : ℕ) → Contains counts n → is_near top bottom n ≡ true → num ≡ 1000 * n → den ≡ 1001
+      → IsRateOf top bottom num den
+  spelled : is_near_any top bottom ≡ false → IsSpelledRate top bottom num den
+      → IsRateOf top bottom num den
 
 -- a value stands for the rate num / den
 pub record GivesRate (value : Fraction) (num den : ℤ) : Type 0 where
@@ -65,10 +69,12 @@ pub record GivesRate (value : Fraction) (num den : ℤ) : Type 0 where
 -- the count that a 1001 relative's frames are numbered by, from its numerator
 abbrev pub relative_count : ℕ → Option ℤ
 relative_count num =
-    cond (num == 15000) (Some (pos 15)) (cond (num == 24000) (Some (pos 24)) (cond (num == 30000) (Some (pos 30))
+    cond (num == 15000) (Some (pos 15))
+    (cond (num == 24000) (Some (pos 24)) (cond (num == 30000) (Some (pos 30))
     (cond (num == 48000) (Some (pos 48)) (cond (num == 60000) (Some (pos 60)) None))))
 
--- the count by which timecode numbers the frames of a second: that of a 1001 relative, or a whole rate from 1 to 60
+-- the count by which timecode numbers the frames of a second: that of a 1001 relative, or a whole
+-- rate from 1 to 60
 abbrev pub nominal : ℤ → ℤ → Option ℤ
 nominal num den =
     cond (unsigned_abs den == 1001) (relative_count (unsigned_abs num))

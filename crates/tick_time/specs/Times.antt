@@ -1,9 +1,6 @@
 -- Times as whole ticks, of which a second has 705600000000000000.
 use Rattle.std.specs.Prelude.{◌≡◌, ℕ, ◌%◌, ℤ, pos, ◌+ℤ◌, ◌-ℤ◌, ◌≤ℤ◌, ◌<ℤ◌, unsigned_abs}
-
--- ticks of a million seconds
-abbrev pub most_ticks : ℕ
-most_ticks = 705600000000000000000000
+use Rattle.limits.specs.Limits.{most_ticks}
 
 -- from a million seconds before 0 to a million seconds after it
 pub record IsInRange (ticks : ℤ) : Type 0 where

@@ -35,9 +35,12 @@ impl Decimal {
     pub fn read(text: &[u8]) -> Result<Decimal, TimeFault>
         requires { IsNumeral text.now }
         ensures value { (number : Numeral) → Spells text.now number →
-            IfOk result (λ decimal. IsSame (decimal_value decimal.neg decimal.digits decimal.exp) (fraction number)) }
-        ensures short { (number : Numeral) → Spells text.now number → IsTooLong number → result ≡ Err TimeFault.TooLong }
-        ensures fault { (number : Numeral) → Spells text.now number → IfErr result (λ fault. (fault ≡ TimeFault.TooLong) × IsTooLong number) }
+            IfOk result (λ decimal. IsSame (decimal_value decimal.neg decimal.digits decimal.exp)
+            (fraction number)) }
+        ensures short { (number : Numeral) → Spells text.now number → IsTooLong number →
+            result ≡ Err TimeFault.TooLong }
+        ensures fault { (number : Numeral) → Spells text.now number →
+            IfErr result (λ fault. (fault ≡ TimeFault.TooLong) × IsTooLong number) }
     {
         let parts = split_numeral(text);
         if parts.power.len() > 3 {
@@ -76,7 +79,8 @@ fn scaled(neg: bool, tally: Tally, offset: i128) -> Decimal
     requires low { (pos 0 -ℤ pos 36893488147419103232) ≤ℤ offset }
     requires high { offset ≤ℤ pos 1000 }
     ensures digits { result.digits ≡ tally.digits }
-    ensures scaled { (result.digits ≡ 0) ⊎ ((result.neg ≡ neg) × (result.exp ≡ (pos tally.zeros +ℤ offset))) }
+    ensures scaled { (result.digits ≡ 0) ⊎
+        ((result.neg ≡ neg) × (result.exp ≡ (pos tally.zeros +ℤ offset))) }
 {
     if tally.digits == 0 {
         return Decimal {

@@ -10,7 +10,8 @@ ghost use Rattle.tick_time.specs.Numerals.{StopsDigits};
 pub(crate) fn split_digits(text: &[u8]) -> (&[u8], &[u8])
     ensures joined { text.now ≡ result.0.now ++ result.1.now }
     ensures digits { AllDigits 10 result.0.now }
-    ensures parts { (digits rest : List ℕ) → text.now ≡ digits ++ rest → AllDigits 10 digits → StopsDigits rest →
+    ensures parts { (digits rest : List ℕ) → text.now ≡ digits ++ rest → AllDigits 10 digits →
+        StopsDigits rest →
         (result.0.now ≡ digits) × (result.1.now ≡ rest) }
 {
     text.split_at(count_digits(text))

@@ -30,8 +30,8 @@ fn is_int(digits: &[u8]) -> bool
     }
 }
 
-// Whether a text is what may follow the digits before the point: a point and digits or neither, then
-// an exponent or none.
+// Whether a text is what may follow the digits before the point: a point and digits or neither,
+// then an exponent or none.
 fn is_tail(text: &[u8]) -> bool
     ensures { IsTrue result ↔ IsTail text.now }
 {

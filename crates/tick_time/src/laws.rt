@@ -1,6 +1,6 @@
-//! Laws of the texts, each on a function that makes the calls it speaks of.
+//! Laws of what is read again and of `==`, each on a function that makes the calls it speaks of.
 
-ghost use Rattle.std.specs.Prelude.{◌≡◌, IsOk, IfOk};
+ghost use Rattle.std.specs.Prelude.{◌≡◌, ◌↔◌, IsTrue, IsOk, IfOk};
 
 use crate::decimals::Decimal;
 use crate::faults::TimeFault;
@@ -44,4 +44,18 @@ pub fn speed_read_again(speed: &Scalar) -> Result<Scalar, TimeFault>
         Ok(decimal) => Scalar::of(&decimal),
         Err(fault) => Err(fault),
     }
+}
+
+/// Whether `==` says that two rates are equal: exactly where they are the same.
+pub fn equal_rates(rate: &Rate, other: &Rate) -> bool
+    ensures { IsTrue result ↔ (rate.now ≡ other.now) }
+{
+    *rate == *other
+}
+
+/// Whether `==` says that two times are equal: exactly where they are the same, in ticks and rate.
+pub fn equal_times(time: &Time, other: &Time) -> bool
+    ensures { IsTrue result ↔ (time.now ≡ other.now) }
+{
+    *time == *other
 }

@@ -20,7 +20,8 @@ pub(crate) struct Parts<'a> {
 pub(crate) fn split_numeral(text: &[u8]) -> Parts<'_>
     ensures neg { (number : Numeral) → Spells text.now number → result.neg ≡ number.neg }
     ensures whole { (number : Numeral) → Spells text.now number → result.whole.now ≡ number.whole }
-    ensures decimals { (number : Numeral) → Spells text.now number → result.decimals.now ≡ number.decimals }
+    ensures decimals { (number : Numeral) → Spells text.now number →
+        result.decimals.now ≡ number.decimals }
     ensures down { (number : Numeral) → Spells text.now number → result.down ≡ number.down }
     ensures power { (number : Numeral) → Spells text.now number → result.power.now ≡ number.power }
 {
@@ -40,7 +41,8 @@ pub(crate) fn split_numeral(text: &[u8]) -> Parts<'_>
 /// Whether a minus stands first, and what follows it.
 pub(crate) fn split_minus(text: &[u8]) -> (bool, &[u8])
     ensures joined { text.now ≡ minus result.0 ++ result.1.now }
-    ensures parts { (neg : Bool) (rest : List ℕ) → text.now ≡ minus neg ++ rest → slice_index rest 0 ≢ 45 →
+    ensures parts { (neg : Bool) (rest : List ℕ) → text.now ≡ minus neg ++ rest →
+        slice_index rest 0 ≢ 45 →
         (result.0 ≡ neg) × (result.1.now ≡ rest) }
 {
     match text {
@@ -51,7 +53,8 @@ pub(crate) fn split_minus(text: &[u8]) -> (bool, &[u8])
 
 // The digits behind a point, if one stands first, and what follows them.
 fn split_decimals(text: &[u8]) -> (&[u8], &[u8])
-    ensures { (digits rest : List ℕ) → text.now ≡ frac digits ++ rest → AllDigits 10 digits → StopsDigits rest → slice_index rest 0 ≢ 46 →
+    ensures { (digits rest : List ℕ) → text.now ≡ frac digits ++ rest → AllDigits 10 digits →
+        StopsDigits rest → slice_index rest 0 ≢ 46 →
         (result.0.now ≡ digits) × (result.1.now ≡ rest) }
 {
     match text {
@@ -62,7 +65,8 @@ fn split_decimals(text: &[u8]) -> (&[u8], &[u8])
 
 // Whether an exponent divides, and its digits.
 fn split_mark(text: &[u8]) -> (bool, &[u8])
-    ensures { (mark power : List ℕ) (down : Bool) → text.now ≡ mark ++ power → IsExp mark down power →
+    ensures { (mark power : List ℕ) (down : Bool) → text.now ≡ mark ++ power →
+        IsExp mark down power →
         (result.0 ≡ down) × (result.1.now ≡ power) }
 {
     match text {

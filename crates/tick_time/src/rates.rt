@@ -18,7 +18,7 @@ use arrayvec::ArrayString;
 /// It is one of the 1001 relatives of 15, 24, 30, 48, 60 and 120 frames a second (SMPTE ST 12-1
 /// has timecode for several of them), or a decimal of at most six places, from 1 on, whose
 /// numerator divides 705 600 000 000.
-#[derive(Clone, Copy, Debug, PartialEq, Eq)]
+#[derive(Clone, Copy, Debug)]
 pub struct Rate {
     /// The numerator, from 1 to 705 600 000 000.
     pub num: i64,
@@ -33,6 +33,25 @@ pub struct Rate {
     ghost given: { IsTrue (is_rate (unsigned_abs num) (unsigned_abs den)) },
 }
 
+ghost use Rattle.std.proofs.Common.{rules};
+ghost use Rattle.std.specs.Cmp.Rules.{comparing};
+ghost use Rattle.std.specs.Ordering.{int_eq, on, eq_of_both};
+
+/// Two rates are equal exactly where they are the same fraction.
+impl PartialEq for Rate {
+    ghost eq = { eq_of_both (on (λ rate. rate.num) int_eq) (on (λ rate. rate.den) int_eq) };
+
+    ghost laws = { Prim.search (comparing, rules) };
+
+    fn eq(&self, other: &Rate) -> bool {
+        self.num == other.num && self.den == other.den
+    }
+}
+
+impl Eq for Rate {
+    ghost laws = { Prim.search (comparing, rules) };
+}
+
 impl Rate {
     ghost use Rattle.tick_time.specs.Sums.{larger};
 
@@ -41,9 +60,11 @@ impl Rate {
     /// and its numerator in lowest terms divides 705 600 000 000. [`TimeFault::Rate`] comes exactly
     /// where it is neither.
     pub fn of(d: &Decimal) -> Result<Rate, TimeFault>
-        ensures rate { IfOk result (λ rate. GivesRate (decimal_value d.now.neg d.now.digits d.now.exp) rate.num rate.den) }
+        ensures rate { IfOk result (λ rate. GivesRate
+            (decimal_value d.now.neg d.now.digits d.now.exp) rate.num rate.den) }
         ensures fault { IfErr result (λ fault. (fault ≡ TimeFault.Rate) ×
-            ((num den : ℤ) → GivesRate (decimal_value d.now.neg d.now.digits d.now.exp) num den → ⊥)) }
+            ((num den : ℤ) → GivesRate (decimal_value d.now.neg d.now.digits d.now.exp) num den →
+            ⊥)) }
     {
         if d.neg {
             return Err(TimeFault::Rate);
@@ -101,8 +122,10 @@ impl Rate {
     /// least one digit behind the point, and for a 1001 relative the digits that a 64-bit binary
     /// fraction needs.
     pub fn text(&self) -> ArrayString<32>
-        ensures relative { self.now.den ≡ pos 1001 → result.bytes ≡ relative_text (unsigned_abs self.now.num) }
-        ensures spelled { self.now.den ≢ pos 1001 → IsDecimalText result.bytes (pos (rate_millionths self.now.num self.now.den)) }
+        ensures relative { self.now.den ≡ pos 1001 →
+            result.bytes ≡ relative_text (unsigned_abs self.now.num) }
+        ensures spelled { self.now.den ≢ pos 1001 →
+            IsDecimalText result.bytes (pos (rate_millionths self.now.num self.now.den)) }
         ensures reads { ReadsAsRate result.bytes self.now.num self.now.den }
     {
         if self.den == 1001 {
@@ -189,7 +212,8 @@ fn spelled_rate(digits: u128, exp: i128) -> Option<Rate>
     requires apart { is_near_any (digits * 10 ^ raised exp) (10 ^ lowered exp) ≡ false }
     ensures { MatchOption result
         ((num den : ℕ) → IsSpelledRate (digits * 10 ^ raised exp) (10 ^ lowered exp) num den → ⊥)
-        (λ rate. IsSpelledRate (digits * 10 ^ raised exp) (10 ^ lowered exp) (unsigned_abs rate.num) (unsigned_abs rate.den)) }
+        (λ rate. IsSpelledRate (digits * 10 ^ raised exp) (10 ^ lowered exp) (unsigned_abs rate.num)
+        (unsigned_abs rate.den)) }
 {
     if exp < -6 {
         return None;

@@ -52,7 +52,8 @@ fn is_near_count(top: u128, bottom: u128, count: u128) -> bool
 /// The count whose 1001 relative lies within 1/100 of a fraction.
 pub(crate) fn near_count(top: u128, bottom: u128) -> Option<u128>
     requires { 1 ≤ bottom }
-    ensures { MatchOption result (is_near_any top bottom ≡ false) (λ count. Contains counts count × (is_near top bottom count ≡ true)) }
+    ensures { MatchOption result (is_near_any top bottom ≡ false) (λ count. Contains counts count ×
+        (is_near top bottom count ≡ true)) }
 {
     if is_near_count(top, bottom, 15) {
         Some(15)

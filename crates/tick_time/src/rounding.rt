@@ -12,7 +12,8 @@ const MOST: u128 = 1_000_000_000_000_000_000_000_000;
 
 /// The millionths of a decimal, rounded half to even; `None` where they pass 10 ^ 24 either way.
 pub(crate) fn millionths(decimal: &Decimal) -> Option<i128>
-    ensures { MatchOption result (IsHuge (decimal_value decimal.now.neg decimal.now.digits decimal.now.exp))
+    ensures { MatchOption result (IsHuge
+        (decimal_value decimal.now.neg decimal.now.digits decimal.now.exp))
         (IsRounded (decimal_value decimal.now.neg decimal.now.digits decimal.now.exp)) }
 {
     match rounded_size(decimal.digits, decimal.exp) {
@@ -36,8 +37,10 @@ fn rounded_size(digits: u128, exp: i128) -> Option<u128>
     requires low { (pos 0 -ℤ pos 147573952589676412928) ≤ℤ exp }
     requires high { exp ≤ℤ pos 147573952589676412928 }
     ensures { MatchOption result
-        ((n : ℕ) × IsNearestEven (millionths_top digits exp) (10 ^ lowered exp) n × (1000000000000000000000000 < n))
-        (λ n. IsNearestEven (millionths_top digits exp) (10 ^ lowered exp) n × (n ≤ 1000000000000000000000000)) }
+        ((n : ℕ) × IsNearestEven (millionths_top digits exp) (10 ^ lowered exp) n ×
+        (1000000000000000000000000 < n))
+        (λ n. IsNearestEven (millionths_top digits exp) (10 ^ lowered exp) n ×
+        (n ≤ 1000000000000000000000000)) }
 {
     if exp >= -6 {
         raised_size(digits, raised_shift(exp))

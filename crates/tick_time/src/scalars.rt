@@ -35,8 +35,10 @@ impl Scalar {
     /// The speed that a numeral stands for, rounded half to even to millionths.
     /// [`TimeFault::Scalar`] comes exactly where it then passes 1000 either way.
     pub fn of(d: &Decimal) -> Result<Scalar, TimeFault>
-        ensures speed { IfOk result (λ speed. IsHalfEven (millionths (decimal_value d.now.neg d.now.digits d.now.exp)) speed) }
-        ensures fault { IfErr result (λ fault. (fault ≡ TimeFault.Scalar) × IsTooFast (decimal_value d.now.neg d.now.digits d.now.exp)) }
+        ensures speed { IfOk result (λ speed. IsHalfEven
+            (millionths (decimal_value d.now.neg d.now.digits d.now.exp)) speed) }
+        ensures fault { IfErr result (λ fault. (fault ≡ TimeFault.Scalar) ×
+            IsTooFast (decimal_value d.now.neg d.now.digits d.now.exp)) }
     {
         match rounding::millionths(d) {
             Some(speed) => {

@@ -32,7 +32,9 @@ impl Span {
 
     /// Whether some instant lies in both.
     pub fn meets(&self, other: &Span) -> bool
-        ensures { IsTrue result ↔ ((ticks : ℤ) × Holds self.now.start.ticks self.now.len.ticks ticks × Holds other.now.start.ticks other.now.len.ticks ticks) }
+        ensures { IsTrue result ↔ ((ticks : ℤ) ×
+            Holds self.now.start.ticks self.now.len.ticks ticks ×
+            Holds other.now.start.ticks other.now.len.ticks ticks) }
     {
         let from = self.start.ticks.max(other.start.ticks);
         let to = self.end_ticks().min(other.end_ticks());

@@ -6,7 +6,8 @@ ghost use Rattle.std.specs.Ordering.{int_cmp};
 ghost use Rattle.tick_time.specs.Rates.{unit, frame};
 ghost use Rattle.tick_time.specs.Decimals.{decimal_value};
 ghost use Rattle.tick_time.specs.Texts.{IsValueText};
-ghost use Rattle.tick_time.specs.Times.{most_ticks, IsInRange, IsWhole};
+ghost use Rattle.limits.specs.Limits.{most_ticks};
+ghost use Rattle.tick_time.specs.Times.{IsInRange, IsWhole};
 
 use crate::decimals::Decimal;
 use crate::faults::TimeFault;
@@ -14,23 +15,41 @@ use crate::rates::{Rate, finest_rate};
 use crate::rounding::millionths;
 use crate::texts::millionths_text;
 use arrayvec::ArrayString;
+use limits::MOST_TICKS;
 use std::cmp::Ordering;
 
 /// A time: whole ticks, of which a second has 705 600 000 000 000 000, and the rate at which it is
 /// counted.
-#[derive(Clone, Copy, Debug, PartialEq, Eq)]
+#[derive(Clone, Copy, Debug)]
 pub struct Time {
     /// Ticks from 0, at most a million seconds either way.
     pub ticks: i128,
     /// The rate, of whose units the ticks are a whole number.
     pub rate: Rate,
-    ghost low: { (pos 0 -ℤ pos 705600000000000000000000) ≤ℤ ticks },
-    ghost high: { ticks ≤ℤ pos 705600000000000000000000 },
+    ghost low: { (pos 0 -ℤ pos most_ticks) ≤ℤ ticks },
+    ghost high: { ticks ≤ℤ pos most_ticks },
     ghost whole: { IsWhole ticks (unit rate.num rate.den) },
 }
 
-/// A million seconds in ticks.
-const MOST_TICKS: i128 = 705_600_000_000_000_000_000_000;
+ghost use Rattle.std.proofs.Common.{rules};
+ghost use Rattle.std.specs.Cmp.Rules.{comparing};
+ghost use Rattle.std.specs.Ordering.{int_eq, on, eq_of_both};
+
+/// Two times are equal exactly where their ticks and their rates are.
+impl PartialEq for Time {
+    ghost eq = { eq_of_both (on (λ time. time.ticks) int_eq)
+        (eq_of_both (on (λ time. time.rate.num) int_eq) (on (λ time. time.rate.den) int_eq)) };
+
+    ghost laws = { Prim.search (comparing, rules) depth 9 };
+
+    fn eq(&self, other: &Time) -> bool {
+        self.ticks == other.ticks && self.rate == other.rate
+    }
+}
+
+impl Eq for Time {
+    ghost laws = { Prim.search (comparing, rules) depth 9 };
+}
 
 #[tactic(auto, using(crate::proofs::Wholes::wholes))]
 impl Time {
@@ -40,8 +59,10 @@ impl Time {
     /// so many units. [`TimeFault::Range`] comes exactly where it lies more than a million seconds
     /// from 0.
     pub fn of(d: &Decimal, rate: Rate) -> Result<Time, TimeFault>
-        ensures time { IfOk result (IsTimeOf (decimal_value d.now.neg d.now.digits d.now.exp) rate) }
-        ensures fault { IfErr result (λ fault. (fault ≡ TimeFault.Range) × IsBeyond (decimal_value d.now.neg d.now.digits d.now.exp) rate) }
+        ensures time { IfOk result (IsTimeOf
+            (decimal_value d.now.neg d.now.digits d.now.exp) rate) }
+        ensures fault { IfErr result (λ fault. (fault ≡ TimeFault.Range) ×
+            IsBeyond (decimal_value d.now.neg d.now.digits d.now.exp) rate) }
     {
         match millionths(d) {
             Some(units) => time_of_ticks(unit_ticks(units, &rate), rate),
@@ -54,7 +75,8 @@ impl Time {
     pub fn frames(n: i64, rate: Rate) -> Result<Time, TimeFault>
         ensures ticks { IfOk result (λ time. time.ticks ≡ n *ℤ pos (frame rate.num rate.den)) }
         ensures rate { IfOk result (λ time. time.rate ≡ rate) }
-        ensures fault { IfErr result (λ fault. (fault ≡ TimeFault.Range) × (IsInRange (n *ℤ pos (frame rate.num rate.den)) → ⊥)) }
+        ensures fault { IfErr result (λ fault. (fault ≡ TimeFault.Range) ×
+            (IsInRange (n *ℤ pos (frame rate.num rate.den)) → ⊥)) }
     {
         time_of_ticks(frame_count_ticks(i128::from(n), rate.frame_ticks()), rate)
     }
@@ -77,16 +99,20 @@ impl Time {
     /// rate, else at the finest rate. [`TimeFault::Range`] comes exactly where it lies more than a
     /// million seconds from 0.
     pub fn add(self, other: Time) -> Result<Time, TimeFault>
-        ensures sum { IfOk result (IsNear (self.ticks +ℤ other.ticks) (larger self.rate other.rate)) }
-        ensures fault { IfErr result (λ fault. (fault ≡ TimeFault.Range) × (IsInRange (self.ticks +ℤ other.ticks) → ⊥)) }
+        ensures sum { IfOk result (IsNear (self.ticks +ℤ other.ticks)
+            (larger self.rate other.rate)) }
+        ensures fault { IfErr result (λ fault. (fault ≡ TimeFault.Range) ×
+            (IsInRange (self.ticks +ℤ other.ticks) → ⊥)) }
     {
         Time::near(self.ticks + other.ticks, self.rate.larger(other.rate))
     }
 
     /// The difference, at a rate as in [`Time::add`], and with its fault.
     pub fn sub(self, other: Time) -> Result<Time, TimeFault>
-        ensures difference { IfOk result (IsNear (self.ticks -ℤ other.ticks) (larger self.rate other.rate)) }
-        ensures fault { IfErr result (λ fault. (fault ≡ TimeFault.Range) × (IsInRange (self.ticks -ℤ other.ticks) → ⊥)) }
+        ensures difference { IfOk result
+            (IsNear (self.ticks -ℤ other.ticks) (larger self.rate other.rate)) }
+        ensures fault { IfErr result (λ fault. (fault ≡ TimeFault.Range) ×
+            (IsInRange (self.ticks -ℤ other.ticks) → ⊥)) }
     {
         Time::near(self.ticks - other.ticks, self.rate.larger(other.rate))
     }
@@ -94,7 +120,8 @@ impl Time {
     /// The value of the time, in frames of its rate, as a decimal with no final zeros and at least
     /// one digit behind the point.
     pub fn value_text(&self) -> ArrayString<32>
-        ensures { IsValueText result.bytes self.now.ticks (unit self.now.rate.num self.now.rate.den) }
+        ensures { IsValueText result.bytes self.now.ticks
+            (unit self.now.rate.num self.now.rate.den) }
     {
         millionths_text(unit_count(self.ticks, self.rate.unit()))
     }
@@ -155,8 +182,8 @@ fn unit_ticks(units: i128, rate: &Rate) -> i128
 
 // How many whole units the ticks are.
 fn unit_count(ticks: i128, unit: i128) -> i128
-    requires low { (pos 0 -ℤ pos 705600000000000000000000) ≤ℤ ticks }
-    requires high { ticks ≤ℤ pos 705600000000000000000000 }
+    requires low { (pos 0 -ℤ pos most_ticks) ≤ℤ ticks }
+    requires high { ticks ≤ℤ pos most_ticks }
     requires unit { pos 1 ≤ℤ unit }
     ensures exact { (units : ℤ) → ticks ≡ (units *ℤ unit) → result ≡ units }
     ensures small { unsigned_abs result ≤ 1000000000000000000000000 }

@@ -11,4 +11,5 @@ ReadHasNumerals = (bytes : List ℕ) (value : Json) → text_of bytes value → 
 
 -- and so is each one in what the value is upgraded to
 abbrev pub UpgradedHasNumerals : Type 0
-UpgradedHasNumerals = (bytes : List ℕ) (value : Json) → text_of bytes value → HasNumerals (upgraded value)
+UpgradedHasNumerals = (bytes : List ℕ) (value : Json) → text_of bytes value
+    → HasNumerals (upgraded value)

@@ -1,4 +1,4 @@
-use Rattle.edl_law.proofs.Nearest.{nearest}
+use Rattle.edl_law.proofs.Rounding.{nearest}
 use Rattle.edl_law.proofs.speeds_are_nearest.Goals as goal
 
 pub returns : goal.returns

@@ -23,5 +23,6 @@ returns-in-Some-command_in c = record {
 pub returns-in-None : goal.returns-in-None
 returns-in-None c = λ command name target asked.
     c.in-None.ensures command
-    (asked_with command name c.in-Some.name.now target c.in-Some-input_of.input c.in-Some-output_of.output c.in-Some-rate_asked.rate _ (ap (option_map now) c.in-Some.is)
+    (asked_with command name c.in-Some.name.now target c.in-Some-input_of.input
+    c.in-Some-output_of.output c.in-Some-rate_asked.rate _ (ap (option_map now) c.in-Some.is)
     c.in-Some-input_of.ensures c.in-Some-output_of.ensures c.in-Some-rate_asked.ensures asked).0

@@ -17,4 +17,6 @@ pub returns-in-Err : goal.returns-in-Err
 returns-in-Err c = λ rate word.
     let number = word.numeral.0 in
     let spells = word.numeral.1 in
-    c.in-Err.ensures.fault.1 rate.num rate.den (rate_given _ _ _ _ _ number (c.in-Ok.ensures.value number spells) (word.gives number spells))
+    c.in-Err.ensures.fault.1 rate.num rate.den
+    (rate_given _ _ _ _ _ number (c.in-Ok.ensures.value number spells)
+    (word.gives number spells))

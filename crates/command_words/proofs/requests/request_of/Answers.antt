@@ -11,5 +11,7 @@ returns-in-Some-gather c =
     let rest = map (λ w. string_bytes w) c.in-Some.rest.now in
     let t = verb_word c.in-Some.word.now c.in-Some-verb_of.verb (sym c.in-Some-verb_of.ensures) in
     let first : List (List ℕ) → List ℕ → List (List ℕ) = λ l w. w ∷ l in
-    request_asks c.in-Some-verb_of.verb _ rest g.0 given c.request_in.result (c.in-Some.ensures.words ∙ ap (first rest) t) g.1 g.2
-    (subst (λ (h : Given). add_all h g.0 ≡ Some given) c.empty_line.ensures g.3) c.request_in.ensures
+    request_asks c.in-Some-verb_of.verb _ rest g.0 given c.request_in.result
+    (c.in-Some.ensures.words ∙ ap (first rest) t) g.1 g.2
+    (subst (λ (h : Given). add_all h g.0 ≡ Some given) c.empty_line.ensures g.3)
+    c.request_in.ensures

@@ -1,5 +1,5 @@
 use Rattle.std.proofs.Common.{take, All}
-use Rattle.edl_layout.specs.Labelled.{IsLabelled}
+use Rattle.edl_list.specs.Labelled.{IsLabelled}
 use Rattle.edl_layout.proofs.labels.first_label_past_day.Given as goal
 
 -- the labels of the events so far are below the day

@@ -1,7 +1,7 @@
 use Rattle.std.proofs.Common.{length, map}
 use Rattle.dev_io.specs.Buffer.{standing}
 use Rattle.edl_layout.specs.Columns.{written_byte}
-use Rattle.edl_layout.proofs.Leaving.{Leaves}
+use Rattle.dev_io.proofs.Leaving.{Leaves}
 use Rattle.edl_layout.proofs.notes.put_written.Given as goal
 
 abbrev pub invariant-runs : goal.invariant-runs

@@ -1,5 +1,5 @@
 use Rattle.std.proofs.Common.{◌∷◌, refl, sym}
-use Rattle.edl_line.specs.Views.{duration_in}
+use Rattle.edl_line.specs.StateLines.{duration_in}
 use Rattle.edl_line.proofs.event.event_from.Goals as goal
 
 pub returns : goal.returns

@@ -1,6 +1,6 @@
 use Rattle.std.proofs.Common.{refl, sym, subst}
 use Rattle.std.proofs.lemmas.List.Elements.{All-more}
-use Rattle.edl_text.specs.Ends.{IsEqual}
+use Rattle.edl_text.specs.StateLate.{IsEqual}
 use Rattle.edl_text.proofs.Lateness.{all_of}
 use Rattle.edl_text.proofs.late.first_unequal.Goals as goal
 

@@ -1,8 +1,23 @@
-use Rattle.std.proofs.Common.{string_bytes}
-use Rattle.fault_text.proofs.Adding.{one_more}
+use Rattle.std.proofs.Common.{arith}
+use Rattle.dev_io.proofs.Leaving.{leaves_all, leaves_as, leaves_end, leaves_then}
+use Rattle.fault_text.proofs.Indexes.{first_index, next_index, last_index}
 use Rattle.fault_text.proofs.places.put_place.Goals as goal
 
+pub loop-at-init : goal.loop-at-init
+loop-at-init g c =
+    leaves_then (leaves_as (first_index c.args.place.now c.in-Some.first c.in-Some.ensures)
+    (leaves_all _ _))
+    (rw c.from.ensures at c.put_number.ensures)
+
 pub loop-at-preserved : goal.loop-at-preserved
-loop-at-preserved c =
-    one_more (string_bytes c.loop-at.text) (string_bytes c.push_str-in-loop-at.new.self) (string_bytes c.put_index-in-loop-at.new.text) _ c.args.place.now c.loop-at.at c.index_at.result
-    c.index_at.ensures c.in_ok-push_str.ensures.bytes c.in_ok-put_index-2.ensures c.loop-at.invariant
+loop-at-preserved g c =
+    leaves_then (leaves_then
+    (leaves_as (next_index c.args.place.now c.loop-at.at c.index_at.result c.index_at.ensures)
+    c.loop-at.invariant)
+    c.put-in-loop-at.ensures)
+    (rw c.from-in-loop-at.ensures at c.put_number-in-loop-at.ensures)
+
+pub returns : goal.returns
+returns g c =
+    leaves_end (leaves_as (last_index c.args.place.now c.loop-at.at (omega arith))
+    c.loop-at.invariant)

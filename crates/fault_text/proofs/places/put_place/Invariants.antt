@@ -1,7 +1,12 @@
-use Rattle.std.proofs.Common.{◌≡◌, ◌++◌, drop, string_bytes}
-use Rattle.fault_text.specs.Places.{place_text, more_indexes}
+use Rattle.std.proofs.Common.{drop}
+use Rattle.dev_io.specs.Buffer.{standing}
+use Rattle.dev_io.proofs.Leaving.{Leaves}
+use Rattle.fault_text.specs.Places.{more_indexes, place_text}
 use Rattle.fault_text.proofs.places.put_place.Given as goal
 
--- with the indexes that are left the text is whole
+-- handing over the indexes that are left ends the place
 abbrev pub invariant-loop-at : goal.invariant-loop-at
-invariant-loop-at l = string_bytes l.text ++ more_indexes (drop l.at l.place) ≡ string_bytes l.fn.text ++ place_text l.place
+invariant-loop-at g l =
+    let stand = standing g.W.Out.known g.W.Out.faults in
+    Leaves (stand l.fn.out l.fn.buffer) (stand l.out l.buffer) (place_text l.place)
+    (more_indexes (drop l.at l.place))

@@ -1,6 +1,6 @@
 use Rattle.std.proofs.Common.{sym}
 use Rattle.dev_io.proofs.Buffered.{puts_as}
-use Rattle.json_layout.proofs.Leaving.{leaves_then}
+use Rattle.dev_io.proofs.Leaving.{leaves_then}
 use Rattle.json_layout.proofs.Escaping.{escaped-Some, escaped-None}
 use Rattle.json_layout.proofs.quote.put_escaped.Goals as goal
 

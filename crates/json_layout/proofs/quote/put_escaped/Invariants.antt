@@ -1,7 +1,7 @@
 use Rattle.std.proofs.Common.{length}
 use Rattle.dev_io.specs.Buffer.{standing}
 use Rattle.json_layout.specs.Strings.{escaped}
-use Rattle.json_layout.proofs.Leaving.{Leaves}
+use Rattle.dev_io.proofs.Leaving.{Leaves}
 use Rattle.json_layout.proofs.quote.put_escaped.Given as goal
 
 abbrev pub invariant-runs : goal.invariant-runs

@@ -2,7 +2,7 @@ use Rattle.std.proofs.Common.{◌≡◌, ◌∷◌, [], ℕ, drop}
 use Rattle.dev_io.specs.Buffer.{standing}
 use Rattle.json_layout.specs.Levels.{deep}
 use Rattle.json_layout.specs.Layout.{item_lines, member_lines}
-use Rattle.json_layout.proofs.Leaving.{Leaves}
+use Rattle.dev_io.proofs.Leaving.{Leaves}
 use Rattle.json_layout.proofs.value.+put.Given as goal
 
 -- the next line has this byte before its line feed

@@ -1,5 +1,5 @@
 use Rattle.std.proofs.Common.{take}
-use Rattle.json_text.specs.Runs.{ArePlain}
+use Rattle.json_text.specs.State.Runs.{ArePlain}
 use Rattle.json_text.proofs.runs.plain_count.Given as goal
 
 abbrev pub invariant-loop-index : goal.invariant-loop-index

@@ -1,6 +1,12 @@
-use Rattle.std.proofs.Common.{rules, refl}
-use Rattle.otio_tools.specs.Answer.{PastDay}
+use Rattle.std.proofs.Common.{rules, ap}
+use Rattle.otio_tools.specs.Forms.{refused}
+use Rattle.otio_tools.specs.Events.{PastDay}
 use Rattle.otio_tools.proofs.list.write_in_mode.Goals as goal
 
 pub returns-in-Some-clause-owed : goal.returns-in-Some-clause-owed
-returns-in-Some-clause-owed c = λ name target. PastDay (record { timecode = search rules; few = search rules }) c.in-Some.line c.in-Some.ensures refl
+returns-in-Some-clause-owed c = λ name target.
+    PastDay (record {
+      timecode = search rules;
+      few =
+          search rules;
+    }) c.in-Some.line c.in-Some.ensures (ap (refused name) c.day_reason.ensures)

@@ -1,5 +1,5 @@
 use Rattle.std.proofs.Common.{◌≡◌, drop}
-use Rattle.schema_rows.specs.Families.{side_by_side}
+use Rattle.otio_model.specs.Misplaced.{side_by_side}
 use Rattle.schema_parts.proofs.Sides.{beside}
 use Rattle.schema_parts.proofs.rules.side_by_side.Given as goal
 

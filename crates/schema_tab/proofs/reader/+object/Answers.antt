@@ -9,12 +9,12 @@ use Rattle.schema_rows.specs.Numerals.{HasNumerals}
 use Rattle.schema_rows.specs.Readings.{known, item_fields, object_fields, effect_reading, marker_reading, medium_reading}
 use Rattle.schema_rows.specs.Families.{child, member, medium}
 use Rattle.schema_rows.specs.Stands.{Gives_rows}
-use Rattle.schema_rows.specs.Faults.{Refuses_reading, in_span, in_time, in_stack, in_child, in_member, in_medium, newer, in_rows, Refuses_rows}
+use Rattle.schema_rows.specs.Faults.{Refuses_reading, wrong, in_span, in_time, in_stack, in_child, in_member, in_medium, newer, in_rows, Refuses_rows}
 use Rattle.schema_parts.proofs.Objects.{foreign_by}
 use Rattle.schema_tab.specs.Depths.{depth}
 use Rattle.schema_tab.proofs.Exits.{item_inside, pair_inside, list_more, list_fails, items_end, objects_end, effects_end, markers_end, second_at, names_more, media_end, row_more, row_fails, row_end}
 use Rattle.schema_tab.proofs.Measures.{depth-Map, looked_up_falls, looked_up_numerals}
-use Rattle.schema_tab.proofs.Members.{row_given, row_refused, row_absent, row_missing, items_refused, objects_refused, effects_refused, markers_refused, media_refused, stack_refused, wrong_field}
+use Rattle.schema_tab.proofs.Members.{row_given, row_refused, row_absent, row_missing, items_refused, objects_refused, effects_refused, markers_refused, media_refused, stack_refused, wrong_field, no_list}
 use Rattle.schema_tab.proofs.Whole.{object_read, object_refused, foreign_any}
 use Rattle.schema_tab.proofs.reader.+object.Goals as goal
 
@@ -67,45 +67,41 @@ pub read_member-returns-in_ok-found-in-Stack-clause-fault : goal.read_member-ret
 read_member-returns-in_ok-found-in-Stack-clause-fault t c =
     stack_refused c.tracks_of.result c.args.place.now (row_of c.args.row.now) c.args.value.now (ap kind_of c.in-Stack.is) c.tracks_of.ensures.fault
 
-pub read_member-returns-in-List-clause-fault : goal.read_member-returns-in-List-clause-fault
-read_member-returns-in-List-clause-fault t c =
-    items_refused c.read_items.result c.args.place.now (row_of c.args.row.now) c.args.value.now c.in-List.list (ap kind_of c.in-Items.is) c.in-List.is c.read_items.ensures.fault
-
-pub read_member-returns-in_default : goal.read_member-returns-in_default
-read_member-returns-in_default t c =
-    record { value = tt; fault = wrong_field c.args.place.now (row_of c.args.row.now) c.args.value.now R.items c.field_fault.result (ap kind_of c.in-Items.is) c.in_default.not-List c.field_fault.ensures }
-
-pub read_member-returns-in-List-value-clause-fault : goal.read_member-returns-in-List-value-clause-fault
-read_member-returns-in-List-value-clause-fault t c =
-    objects_refused c.read_objects.result c.args.place.now (row_of c.args.row.now) c.args.value.now c.in-List-value.list (ap kind_of c.in-Objects.is) c.in-List-value.is c.read_objects.ensures.fault
-
-pub read_member-returns-in_default-value : goal.read_member-returns-in_default-value
-read_member-returns-in_default-value t c =
-    record { value = tt; fault = wrong_field c.args.place.now (row_of c.args.row.now) c.args.value.now R.objects c.field_fault-in_default-value.result (ap kind_of c.in-Objects.is) c.in_default-value.not-List c.field_fault-in_default-value.ensures }
-
-pub read_member-returns-in-List-value-2-clause-fault : goal.read_member-returns-in-List-value-2-clause-fault
-read_member-returns-in-List-value-2-clause-fault t c =
-    effects_refused c.read_effects.result c.args.place.now (row_of c.args.row.now) c.args.value.now c.in-List-value-2.list (ap kind_of c.in-Effects.is) c.in-List-value-2.is c.read_effects.ensures.fault
-
-pub read_member-returns-in_default-value-2 : goal.read_member-returns-in_default-value-2
-read_member-returns-in_default-value-2 t c =
-    record { value = tt; fault = wrong_field c.args.place.now (row_of c.args.row.now) c.args.value.now R.effects c.field_fault-in_default-value-2.result (ap kind_of c.in-Effects.is) c.in_default-value-2.not-List c.field_fault-in_default-value-2.ensures }
-
-pub read_member-returns-in-List-value-3-clause-fault : goal.read_member-returns-in-List-value-3-clause-fault
-read_member-returns-in-List-value-3-clause-fault t c =
-    markers_refused c.read_markers.result c.args.place.now (row_of c.args.row.now) c.args.value.now c.in-List-value-3.list (ap kind_of c.in-Markers.is) c.in-List-value-3.is c.read_markers.ensures.fault
-
-pub read_member-returns-in_default-value-3 : goal.read_member-returns-in_default-value-3
-read_member-returns-in_default-value-3 t c =
-    record { value = tt; fault = wrong_field c.args.place.now (row_of c.args.row.now) c.args.value.now R.markers c.field_fault-in_default-value-3.result (ap kind_of c.in-Markers.is) c.in_default-value-3.not-List c.field_fault-in_default-value-3.ensures }
-
 pub read_member-returns-in-Map-clause-fault : goal.read_member-returns-in-Map-clause-fault
 read_member-returns-in-Map-clause-fault t c =
     media_refused c.read_media.result c.args.place.now (row_of c.args.row.now) c.args.value.now c.in-Map.members (ap kind_of c.in-Media.is) c.in-Map.is c.read_media.ensures.fault
 
-pub read_member-returns-in_default-value-4 : goal.read_member-returns-in_default-value-4
-read_member-returns-in_default-value-4 t c =
-    record { value = tt; fault = wrong_field c.args.place.now (row_of c.args.row.now) c.args.value.now R.media c.field_fault-in_default-value-4.result (ap kind_of c.in-Media.is) c.in_default-value-4.not-Map c.field_fault-in_default-value-4.ensures }
+pub read_member-returns-in_default : goal.read_member-returns-in_default
+read_member-returns-in_default t c =
+    record { value = tt; fault = wrong_field c.args.place.now (row_of c.args.row.now) c.args.value.now R.media c.field_fault.result (ap kind_of c.in-Media.is) c.in_default.not-Map c.field_fault.ensures }
+
+pub read_list-returns-in-Items-clause-fault : goal.read_list-returns-in-Items-clause-fault
+read_list-returns-in-Items-clause-fault t c =
+    items_refused c.read_items.result c.args.place.now (row_of c.args.row.now) c.args.value.now c.in-List.list
+    (ap kind_of c.in-Items.is) c.in-List.is c.read_items.ensures.fault
+
+pub read_list-returns-in-Objects-clause-fault : goal.read_list-returns-in-Objects-clause-fault
+read_list-returns-in-Objects-clause-fault t c =
+    objects_refused c.read_objects.result c.args.place.now (row_of c.args.row.now) c.args.value.now c.in-List.list
+    (ap kind_of c.in-Objects.is) c.in-List.is c.read_objects.ensures.fault
+
+pub read_list-returns-in-Effects-clause-fault : goal.read_list-returns-in-Effects-clause-fault
+read_list-returns-in-Effects-clause-fault t c =
+    effects_refused c.read_effects.result c.args.place.now (row_of c.args.row.now) c.args.value.now c.in-List.list
+    (ap kind_of c.in-Effects.is) c.in-List.is c.read_effects.ensures.fault
+
+pub read_list-returns-in-Markers-clause-fault : goal.read_list-returns-in-Markers-clause-fault
+read_list-returns-in-Markers-clause-fault t c =
+    markers_refused c.read_markers.result c.args.place.now (row_of c.args.row.now) c.args.value.now c.in-List.list
+    (ap kind_of c.in-Markers.is) c.in-List.is c.read_markers.ensures.fault
+
+pub read_list-returns-in_default : goal.read_list-returns-in_default
+read_list-returns-in_default t c = record {
+  value = tt;
+  fault =
+      λ n. wrong c.args.place.now (row_of c.args.row.now) c.args.value.now c.field_fault.result
+      (no_list c.args.row.now.kind c.args.value.now c.requires.listed c.in_default.not-List) (c.field_fault.ensures n);
+}
 
 pub read_items-read_object-requires : goal.read_items-read_object-requires
 read_items-read_object-requires t c =
@@ -160,7 +156,7 @@ read_effects-read_object-requires t c =
 
 pub read_effects-returns-in_err-found-clause-fault : goal.read_effects-returns-in_err-found-clause-fault
 read_effects-returns-in_err-found-clause-fault t c =
-    let p = err_from_is_err_and c.from_residual.result c.from_residual.ensures.1 in rw (p.1, p.2) (λ n. list_fails (member C.EFFECTS) c.args.place.now c.args.list.now c.as_slice-values.result.now c.loop-value.value-index _ c.value-item.result _ c.as_slice-values.ensures c.loop-value.invariant c.loop-value-test.true c.value-item.is
+    let p = err_from_is_err_and c.from_residual-in_err-found.result c.from_residual-in_err-found.ensures.1 in rw (p.1, p.2) (λ n. list_fails (member C.EFFECTS) c.args.place.now c.args.list.now c.as_slice-values.result.now c.loop-value.value-index _ c.value-item.result _ c.as_slice-values.ensures c.loop-value.invariant c.loop-value-test.true c.value-item.is
     (in_member _ _ _ _ C.EFFECTS refl (c.in_err-found.ensures.fault n)))
 
 pub read_effects-loop-value-preserved : goal.read_effects-loop-value-preserved
@@ -178,7 +174,7 @@ read_markers-read_object-requires t c =
 
 pub read_markers-returns-in_err-found-clause-fault : goal.read_markers-returns-in_err-found-clause-fault
 read_markers-returns-in_err-found-clause-fault t c =
-    let p = err_from_is_err_and c.from_residual.result c.from_residual.ensures.1 in rw (p.1, p.2) (λ n. list_fails (member C.MARKERS) c.args.place.now c.args.list.now c.as_slice-values.result.now c.loop-value.value-index _ c.value-item.result _ c.as_slice-values.ensures c.loop-value.invariant c.loop-value-test.true c.value-item.is
+    let p = err_from_is_err_and c.from_residual-in_err-found.result c.from_residual-in_err-found.ensures.1 in rw (p.1, p.2) (λ n. list_fails (member C.MARKERS) c.args.place.now c.args.list.now c.as_slice-values.result.now c.loop-value.value-index _ c.value-item.result _ c.as_slice-values.ensures c.loop-value.invariant c.loop-value-test.true c.value-item.is
     (in_member _ _ _ _ C.MARKERS refl (c.in_err-found.ensures.fault n)))
 
 pub read_markers-loop-value-preserved : goal.read_markers-loop-value-preserved
@@ -197,7 +193,7 @@ read_media-read_object-requires t c =
 pub read_media-returns-in_err-found-clause-fault : goal.read_media-returns-in_err-found-clause-fault
 read_media-returns-in_err-found-clause-fault t c =
     let at = second_at c.as_slice-pairs.result.now c.loop-pair.pair-index c.pair-item.result c.loop-pair-test.true c.pair-item.is in
-    let p = err_from_is_err_and c.from_residual.result c.from_residual.ensures.1 in rw (p.1, p.2) (λ n. list_fails medium c.args.place.now (map (λ (m : List ℕ × Json). m.1) c.args.members.now) (map (λ (m : List ℕ × Json). m.1) c.as_slice-pairs.result.now) c.loop-pair.pair-index _ c.pair-item.result.1 _ (ap (map (λ (m : List ℕ × Json). m.1)) c.as_slice-pairs.ensures.pairs) c.loop-pair.invariant.1 at.0 at.1
+    let p = err_from_is_err_and c.from_residual-in_err-found.result c.from_residual-in_err-found.ensures.1 in rw (p.1, p.2) (λ n. list_fails medium c.args.place.now (map (λ (m : List ℕ × Json). m.1) c.args.members.now) (map (λ (m : List ℕ × Json). m.1) c.as_slice-pairs.result.now) c.loop-pair.pair-index _ c.pair-item.result.1 _ (ap (map (λ (m : List ℕ × Json). m.1)) c.as_slice-pairs.ensures.pairs) c.loop-pair.invariant.1 at.0 at.1
     (in_medium _ _ _ _ refl (c.in_err-found.ensures.fault n)))
 
 pub read_media-loop-pair-preserved : goal.read_media-loop-pair-preserved
@@ -222,16 +218,16 @@ read_object-read_rows-requires t c =
 pub read_object-returns-in_err-values-in-Some-named-clause-fault : goal.read_object-returns-in_err-values-in-Some-named-clause-fault
 read_object-returns-in_err-values-in-Some-named-clause-fault t c =
     let p = err_from_is_err_and c.from_residual.result c.from_residual.ensures.1 in rw (p.1, p.2) (λ n. in_rows _ _ _ _ _ _ _ c.in-Some-named.schema c.in-Some.ensures (sym c.named.ensures ∙ c.in-Some-named.is) (omega (arith, c.version.ensures, c.if-found-version.false))
-    (subst (λ (rows : List Row). Refuses_rows c.args.place.now rows c.in-Some.found.members.now c.in_err-values-in-Some-named.field-0.0) c.table_of.ensures (c.in_err-values-in-Some-named.ensures.fault n)))
+    (subst (λ (rows : List Row). Refuses_rows c.args.place.now rows c.in-Some.found.members.now c.in_err-values-in-Some-named.field-0.0) c.table.ensures (c.in_err-values-in-Some-named.ensures.fault n)))
 
 pub read_object-returns-in_ok-values-in-Some-named-clause-fields : goal.read_object-returns-in_ok-values-in-Some-named-clause-fields
 read_object-returns-in_ok-values-in-Some-named-clause-fields t c =
-    let given = subst (λ (rows : List Row). Gives_rows rows c.in-Some.found.members.now c.in_ok-values-in-Some-named.values.items) c.table_of.ensures c.in_ok-values-in-Some-named.ensures.values in
+    let given = subst (λ (rows : List Row). Gives_rows rows c.in-Some.found.members.now c.in_ok-values-in-Some-named.values.items) c.table.ensures c.in_ok-values-in-Some-named.ensures.values in
     object_read c.finished.result c.args.family.now c.args.value.now c.in-Some-named.schema c.in_ok-values-in-Some-named.values.items c.in-Some.found.members.now c.in-Some.found.name.now c.in-Some.found.version c.in-Some.ensures (sym c.named.ensures ∙ c.in-Some-named.is) (omega (arith, c.version.ensures, c.if-found-version.false)) given c.finished.ensures.fields
 
 pub read_object-returns-in_ok-values-in-Some-named-clause-fault : goal.read_object-returns-in_ok-values-in-Some-named-clause-fault
 read_object-returns-in_ok-values-in-Some-named-clause-fault t c =
-    let given = subst (λ (rows : List Row). Gives_rows rows c.in-Some.found.members.now c.in_ok-values-in-Some-named.values.items) c.table_of.ensures c.in_ok-values-in-Some-named.ensures.values in
+    let given = subst (λ (rows : List Row). Gives_rows rows c.in-Some.found.members.now c.in_ok-values-in-Some-named.values.items) c.table.ensures c.in_ok-values-in-Some-named.ensures.values in
     object_refused c.finished.result c.args.place.now c.args.family.now c.args.value.now c.in-Some-named.schema c.in_ok-values-in-Some-named.values.items c.in-Some.found.members.now c.in-Some.found.name.now c.in-Some.found.version c.in-Some.ensures (sym c.named.ensures ∙ c.in-Some-named.is) (omega (arith, c.version.ensures, c.if-found-version.false)) given c.finished.ensures.fault
 
 pub read_object-returns-in-None-named-clause-fields : goal.read_object-returns-in-None-named-clause-fields

@@ -7,8 +7,9 @@ use Rattle.otio_model.specs.declared.compositions.Listed.{Listed}
 use Rattle.otio_model.specs.Trees.{items_of}
 use Rattle.coord.specs.Looks.{Show, track_shows, stack_shows}
 use Rattle.coord.specs.Sights.{sight, sights, looks, shows_inside}
-use Rattle.show_prog.specs.Images.{image, is_mix}
-use Rattle.show_prog.specs.Found.{exact, side, mixture, is_empty}
+use Rattle.coord.specs.Images.{image, is_mix}
+use Rattle.coord.specs.Sights.{exact}
+use Rattle.show_prog.specs.Walk.{side, mixture, is_empty}
 use Rattle.show_prog.proofs.Sound.{here, few_below, no_fault, track_facts, stack_facts}
 use Rattle.show_prog.proofs.ShowLemmas.{image_of-Blank, ok_then, seen_then, err_then, err_map, on_err, empty_is, mix_not_blank, seen_mixed, mixed_some, mixed_from, mixed_to, inside_track, same_kind, track_outside, track_mix, track_item, inside_stack, stack_before, stack_down, stack_here, nothing_past, nothing_shown}
 use Rattle.show_prog.proofs.items.+show.Goals as goal
@@ -72,7 +73,7 @@ show_item-media_at-requires-clause-sound t c = no_fault c.args.item.now c.requir
 
 pub show_side-show_item-requires : goal.show_side-show_item-requires
 show_side-show_item-requires t c =
-    let h = here c.args.children.now _ c.child_at.result.now c.child_at.ensures c.requires.1.1.1.0 c.requires.1.1.0 in
+    let h = here c.args.children.now _ c.child.result.now c.child.ensures c.requires.1.1.1.0 c.requires.1.1.0 in
     let l = c.requires.1.1.1.1.1.0 in let u = c.requires.1.1.1.1.1.1 in
     (omega (arith, h.count, c.requires.1.0), (h.few, (h.sound, (omega (arith, ints), omega (arith, ints)))))
 
@@ -81,57 +82,57 @@ show_stack-returns-then-at-lt0-clause-image t c =
     let n = c.if-at-lt0.true in
     image_of-Blank ∙ ap image (sym (stack_before (looks (exact c.args.kind.now) (items_of c.args.children.now)) c.args.at (omega (arith, ints))))
 
-pub show_stack-ticks_of-requires : goal.show_stack-ticks_of-requires
-show_stack-ticks_of-requires t c = record { few = few_below c.args.children.now _ c.child_at-item.result.now c.child_at-item.ensures c.requires.1.1.0 }
+pub show_stack-length_or_zero-requires : goal.show_stack-length_or_zero-requires
+show_stack-length_or_zero-requires t c = record { few = few_below c.args.children.now _ c.child-item.result.now c.child-item.ensures c.requires.1.1.0 }
 
 pub show_stack-show_item-requires : goal.show_stack-show_item-requires
 show_stack-show_item-requires t c =
-    let h = here c.args.children.now _ c.child_at-item.result.now c.child_at-item.ensures c.requires.1.1.1 c.requires.1.1.0 in
-    let k = h.ticks in let e = c.ticks_of.ensures in let m = c.if-at-ticks_of.true in let n = c.if-at-lt0.false in
+    let h = here c.args.children.now _ c.child-item.result.now c.child-item.ensures c.requires.1.1.1 c.requires.1.1.0 in
+    let k = h.ticks in let e = c.length_or_zero.ensures in let m = c.if-at-length_or_zero.true in let n = c.if-at-lt0.false in
     (omega (arith, h.count, c.requires.1.0), (h.few, (h.sound, (omega (arith, ints), omega (arith, ints)))))
 
 pub show_stack-returns-in_err-picture-clause-memory :
     goal.show_stack-returns-in_err-picture-clause-memory
 show_stack-returns-in_err-picture-clause-memory t c =
-    let x = c.child_at-item.result.now in let v = exact c.args.kind.now in
+    let x = c.child-item.result.now in let v = exact c.args.kind.now in
     let a : to_z w128 (of_z w128 c.args.at) ≡ c.args.at = omega (arith, ints) in
-    let e = c.ticks_of.ensures in let m = c.if-at-ticks_of.true in let n = c.if-at-lt0.false in
+    let e = c.length_or_zero.ensures in let m = c.if-at-length_or_zero.true in let n = c.if-at-lt0.false in
     let mix = c.in_err-picture.ensures.memory in
     on_err c.from_residual.result _
     (ap is_mix (ap (stack_shows (looks v (items_of c.args.children.now))) (sym a)
-    ∙ stack_here v (items_of c.args.children.now) c.children.index (c.children.index - 1) x _ _ c.child_at-item.ensures (omega arith) c.children.invariant (omega (arith, ints)) (omega (arith, ints)) (mix_not_blank _ mix))
+    ∙ stack_here v (items_of c.args.children.now) c.children.index (c.children.index - 1) x _ _ c.child-item.ensures (omega arith) c.children.invariant (omega (arith, ints)) (omega (arith, ints)) (mix_not_blank _ mix))
     ∙ mix)
 
 pub show_stack-returns-then-not-is_blank-clause-image :
     goal.show_stack-returns-then-not-is_blank-clause-image
 show_stack-returns-then-not-is_blank-clause-image t c =
-    let x = c.child_at-item.result.now in let v = exact c.args.kind.now in
+    let x = c.child-item.result.now in let v = exact c.args.kind.now in
     let a : to_z w128 (of_z w128 c.args.at) ≡ c.args.at = omega (arith, ints) in
-    let e = c.ticks_of.ensures in let m = c.if-at-ticks_of.true in let n = c.if-at-lt0.false in
+    let e = c.length_or_zero.ensures in let m = c.if-at-length_or_zero.true in let n = c.if-at-lt0.false in
     let s : Show = (sight x).shows v (to_z w128 (of_z w128 c.args.at)) in
     let some = sym (empty_is s) ∙ ap is_empty (sym c.in_ok-picture.ensures.image) ∙ sym c.is_blank.ensures ∙ c.if-not-is_blank.true in
     c.in_ok-picture.ensures.image
-    ∙ ap image (sym (stack_here v (items_of c.args.children.now) c.children.index (c.children.index - 1) x _ _ c.child_at-item.ensures (omega arith) c.children.invariant (omega (arith, ints)) (omega (arith, ints)) some)
+    ∙ ap image (sym (stack_here v (items_of c.args.children.now) c.children.index (c.children.index - 1) x _ _ c.child-item.ensures (omega arith) c.children.invariant (omega (arith, ints)) (omega (arith, ints)) some)
     ∙ ap (stack_shows (looks v (items_of c.args.children.now))) a)
 
 pub show_stack-children-preserved-else-not-is_blank-2 :
     goal.show_stack-children-preserved-else-not-is_blank-2
 show_stack-children-preserved-else-not-is_blank-2 t c =
-    let x = c.child_at-item.result.now in let v = exact c.args.kind.now in
+    let x = c.child-item.result.now in let v = exact c.args.kind.now in
     let s : Show = (sight x).shows v (to_z w128 (of_z w128 c.args.at)) in
     let none = sym (empty_is s) ∙ ap is_empty (sym c.in_ok-picture.ensures.image) ∙ sym c.is_blank.ensures ∙ c.if-not-is_blank.false in
-    stack_down v (items_of c.args.children.now) c.children.index (c.children.index - 1) x _ _ c.child_at-item.ensures (omega arith) c.children.invariant (nothing_shown v x _ none)
+    stack_down v (items_of c.args.children.now) c.children.index (c.children.index - 1) x _ _ c.child-item.ensures (omega arith) c.children.invariant (nothing_shown v x _ none)
 
 pub show_stack-children-preserved : goal.show_stack-children-preserved
 show_stack-children-preserved t c =
-    let x = c.child_at-item.result.now in let v = exact c.args.kind.now in
-    let e = c.ticks_of.ensures in let m = c.if-at-ticks_of.false in
-    stack_down v (items_of c.args.children.now) c.children.index (c.children.index - 1) x _ _ c.child_at-item.ensures (omega arith) c.children.invariant (nothing_past v x (to_z w128 (of_z w128 c.args.at)) (omega (arith, ints)))
+    let x = c.child-item.result.now in let v = exact c.args.kind.now in
+    let e = c.length_or_zero.ensures in let m = c.if-at-length_or_zero.false in
+    stack_down v (items_of c.args.children.now) c.children.index (c.children.index - 1) x _ _ c.child-item.ensures (omega arith) c.children.invariant (nothing_past v x (to_z w128 (of_z w128 c.args.at)) (omega (arith, ints)))
 
 pub show_track-returns-in_err-from-in-Some-overlap_at-clause-memory :
     goal.show_track-returns-in_err-from-in-Some-overlap_at-clause-memory
 show_track-returns-in_err-from-in-Some-overlap_at-clause-memory t c =
-    let v = exact c.args.kind.now in let l = c.args.children.now in let k = c.in-Some-overlap_at.crossing in let w = c.in-Some-overlap_at.ensures.within in
+    let v = exact c.args.kind.now in let l = c.args.children.now in let k = c.in-Some-overlap_at.active in let w = c.in-Some-overlap_at.ensures.within in
     let a : to_z w128 (of_z w128 c.args.at) ≡ c.args.at = omega (arith, ints) in
     let low = w.from_low in let high = w.from_high in
     let u : to_z w128 (of_z w128 k.from_ticks) ≡ k.from_ticks = omega (arith, ints) in
@@ -142,7 +143,7 @@ show_track-returns-in_err-from-in-Some-overlap_at-clause-memory t c =
 pub show_track-returns-in_err-to-in-Some-overlap_at-clause-memory :
     goal.show_track-returns-in_err-to-in-Some-overlap_at-clause-memory
 show_track-returns-in_err-to-in-Some-overlap_at-clause-memory t c =
-    let v = exact c.args.kind.now in let l = c.args.children.now in let k = c.in-Some-overlap_at.crossing in let w = c.in-Some-overlap_at.ensures.within in
+    let v = exact c.args.kind.now in let l = c.args.children.now in let k = c.in-Some-overlap_at.active in let w = c.in-Some-overlap_at.ensures.within in
     let a : to_z w128 (of_z w128 c.args.at) ≡ c.args.at = omega (arith, ints) in
     let low = w.to_low in let high = w.to_high in
     let u : to_z w128 (of_z w128 k.to_ticks) ≡ k.to_ticks = omega (arith, ints) in
@@ -181,7 +182,7 @@ show_track-returns-in-None-overlap_at-clause-memory t c =
 pub show_track-returns-in_ok-to-in-Some-overlap_at-clause-image :
     goal.show_track-returns-in_ok-to-in-Some-overlap_at-clause-image
 show_track-returns-in_ok-to-in-Some-overlap_at-clause-image t c =
-    let v = exact c.args.kind.now in let l = c.args.children.now in let k = c.in-Some-overlap_at.crossing in let w = c.in-Some-overlap_at.ensures.within in
+    let v = exact c.args.kind.now in let l = c.args.children.now in let k = c.in-Some-overlap_at.active in let w = c.in-Some-overlap_at.ensures.within in
     let a : to_z w128 (of_z w128 c.args.at) ≡ c.args.at = omega (arith, ints) in
     let b = w.from_low in let d = w.from_high in let e = w.to_low in let f = w.to_high in
     let p : to_z w128 (of_z w128 k.from_ticks) ≡ k.from_ticks = omega (arith, ints) in
@@ -196,7 +197,7 @@ show_track-returns-in_ok-to-in-Some-overlap_at-clause-image t c =
 pub show_track-returns-in_ok-to-in-Some-overlap_at-clause-memory :
     goal.show_track-returns-in_ok-to-in-Some-overlap_at-clause-memory
 show_track-returns-in_ok-to-in-Some-overlap_at-clause-memory t c =
-    let v = exact c.args.kind.now in let l = c.args.children.now in let k = c.in-Some-overlap_at.crossing in let w = c.in-Some-overlap_at.ensures.within in
+    let v = exact c.args.kind.now in let l = c.args.children.now in let k = c.in-Some-overlap_at.active in let w = c.in-Some-overlap_at.ensures.within in
     let a : to_z w128 (of_z w128 c.args.at) ≡ c.args.at = omega (arith, ints) in
     let b = w.from_low in let d = w.from_high in let e = w.to_low in let f = w.to_high in
     let p : to_z w128 (of_z w128 k.from_ticks) ≡ k.from_ticks = omega (arith, ints) in

@@ -4,7 +4,7 @@ use Rattle.otio_model.specs.Counts.{count, count_of}
 use Rattle.otio_model.specs.Trees.{items_of}
 use Rattle.coord.specs.Looks.{stack_shows}
 use Rattle.coord.specs.Sights.{looks}
-use Rattle.show_prog.specs.Found.{exact}
+use Rattle.coord.specs.Sights.{exact}
 use Rattle.show_prog.proofs.items.+show.Given as goal
 
 abbrev pub decreases-show_item : goal.decreases-show_item

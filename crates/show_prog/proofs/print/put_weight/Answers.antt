@@ -7,4 +7,4 @@ pub returns : goal.returns
 returns g c =
     let num : FitsSigned w128 c.args.num = search rules in
     let den : FitsSigned w128 c.args.den = search rules in
-    puts_then (simp to_z-of_z at c.put_unsigned.ensures) (puts_then c.put.ensures (simp to_z-of_z at c.put_unsigned-2.ensures))
+    puts_then (simp to_z-of_z at c.put_signed.ensures) (puts_then c.put.ensures (simp to_z-of_z at c.put_signed-2.ensures))

@@ -1,16 +1,20 @@
-use Rattle.std.proofs.Common.{◌++◌, [], refl, get_or}
+use Rattle.std.proofs.Common.{arith}
 use Rattle.dev_io.specs.Buffer.{standing}
-use Rattle.dev_io.proofs.Buffered.{puts_none, puts_then}
-use Rattle.dev_io.proofs.Parted.{joined_next}
+use Rattle.dev_io.specs.Parts.{joined}
+use Rattle.dev_io.proofs.Leaving.{leaves_all, leaves_as, leaves_end, leaves_then}
+use Rattle.dev_io.proofs.Parted.{joined_next, joined_none}
 use Rattle.dev_io.proofs.buffer.OutBuffer.put_parts.Goals as goal
 
 pub loop-part-init : goal.loop-part-init
-loop-part-init g c = ([], refl, puts_none (standing g.W.Out.known g.W.Out.faults c.args.out.now c.args.self.now))
+loop-part-init g c = leaves_all
+    (standing g.W.Out.known g.W.Out.faults c.args.out.now c.args.self.now) (joined c.args.parts.now)
 
 pub loop-part-preserved : goal.loop-part-preserved
 loop-part-preserved g c =
-    let done = c.loop-part.invariant in (
-      done.0 ++ (get_or c.args.parts.now c.loop-part.part-index _).now,
-      joined_next c.args.parts.now c.loop-part.part-index _ done.0 c.loop-part-test.true done.1,
-      puts_then done.2 c.put.ensures,
-    )
+    leaves_then (leaves_as (joined_next c.args.parts.now c.loop-part.part-index _
+    c.loop-part-test.true) c.loop-part.invariant) c.put.ensures
+
+pub returns : goal.returns
+returns g c =
+    leaves_end (leaves_as (joined_none c.args.parts.now c.loop-part.part-index (omega arith))
+    c.loop-part.invariant)

@@ -1,5 +1,5 @@
 use Rattle.std.proofs.Common.{◌<◌, ◌≤◌, ◌-◌, ◌^◌, length, arith}
-use Rattle.edl_text.specs.Lists.{most_bytes}
+use Rattle.limits.specs.Limits.{most_bytes}
 use Rattle.edl_text.proofs.Finishing.{all_sound, all_said, last_refused, list_refused, list_given}
 use Rattle.edl_text.proofs.Forming.{formed_list}
 use Rattle.edl_text.proofs.reader.EdlReader.finish.Goals as goal

@@ -1,5 +1,5 @@
 use Rattle.std.proofs.Common.{◌≡◌, ◌++◌, ◌+◌, ◌-◌, ◌≤◌, length, take, arith, inr, sym, ap, subst, ◌∙◌, length-append}
-use Rattle.edl_text.specs.Lists.{most_bytes}
+use Rattle.limits.specs.Limits.{most_bytes}
 use Rattle.edl_text.specs.Reader.{HasRead}
 use Rattle.edl_text.proofs.OneFault.{none_early}
 use Rattle.edl_text.proofs.Reading.{some_taken, refused_early, too_large, all_taken}

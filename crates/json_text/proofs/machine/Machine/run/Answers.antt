@@ -1,6 +1,6 @@
 use Rattle.std.proofs.Common.{◌≡◌, ◌+◌, ◌∙◌, Ok, take, arith, ap, subst, length, length-drop}
-use Rattle.json_text.specs.Machine.{run}
-use Rattle.json_text.specs.Stands.{state_of}
+use Rattle.json_text.specs.State.Machine.{run}
+use Rattle.json_text.specs.State.Stands.{state_of}
 use Rattle.json_text.proofs.RunLemmas.{run_more, run_skim}
 use Rattle.json_text.proofs.machine.Machine.run.Goals as goal
 

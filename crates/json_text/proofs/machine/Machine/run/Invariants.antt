@@ -1,6 +1,6 @@
 use Rattle.std.proofs.Common.{◌≡◌, ◌-◌, ◌≤◌, length, take, Ok}
-use Rattle.json_text.specs.Machine.{run}
-use Rattle.json_text.specs.Stands.{state_of}
+use Rattle.json_text.specs.State.Machine.{run}
+use Rattle.json_text.specs.State.Stands.{state_of}
 use Rattle.json_text.proofs.machine.Machine.run.Given as goal
 
 abbrev pub invariant-loop-at : goal.invariant-loop-at

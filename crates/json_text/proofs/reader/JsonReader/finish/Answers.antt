@@ -1,7 +1,7 @@
 use Rattle.std.proofs.Common.{◌≡◌, Option, Some, None, sym, ap, ◌∙◌}
 use Rattle.json_value.specs.declared.Json.{Json}
 use Rattle.json_text.specs.declared.faults.JsonFault.TheVariants.{Syntax}
-use Rattle.json_text.specs.Stands.{state_of}
+use Rattle.json_text.specs.State.Stands.{state_of}
 use Rattle.json_text.proofs.Last.{text_last, last_text}
 use Rattle.json_text.proofs.reader.JsonReader.finish.Goals as goal
 

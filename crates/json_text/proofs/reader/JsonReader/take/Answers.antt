@@ -1,8 +1,8 @@
 use Rattle.std.proofs.Common.{◌≡◌, ◌++◌, ◌-◌, ◌+◌, length-append, arith, subst, sym, Ok}
 use Rattle.json_text.specs.Faults.{Names}
-use Rattle.json_text.specs.Machine.{run}
-use Rattle.json_text.specs.Runs.{StopsAt}
-use Rattle.json_text.specs.Stands.{state_of}
+use Rattle.json_text.specs.State.Machine.{run}
+use Rattle.json_text.specs.State.Runs.{StopsAt}
+use Rattle.json_text.specs.State.Stands.{state_of}
 use Rattle.json_text.proofs.Named.{fault_in, fault_behind, read_all, live_all}
 use Rattle.json_text.proofs.reader.JsonReader.take.Goals as goal
 

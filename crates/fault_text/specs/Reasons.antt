@@ -1,0 +1,34 @@
+-- What a message tells of a fault behind the name of the file.
+use Rattle.std.specs.Prelude.{ℕ, List, [], ◌++◌, codes, decimal}
+use Rattle.fault_text.specs.Places.{place_text}
+use Rattle.fault_text.specs.declared.reasons.Reason.{Reason}
+use Rattle.fault_text.specs.declared.reasons.Detail.{Detail}
+use Rattle.fault_text.specs.declared.reasons.Detail.TheVariants.{Nothing, Root, Number, At, Member}
+
+-- a number: a line, or an offset in bytes
+abbrev pub number_text : ℕ → List ℕ
+number_text number = codes " at " ++ decimal number
+
+-- the place of an item
+abbrev pub item_text : List ℕ → List ℕ
+item_text place = codes " at " ++ place_text place
+
+-- the place of an item, and the name of its member
+abbrev pub member_text : List ℕ → List ℕ → List ℕ
+member_text place member = codes " at " ++ (place_text place ++ (codes " " ++ member))
+
+-- where the fault lies
+abbrev pub detail_text : Detail → List ℕ
+detail_text Nothing = []
+detail_text Root = codes " at ."
+detail_text (Number number) = number_text number
+detail_text (At place) = item_text place
+detail_text (Member place member) = member_text place member
+
+-- a code, the word of the fault and where it lies, up to the end of the line
+abbrev pub refusal : List ℕ → List ℕ → List ℕ → List ℕ
+refusal code word detail = codes ": " ++ (code ++ (codes " " ++ (word ++ (detail ++ codes "\n"))))
+
+-- all that stands behind the name of the file
+abbrev pub reason_text : Reason → List ℕ
+reason_text reason = refusal reason.code.now reason.word.now (detail_text reason.detail)

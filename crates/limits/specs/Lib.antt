@@ -1,0 +1,2 @@
+-- Definitions of the limits.
+pub mod Limits

@@ -1,0 +1,249 @@
+//! Items into pieces, and out of them.
+
+ghost use Rattle.std.specs.Prelude.{◌≡◌, ◌+◌, ◌-◌, ◌*◌, ◌/◌, ◌<◌, ◌≤◌, ◌^◌, ◌++◌, [], IfOk, take};
+ghost use Rattle.std.specs.Prelude.{drop, reverse, vec_len, length};
+ghost use Rattle.std.specs.Vec.{vec_capacity};
+ghost use Rattle.otio_model.specs.Edits.{replaced};
+ghost use Rattle.otio_model.specs.Pieces.{all_items, AllFresh, AreMade, ArePieces, IsCut, IsEnd};
+ghost use Rattle.otio_model.specs.Pieces.{IsOpen, IsStart, IsWindow};
+
+use crate::kept::NO_ITEMS;
+use crate::lists::{Item, Piece, kept_items};
+use crate::moves;
+use std::alloc::{AllocError, Global};
+
+/// The items of pieces that lie in the other order.
+pub(crate) fn pour(pieces: &mut Vec<Piece>, mid: &mut Vec<Item>)
+    requires empty { mid.old.items ≡ [] }
+    requires room { length (all_items (reverse pieces.old.items)) ≤ vec_capacity mid.old }
+    ensures items { mid.new.items ≡ all_items (reverse pieces.old.items) }
+    ensures pieces { pieces.new.items ≡ [] }
+    ensures room { vec_capacity mid.old ≤ vec_capacity mid.new }
+{
+    'pieces: while let Some(mut piece) = pieces.pop() {
+        mid.append(&mut piece.items).unwrap();
+    }
+}
+
+/// How many of so many items go into the next piece.
+fn piece_size(all: usize) -> usize
+    ensures least { 0 < all → 0 < result }
+    ensures most { result ≤ 64 }
+    ensures there { result ≤ all }
+    ensures full { 32 ≤ all → 32 ≤ result }
+    ensures rest { 32 ≤ all → result < all → 32 + result ≤ all }
+    ensures last { all ≤ 64 → result ≡ all }
+{
+    if all >= 96 {
+        64
+    } else if all > 64 {
+        32
+    } else {
+        all
+    }
+}
+
+/// Cuts items into pieces.
+pub(crate) fn cut(mid: &mut Vec<Item>, made: &mut Vec<Piece>, fresh: &mut Vec<Piece>)
+    requires empty { made.old.items ≡ [] }
+    requires fresh { AllFresh fresh.old.items }
+    requires enough { vec_len mid.old ≤ 32 * vec_len fresh.old }
+    requires room { vec_len fresh.old ≤ vec_capacity made.old }
+    ensures cut { IsCut mid.old.items made.new.items }
+    ensures mid { mid.new.items ≡ [] }
+    ensures fresh { AllFresh fresh.new.items }
+    ensures room { vec_capacity made.old ≤ vec_capacity made.new }
+    ensures used { vec_len made.new + vec_len fresh.new ≡ vec_len fresh.old }
+{
+    mid.reverse();
+    'cuts: while mid.len() > 0 {
+        let count = piece_size(mid.len());
+        let Some(mut piece) = fresh.pop() else {
+            unreachable!()
+        };
+        moves::take_last(mid, count, &mut piece.items);
+        piece.mend();
+        match made.push(piece) {
+            Ok(()) => {}
+            Err(_) => unreachable!(),
+        }
+    }
+}
+
+/// The piece in which a replacement begins: the one that has the item of this number, or the last
+/// one.
+fn start_piece(pieces: &[Piece], at: usize) -> (usize, usize)
+    requires there { at ≤ length (all_items pieces.now) }
+    requires pieces { ArePieces pieces.now }
+    ensures { IsStart pieces.now at result.0 result.1 }
+{
+    let mut first = 0;
+    let mut before = 0;
+    'starts: while pieces.len() - first > 1 {
+        let long = pieces[first].items.len();
+        if at - before < long {
+            return (first, before);
+        }
+        before += long;
+        first += 1;
+    }
+    (first, before)
+}
+
+/// The end of the first piece, where there is one.
+fn first_end(pieces: &[Piece], first: usize, before: usize) -> (usize, usize)
+    requires few { length (all_items pieces.now) < 2 ^ 64 }
+    requires pieces { ArePieces pieces.now }
+    requires within { first ≤ length pieces.now }
+    requires counted { length (all_items (take first pieces.now)) ≡ before }
+    ensures { IsOpen pieces.now first before result.0 result.1 }
+{
+    if first < pieces.len() {
+        let long = pieces[first].items.len();
+        return (first + 1, before + long);
+    }
+    (first, before)
+}
+
+/// The piece behind a replacement.
+fn end_piece(
+    pieces: &[Piece],
+    at: usize,
+    count: usize,
+    first: usize,
+    before: usize,
+) -> (usize, usize)
+    requires there { at + count ≤ length (all_items pieces.now) }
+    requires few { length (all_items pieces.now) < 2 ^ 64 }
+    requires pieces { ArePieces pieces.now }
+    requires start { IsStart pieces.now at first before }
+    ensures { IsEnd pieces.now at count first before result.0 result.1 }
+{
+    let (mut end, mut behind) = first_end(pieces, first, before);
+    'ends: while behind < at + count {
+        behind += pieces[end].items.len();
+        end += 1;
+    }
+    (end, behind)
+}
+
+/// The pieces that a replacement touches, from one up to another, and how many items lie before
+/// them.
+fn window(pieces: &[Piece], at: usize, count: usize, put: usize) -> (usize, usize, usize)
+    requires there { at + count ≤ length (all_items pieces.now) }
+    requires few { length (all_items pieces.now) + put < 2 ^ 64 }
+    requires pieces { ArePieces pieces.now }
+    ensures { IsWindow pieces.now at count put result.0 result.1 result.2 }
+{
+    let (first, before) = start_piece(pieces, at);
+    let (end, behind) = end_piece(pieces, at, count, first, before);
+    if put + (behind - before - count) >= 32 {
+        return (first, end, before);
+    }
+    if end < pieces.len() {
+        return (first, end + 1, before);
+    }
+    if first > 0 {
+        let long = pieces[first - 1].items.len();
+        return (first - 1, end, before - long);
+    }
+    (first, end, before)
+}
+
+/// Replaces items in pieces.
+pub(crate) fn replace_pieces(
+    pieces: &mut Vec<Piece>,
+    at: usize,
+    count: usize,
+    put: &mut Vec<Item>,
+    taken: &mut Vec<Item>,
+    mid: &mut Vec<Item>,
+    outer: &mut Vec<Piece>,
+    made: &mut Vec<Piece>,
+    fresh: &mut Vec<Piece>,
+)
+    requires there { at + count ≤ length (all_items pieces.old.items) }
+    requires pieces { ArePieces pieces.old.items }
+    requires taken_empty { taken.old.items ≡ [] }
+    requires mid_empty { mid.old.items ≡ [] }
+    requires outer_empty { outer.old.items ≡ [] }
+    requires made_empty { made.old.items ≡ [] }
+    requires fresh { AllFresh fresh.old.items }
+    requires taken_room { count ≤ vec_capacity taken.old }
+    requires few { length (all_items pieces.old.items) + vec_len put.old < 2 ^ 64 }
+    requires mid_room { 2 * count + 384 + vec_len put.old ≤ vec_capacity mid.old }
+    requires outer_room { length (all_items pieces.old.items) / 32 + 1 + vec_len fresh.old
+        ≤ vec_capacity outer.old }
+    requires made_room { vec_len fresh.old ≤ vec_capacity made.old }
+    requires fresh_room { 2 * count + 384 + vec_len put.old ≤ 32 * vec_len fresh.old }
+    ensures items { all_items pieces.new.items
+        ≡ replaced at count put.old.items (all_items pieces.old.items) }
+    ensures pieces { ArePieces pieces.new.items }
+    ensures taken { taken.new.items ≡ take count (drop at (all_items pieces.old.items)) }
+    ensures put { put.new.items ≡ [] }
+    ensures put_capacity { vec_capacity put.new ≡ vec_capacity put.old }
+    ensures mid { mid.new.items ≡ [] }
+    ensures outer { outer.new.items ≡ [] }
+    ensures made { made.new.items ≡ [] }
+    ensures fresh { AllFresh fresh.new.items }
+    ensures movable { vec_len fresh.new ≤ vec_capacity made.new }
+{
+    let (first, end, before) = window(pieces.as_slice(), at, count, put.len());
+    moves::into_room(pieces, outer);
+    moves::replace(pieces, first, end - first, made, outer);
+    outer.reverse();
+    pour(outer, mid);
+    moves::replace(mid, at - before, count, put, taken);
+    cut(mid, made, fresh);
+    moves::replace(pieces, first, 0, made, outer);
+}
+
+/// So many empty pieces.
+fn fresh_pieces(alloc: Global, wanted: usize) -> Result<Vec<Piece>, AllocError>
+    ensures fresh { IfOk result (λ pieces. AllFresh pieces.items) }
+    ensures long { IfOk result (λ pieces. vec_len pieces ≡ wanted) }
+{
+    let mut fresh = Vec::with_capacity(alloc, wanted)?;
+    'fresh: while fresh.len() < wanted {
+        let items = Vec::with_capacity(alloc, 64)?;
+        fresh.push(Piece {
+            items,
+            kept: NO_ITEMS,
+            start: 0,
+        })?;
+    }
+    Ok(fresh)
+}
+
+/// So many items as one piece.
+fn one_piece(alloc: Global, items: Vec<Item>) -> Result<Vec<Piece>, AllocError>
+    requires some { 1 ≤ vec_len items }
+    requires small { vec_len items ≤ 64 }
+    ensures { IfOk result (λ pieces. AreMade items.items pieces.items) }
+{
+    let kept = kept_items(&items);
+    let mut pieces = Vec::with_capacity(alloc, 1)?;
+    pieces.push(Piece {
+        items,
+        kept,
+        start: 0,
+    })?;
+    Ok(pieces)
+}
+
+/// These items in pieces.
+pub(crate) fn pieces_of(alloc: Global, items: Vec<Item>) -> Result<Vec<Piece>, AllocError>
+    ensures { IfOk result (λ pieces. AreMade items.items pieces.items) }
+{
+    if items.len() == 0 {
+        return Ok(Vec::new(alloc));
+    }
+    if items.len() <= 64 {
+        return one_piece(alloc, items);
+    }
+    let mut list = items;
+    let mut fresh = fresh_pieces(alloc, list.len() / 32 + 1)?;
+    let mut made = Vec::with_capacity(alloc, fresh.len())?;
+    cut(&mut list, &mut made, &mut fresh);
+    Ok(made)
+}

@@ -1,0 +1,317 @@
+use crate::run_tests::words_of;
+use dev_io::{MemFiles, MemOut};
+use itoa::Buffer;
+use otio_tools::{Status, run};
+use std::alloc::{AllocError, Global};
+use std::process::Abort;
+use std::test::Fail;
+
+const CLIP: &[u8] = b"{\"OTIO_SCHEMA\":\"Clip.1\",\"name\":\"s\",\"media_reference\":null}";
+
+const COLLECTION: &[u8] = b"{\"OTIO_SCHEMA\":\"SerializableCollection.1\"}";
+
+const NO_LENGTH: &[u8] =
+    b"{\"OTIO_SCHEMA\":\"Timeline.1\",\"tracks\":{\"OTIO_SCHEMA\":\"Stack.1\",\"children\":[{\"OTIO_SCHEMA\":\"Track.1\",\"children\":[{\"OTIO_SCHEMA\":\"Clip.2\"}]}]}}";
+
+const OFF_FRAME: &[u8] =
+    b"{\"OTIO_SCHEMA\":\"Timeline.1\",\"global_start_time\":{\"OTIO_SCHEMA\":\"RationalTime.1\",\"rate\":24,\"value\":0.5},\"tracks\":{\"OTIO_SCHEMA\":\"Stack.1\"}}";
+
+const AT_THE_CUT: &[u8] = b"86442 0 mix(dissolve 0/1 url:\"a.mov\"@66 url:\"b.mov\"@94)
+86442 1 -
+86442 2 url:\"a.wav\"@42
+";
+
+// The JSON of a time at 24 frames a second.
+fn put_time(text: &mut String, frames: u32) -> Result<(), AllocError> {
+    let mut digits = Buffer::new();
+    text.push_str("{\"OTIO_SCHEMA\":\"RationalTime.1\",\"rate\":24,\"value\":")?;
+    text.push_str(digits.format(frames))?;
+    text.push_str("}")
+}
+
+fn put_span(text: &mut String, start: u32, length: u32) -> Result<(), AllocError> {
+    text.push_str("{\"OTIO_SCHEMA\":\"TimeRange.1\",\"start_time\":")?;
+    put_time(text, start)?;
+    text.push_str(",\"duration\":")?;
+    put_time(text, length)?;
+    text.push_str("}")
+}
+
+fn put_gap(text: &mut String, length: u32) -> Result<(), AllocError> {
+    text.push_str("{\"OTIO_SCHEMA\":\"Gap.1\",\"source_range\":")?;
+    put_span(text, 0, length)?;
+    text.push_str("}")
+}
+
+// A clip of media that are there from 0 for 240 frames.
+fn put_clip(text: &mut String, start: u32, length: u32, url: &str) -> Result<(), AllocError> {
+    text.push_str("{\"OTIO_SCHEMA\":\"Clip.2\",\"source_range\":")?;
+    put_span(text, start, length)?;
+    text.push_str(
+        ",\"media_references\":{\"DEFAULT_MEDIA\":{\"OTIO_SCHEMA\":\"ExternalReference.1\",\"available_range\":",
+    )?;
+    put_span(text, 0, 240)?;
+    text.push_str(",\"target_url\":\"")?;
+    text.push_str(url)?;
+    text.push_str("\"}}")
+}
+
+// Two clips of 48 frames with a dissolve of 12 between them.
+fn put_dissolve(text: &mut String) -> Result<(), AllocError> {
+    text.push_str("{\"OTIO_SCHEMA\":\"Track.1\",\"children\":[")?;
+    put_clip(text, 24, 48, "a.mov")?;
+    text.push_str("},{\"OTIO_SCHEMA\":\"Transition.1\",\"in_offset\":")?;
+    put_time(text, 6)?;
+    text.push_str(",\"out_offset\":")?;
+    put_time(text, 6)?;
+    text.push_str("},")?;
+    put_clip(text, 100, 48, "b.mov")?;
+    text.push_str("}]}")
+}
+
+// A gap of 72 frames and a clip of 12 frames at twice its speed.
+fn put_fast(text: &mut String) -> Result<(), AllocError> {
+    text.push_str("{\"OTIO_SCHEMA\":\"Track.1\",\"children\":[")?;
+    put_gap(text, 72)?;
+    text.push_str(",")?;
+    put_clip(text, 40, 12, "c.mov")?;
+    text.push_str(",\"effects\":[{\"OTIO_SCHEMA\":\"LinearTimeWarp.1\",\"time_scalar\":2.0}]}]}")
+}
+
+// A timeline that starts at frame 86400, of the two tracks above and one of sound.
+fn three_tracks(alloc: Global) -> Result<String, AllocError> {
+    let mut text = String::new(alloc);
+    text.push_str("{\"OTIO_SCHEMA\":\"Timeline.1\",\"global_start_time\":")?;
+    put_time(&mut text, 86400)?;
+    text.push_str(",\"tracks\":{\"OTIO_SCHEMA\":\"Stack.1\",\"children\":[")?;
+    put_dissolve(&mut text)?;
+    text.push_str(",")?;
+    put_fast(&mut text)?;
+    text.push_str(",{\"OTIO_SCHEMA\":\"Track.1\",\"kind\":\"Audio\",\"children\":[")?;
+    put_clip(&mut text, 0, 96, "a.wav")?;
+    text.push_str("}]}]}}")?;
+    Ok(text)
+}
+
+fn some_files(alloc: Global) -> Result<MemFiles, AllocError> {
+    let mut files = MemFiles::new(alloc);
+    let tracks = three_tracks(alloc)?;
+    files.put("x.otio", tracks.as_bytes())?;
+    files.put("c.otio", CLIP)?;
+    files.put("l.otio", COLLECTION)?;
+    files.put("n.otio", NO_LENGTH)?;
+    files.put("k.otio", OFF_FRAME)?;
+    files.put("newer.otio", b"{\"OTIO_SCHEMA\":\"Clip.3\"}")?;
+    files.put("comma.json", b"[1,]")?;
+    Ok(files)
+}
+
+// A command line, its status, its output and its message.
+type Case = (&'static str, Status, &'static [u8], &'static [u8]);
+
+// Rows, and the refusals in their order.
+const FRAMES: [Case; 13] = [
+    (
+        "frames --start 86442 --count 1 x.otio",
+        Status::Done,
+        AT_THE_CUT,
+        b"",
+    ),
+    (
+        "frames x.otio --count 1 --start 01:00:01:18",
+        Status::Done,
+        AT_THE_CUT,
+        b"",
+    ),
+    (
+        "frames --child 1 --start 86471 --count 3 x.otio",
+        Status::Done,
+        b"86471 1 -\n86472 1 url:\"c.mov\"@40\n86473 1 url:\"c.mov\"@42\n",
+        b"",
+    ),
+    (
+        "frames --child 0 --start 86495 x.otio",
+        Status::Done,
+        b"86495 0 url:\"b.mov\"@147\n",
+        b"",
+    ),
+    ("frames --child 3 x.otio", Status::Done, b"", b""),
+    (
+        "frames c.otio",
+        Status::Refused,
+        b"",
+        b"otio: c.otio: G3 NotTimeline\n",
+    ),
+    (
+        "frames l.otio",
+        Status::Refused,
+        b"",
+        b"otio: l.otio: G3 NotTimeline\n",
+    ),
+    (
+        "frames n.otio",
+        Status::Refused,
+        b"",
+        b"otio: n.otio: K1 NoLength at 0\n",
+    ),
+    (
+        "frames --start 01:00:01:24 k.otio",
+        Status::Refused,
+        b"",
+        b"otio: k.otio: K2 StartOffFrame\n",
+    ),
+    (
+        "frames --start 01:00:01:24 x.otio",
+        Status::Refused,
+        b"",
+        b"otio: x.otio: X4 Range\n",
+    ),
+    (
+        "frames newer.otio",
+        Status::Refused,
+        b"",
+        b"otio: newer.otio: S3 Newer at .\n",
+    ),
+    (
+        "frames comma.json",
+        Status::Refused,
+        b"",
+        b"otio: comma.json: J1 Syntax at 3\n",
+    ),
+    (
+        "frames gone.otio",
+        Status::Input,
+        b"",
+        b"otio: gone.otio: absent\n",
+    ),
+];
+
+fn check(rt: &impl Abort, alloc: Global, case: &Case) -> Result<(), Fail> {
+    let (line, status, output, message) = *case;
+    let mut files = some_files(alloc)?;
+    let mut out = MemOut::new(alloc, 1000)?;
+    let mut err = MemOut::new(alloc, 1000)?;
+    let words = words_of(alloc, line)?;
+    assert_eq!(rt;
+        run(alloc, &words, &mut files, &mut out, &mut err),
+        status,
+        "{line}"
+    );
+    assert_eq!(rt; out.sent(), output, "{line}");
+    assert_eq!(rt; err.sent(), message, "{line}");
+    assert!(rt; out.target().is_none());
+    Ok(())
+}
+
+#[test]
+fn frames_are_answered(rt: HostRuntime) -> Result<(), Fail> {
+    for case in &FRAMES {
+        check(&rt, rt.alloc(), case)?;
+    }
+    Ok(())
+}
+
+// Whether a line is among the lines of a text.
+fn has_line(text: &[u8], wanted: &[u8]) -> bool {
+    text.split(|b| *b == b'\n').any(|line| line == wanted)
+}
+
+#[test]
+fn all_frames_are_listed(rt: HostRuntime) -> Result<(), Fail> {
+    let alloc = rt.alloc();
+    let words = words_of(alloc, "frames -o rows.txt x.otio")?;
+    let mut files = some_files(alloc)?;
+    let mut out = MemOut::new(alloc, 20000)?;
+    let mut err = MemOut::new(alloc, 1000)?;
+    assert_eq!(rt;
+        run(alloc, &words, &mut files, &mut out, &mut err),
+        Status::Done
+    );
+    assert_eq!(rt; out.target(), Some("rows.txt"));
+    assert_eq!(rt; out.sent().iter().filter(|b| **b == b'\n').count(), 288);
+    for line in [
+        "86453 0 mix(dissolve 11/12 url:\"a.mov\"@77 url:\"b.mov\"@105)",
+        "86454 0 url:\"b.mov\"@106",
+        "86471 1 -",
+        "86472 1 url:\"c.mov\"@40",
+        "86473 1 url:\"c.mov\"@42",
+        "86483 1 url:\"c.mov\"@62",
+        "86484 1 -",
+    ] {
+        assert!(rt; has_line(out.sent(), line.as_bytes()), "{line}");
+    }
+    Ok(())
+}
+
+#[test]
+fn rows_that_fail_leave_a_prefix(rt: HostRuntime) -> Result<(), Fail> {
+    let alloc = rt.alloc();
+    let words = words_of(alloc, "frames --start 86442 --count 1 x.otio")?;
+    for call in 1..6u64 {
+        let mut files = some_files(alloc)?;
+        let mut out = MemOut::new(alloc, 1000)?;
+        out.piece(16);
+        out.fail_on(call)?;
+        let mut err = MemOut::new(alloc, 1000)?;
+        assert_eq!(rt;
+            run(alloc, &words, &mut files, &mut out, &mut err),
+            Status::Output
+        );
+        assert_eq!(rt; err.sent(), b"otio: output failed\n".as_slice());
+        assert!(rt; AT_THE_CUT.starts_with(out.sent()));
+        assert!(rt; out.sent().len() < AT_THE_CUT.len());
+    }
+    Ok(())
+}
+
+#[test]
+fn refused_frames_leave_the_target(rt: HostRuntime) -> Result<(), Fail> {
+    let alloc = rt.alloc();
+    for line in [
+        "frames -o rows.txt c.otio",
+        "frames -o rows.txt n.otio",
+        "frames -o rows.txt --start 01:00:01:24 x.otio",
+    ] {
+        let mut files = some_files(alloc)?;
+        let mut out = MemOut::new(alloc, 1000)?;
+        let mut err = MemOut::new(alloc, 1000)?;
+        let words = words_of(alloc, line)?;
+        assert_eq!(rt;
+            run(alloc, &words, &mut files, &mut out, &mut err),
+            Status::Refused,
+            "{line}"
+        );
+        assert!(rt; out.target().is_none());
+        assert!(rt; out.sent().is_empty());
+    }
+    Ok(())
+}
+
+#[test]
+fn other_words_of_frames_are_answered_by_the_usage_text(rt: HostRuntime) -> Result<(), Fail> {
+    let alloc = rt.alloc();
+    for line in [
+        "frames",
+        "frames --drop x.otio",
+        "frames --to json x.otio",
+        "frames --count 0 x.otio",
+        "frames --count 1000001 x.otio",
+        "frames --child -1 x.otio",
+        "frames --start 1:00:00:00 x.otio",
+        "frames x.edl",
+        "frames x.otio x.otio",
+    ] {
+        let mut files = some_files(alloc)?;
+        let mut out = MemOut::new(alloc, 1000)?;
+        let mut err = MemOut::new(alloc, 1000)?;
+        let words = words_of(alloc, line)?;
+        assert_eq!(rt;
+            run(alloc, &words, &mut files, &mut out, &mut err),
+            Status::Usage,
+            "{line}"
+        );
+        assert!(rt; out.sent().is_empty());
+        assert!(rt; err.sent().starts_with(b"otio: usage\n  otio convert ["));
+    }
+    Ok(())
+}

@@ -1,0 +1,16 @@
+//! Tests that cross crates: command lines over files in memory, with what they send and tell, and
+//! calls that no other crate of the program makes. There is nothing here but tests.
+#![tactic(auto)]
+
+#[cfg(test)]
+mod calls;
+#[cfg(test)]
+mod frame_tests;
+#[cfg(test)]
+mod object_tests;
+#[cfg(test)]
+mod pieces_tests;
+#[cfg(test)]
+mod run_tests;
+#[cfg(test)]
+mod texts;

@@ -1,0 +1,546 @@
+use dev_io::{MemFiles, MemOut};
+use otio_tools::{Status, run};
+use std::alloc::{AllocError, Global};
+use std::process::Abort;
+use std::test::Fail;
+
+const ONE: &[u8] =
+    b"TITLE: ONE\nFCM: NON-DROP FRAME\n\n7 TAPE1 V C 01:00:00:00 01:00:02:00 00:00:10:00 00:00:12:00\n";
+
+const ONE_SPELLED: &[u8] =
+    b"TITLE: ONE\nFCM: NON-DROP FRAME\n001  TAPE1    V     C        01:00:00:00 01:00:02:00 00:00:10:00 00:00:12:00\n";
+
+const DROP: &[u8] = b"FCM: DROP FRAME\n1 T1 V C 00:00:00:00 00:00:00:10 01:00:00:00 01:00:00:10\n";
+
+const PLAIN: &[u8] = b"1 T1 V C 00:00:00:00 00:00:00:10 01:00:00:00 01:00:00:10\n";
+
+const DROP_SPELLED: &[u8] =
+    b"FCM: DROP FRAME\n001  T1       V     C        00:00:00;00 00:00:00;10 01:00:00;00 01:00:00;10\n";
+
+const SOUND_SPELLED: &[u8] = b"FCM: NON-DROP FRAME
+001  T1       V     C        00:00:00:00 00:00:01:00 00:00:00:00 00:00:01:00
+002  T1       A     C        00:00:00:00 00:00:01:00 00:00:00:00 00:00:01:00
+003  T1       A2    C        00:00:00:00 00:00:01:00 00:00:00:00 00:00:01:00
+";
+
+const USAGE_LINES: usize = 8;
+
+pub fn words_of(alloc: Global, line: &str) -> Result<Vec<String>, AllocError> {
+    let mut words = Vec::new(alloc);
+    for word in line.split_whitespace() {
+        words.push(String::from_str(alloc, word)?)?;
+    }
+    Ok(words)
+}
+
+fn some_files(alloc: Global) -> Result<MemFiles, AllocError> {
+    let mut files = MemFiles::new(alloc);
+    files.put("a.edl", ONE)?;
+    files.put("empty.edl", b"TITLE: EMPTY")?;
+    files.put(
+        "unequal.edl",
+        b"1 T1 V C 00:00:00:00 00:00:01:00 00:00:00:00 00:00:02:00",
+    )?;
+    files.put("-b.edl", ONE)?;
+    files.put("drop.edl", DROP)?;
+    files.put("plain.edl", PLAIN)?;
+    files.put("title.edl", b"TITLE: E")?;
+    files.put(
+        "sound.edl",
+        b"1 T1 AA/V C 00:00:00:00 00:00:01:00 00:00:00:00 00:00:01:00",
+    )?;
+    files.put(
+        "day.edl",
+        b"1 T1 V C 00:00:00:00 00:00:00:01 23:59:59:28 23:59:59:29",
+    )?;
+    files.put("form.edl", b"* first\n1 T1 V C 00:00:00:00\n")?;
+    some_objects(&mut files)?;
+    files.put("list.json", b"[1,2]")?;
+    files.put("twice.json", b"{\"a\":1,\"b\":2,\"a\":3}")?;
+    files.put("half.json", b"[\"\\ud800\"]")?;
+    files.put("comma.json", b"[1,]")?;
+    files.put("nought.json", b"01")?;
+    files.put("early.json", b"\"\\u12")?;
+    files.put("nul", b"nul ")?;
+    files.put("deep.json", &[b'['; 128])?;
+    files.put("utf8.json", b"[\"\xff\"]")?;
+    files.put("-", b"true")?;
+    Ok(files)
+}
+
+// An object of each kind of answer.
+fn some_objects(files: &mut MemFiles) -> Result<(), AllocError> {
+    files.put(
+        "c.otio",
+        b"{\"OTIO_SCHEMA\":\"Clip.1\",\"name\":\"s\",\"media_reference\":null}",
+    )?;
+    files.put("newer.otio", b"{\"OTIO_SCHEMA\":\"Clip.3\"}")?;
+    files.put("enabled.otio", b"{\"OTIO_SCHEMA\":\"Gap.1\",\"enabled\":1}")?;
+    files.put(
+        "effect.otio",
+        b"{\"OTIO_SCHEMA\":\"Gap.1\",\"effects\":[{\"OTIO_SCHEMA\":\"Foo.7\",\"b\":[1.50]}]}",
+    )?;
+    files.put("far.otio", FAR_READ)?;
+    files.put("rate.otio", RATE_READ)?;
+    files.put("child.otio", CHILD_READ)
+}
+
+const FAR_READ: &[u8] =
+    b"{\"OTIO_SCHEMA\":\"Gap.1\",\"source_range\":{\"OTIO_SCHEMA\":\"TimeRange.1\",\"duration\":{\"OTIO_SCHEMA\":\"RationalTime.1\",\"rate\":24,\"value\":0},\"start_time\":{\"OTIO_SCHEMA\":\"RationalTime.1\",\"rate\":705600000000.0,\"value\":9007199254740993.0}}}";
+
+const RATE_READ: &[u8] =
+    b"{\"OTIO_SCHEMA\":\"Gap.1\",\"source_range\":{\"OTIO_SCHEMA\":\"TimeRange.1\",\"duration\":{\"OTIO_SCHEMA\":\"RationalTime.1\",\"rate\":29.5,\"value\":0},\"start_time\":{\"OTIO_SCHEMA\":\"RationalTime.1\",\"rate\":705600000000.0,\"value\":9007199254740993.0}}}";
+
+const CHILD_READ: &[u8] =
+    b"{\"OTIO_SCHEMA\":\"Timeline.1\",\"tracks\":{\"OTIO_SCHEMA\":\"Stack.1\",\"children\":[{\"OTIO_SCHEMA\":\"Track.1\",\"children\":[{\"OTIO_SCHEMA\":\"Gap.1\"},{\"OTIO_SCHEMA\":\"Foo.7\",\"b\":[1.50]}]}]}}";
+
+const CLIP: &[u8] = b"{
+    \"OTIO_SCHEMA\": \"Clip.2\",
+    \"metadata\": {},
+    \"name\": \"s\",
+    \"source_range\": null,
+    \"effects\": [],
+    \"markers\": [],
+    \"enabled\": true,
+    \"media_references\": {
+        \"DEFAULT_MEDIA\": {
+            \"OTIO_SCHEMA\": \"MissingReference.1\",
+            \"metadata\": {},
+            \"name\": \"\",
+            \"available_range\": null
+        }
+    },
+    \"active_media_reference_key\": \"DEFAULT_MEDIA\"
+}
+";
+
+const EFFECT: &[u8] = b"{
+    \"OTIO_SCHEMA\": \"Gap.1\",
+    \"metadata\": {},
+    \"name\": \"\",
+    \"source_range\": null,
+    \"effects\": [
+        {
+            \"OTIO_SCHEMA\": \"Foo.7\",
+            \"b\": [
+                1.50
+            ]
+        }
+    ],
+    \"markers\": [],
+    \"enabled\": true
+}
+";
+
+const FAR: &[u8] = b"{
+    \"OTIO_SCHEMA\": \"Gap.1\",
+    \"metadata\": {},
+    \"name\": \"\",
+    \"source_range\": {
+        \"OTIO_SCHEMA\": \"TimeRange.1\",
+        \"duration\": {
+            \"OTIO_SCHEMA\": \"RationalTime.1\",
+            \"rate\": 24.0,
+            \"value\": 0.0
+        },
+        \"start_time\": {
+            \"OTIO_SCHEMA\": \"RationalTime.1\",
+            \"rate\": 705600000000.0,
+            \"value\": 9007199254740993.0
+        }
+    },
+    \"effects\": [],
+    \"markers\": [],
+    \"enabled\": true
+}
+";
+
+// A command line, its status, its output and its message.
+type Case = (&'static str, Status, &'static [u8], &'static [u8]);
+
+// Lists that are written as lists.
+const LISTS: [Case; 13] = [
+    ("convert --to edl a.edl", Status::Done, ONE_SPELLED, b""),
+    ("convert a.edl --to edl", Status::Done, ONE_SPELLED, b""),
+    (
+        "convert --to edl empty.edl",
+        Status::Done,
+        b"TITLE: EMPTY\nFCM: NON-DROP FRAME\n",
+        b"",
+    ),
+    (
+        "convert --to edl gone.edl",
+        Status::Input,
+        b"",
+        b"otio: gone.edl: absent\n",
+    ),
+    (
+        "convert --to edl unequal.edl",
+        Status::Refused,
+        b"",
+        b"otio: unequal.edl: L4 Unequal at 1\n",
+    ),
+    (
+        "convert --rate 29.97 --to edl drop.edl",
+        Status::Done,
+        DROP_SPELLED,
+        b"",
+    ),
+    (
+        "convert --rate 29.97 --drop --to edl drop.edl",
+        Status::Done,
+        DROP_SPELLED,
+        b"",
+    ),
+    (
+        "convert --rate 100 --to edl drop.edl",
+        Status::Refused,
+        b"",
+        b"otio: drop.edl: L2 Timecode at 2\n",
+    ),
+    (
+        "convert --rate 100 --to edl title.edl",
+        Status::Refused,
+        b"",
+        b"otio: title.edl: N15 NoTimecode at .\n",
+    ),
+    (
+        "convert --drop --to edl plain.edl",
+        Status::Refused,
+        b"",
+        b"otio: plain.edl: N15 NoTimecode at .\n",
+    ),
+    (
+        "convert --to edl sound.edl",
+        Status::Done,
+        SOUND_SPELLED,
+        b"",
+    ),
+    (
+        "convert --rate 29.97 --drop --to edl day.edl",
+        Status::Refused,
+        b"",
+        b"otio: day.edl: L10 Day at 1\n",
+    ),
+    (
+        "convert --to edl form.edl",
+        Status::Refused,
+        b"",
+        b"otio: form.edl: L1 Form at 2\n",
+    ),
+];
+
+// Texts that are written as JSON.
+const TEXTS: [Case; 11] = [
+    (
+        "convert --to json list.json",
+        Status::Done,
+        b"[\n    1,\n    2\n]\n",
+        b"",
+    ),
+    (
+        "convert twice.json --to json",
+        Status::Done,
+        b"{\n    \"a\": 3,\n    \"b\": 2\n}\n",
+        b"",
+    ),
+    ("convert --to json -", Status::Done, b"true\n", b""),
+    (
+        "convert --to json half.json",
+        Status::Refused,
+        b"",
+        b"otio: half.json: J1 Syntax at 8\n",
+    ),
+    (
+        "convert --to json comma.json",
+        Status::Refused,
+        b"",
+        b"otio: comma.json: J1 Syntax at 3\n",
+    ),
+    (
+        "convert --to json nought.json",
+        Status::Refused,
+        b"",
+        b"otio: nought.json: J1 Syntax at 1\n",
+    ),
+    (
+        "convert --to json early.json",
+        Status::Refused,
+        b"",
+        b"otio: early.json: J1 Syntax at 5\n",
+    ),
+    (
+        "convert --to json nul",
+        Status::Refused,
+        b"",
+        b"otio: nul: J1 Syntax at 3\n",
+    ),
+    (
+        "convert --to json deep.json",
+        Status::Refused,
+        b"",
+        b"otio: deep.json: J3 Depth at 127\n",
+    ),
+    (
+        "convert --to json utf8.json",
+        Status::Refused,
+        b"",
+        b"otio: utf8.json: J2 Utf8 at 2\n",
+    ),
+    (
+        "convert --to json gone.json",
+        Status::Input,
+        b"",
+        b"otio: gone.json: absent\n",
+    ),
+];
+
+// Objects that are written as objects.
+const OBJECTS: [Case; 10] = [
+    ("convert c.otio", Status::Done, CLIP, b""),
+    (
+        "convert --from otio --to otio c.otio",
+        Status::Done,
+        CLIP,
+        b"",
+    ),
+    (
+        "convert newer.otio",
+        Status::Refused,
+        b"",
+        b"otio: newer.otio: S3 Newer at .\n",
+    ),
+    (
+        "convert rate.otio",
+        Status::Refused,
+        b"",
+        b"otio: rate.otio: S5 Rate at .\n",
+    ),
+    (
+        "convert child.otio",
+        Status::Refused,
+        b"",
+        b"otio: child.otio: S2 UnknownChild at 0/1\n",
+    ),
+    (
+        "convert enabled.otio",
+        Status::Refused,
+        b"",
+        b"otio: enabled.otio: S4 Field at . enabled\n",
+    ),
+    (
+        "convert list.json",
+        Status::Refused,
+        b"",
+        b"otio: list.json: S1 NotObject at .\n",
+    ),
+    (
+        "convert comma.json",
+        Status::Refused,
+        b"",
+        b"otio: comma.json: J1 Syntax at 3\n",
+    ),
+    ("convert effect.otio", Status::Done, EFFECT, b""),
+    ("convert far.otio", Status::Done, FAR, b""),
+];
+
+fn check(rt: &impl Abort, alloc: Global, case: &Case) -> Result<(), Fail> {
+    let (line, status, output, message) = *case;
+    let mut files = some_files(alloc)?;
+    let mut out = MemOut::new(alloc, 4000)?;
+    let mut err = MemOut::new(alloc, 1000)?;
+    let words = words_of(alloc, line)?;
+    assert_eq!(rt;
+        run(alloc, &words, &mut files, &mut out, &mut err),
+        status,
+        "{line}"
+    );
+    assert_eq!(rt; out.sent(), output, "{line}");
+    assert_eq!(rt; err.sent(), message, "{line}");
+    assert!(rt; out.target().is_none());
+    assert!(rt; err.target().is_none());
+    Ok(())
+}
+
+#[test]
+fn lists_are_answered(rt: HostRuntime) -> Result<(), Fail> {
+    for case in &LISTS {
+        check(&rt, rt.alloc(), case)?;
+    }
+    Ok(())
+}
+
+#[test]
+fn texts_are_answered(rt: HostRuntime) -> Result<(), Fail> {
+    for case in &TEXTS {
+        check(&rt, rt.alloc(), case)?;
+    }
+    Ok(())
+}
+
+#[test]
+fn objects_are_answered(rt: HostRuntime) -> Result<(), Fail> {
+    for case in &OBJECTS {
+        check(&rt, rt.alloc(), case)?;
+    }
+    Ok(())
+}
+
+#[test]
+fn the_output_goes_to_its_target(rt: HostRuntime) -> Result<(), Fail> {
+    let alloc = rt.alloc();
+    let words = words_of(alloc, "convert --to otio -o o.otio c.otio")?;
+    let mut files = some_files(alloc)?;
+    let mut out = MemOut::new(alloc, 4000)?;
+    let mut err = MemOut::new(alloc, 1000)?;
+    assert_eq!(rt;
+        run(alloc, &words, &mut files, &mut out, &mut err),
+        Status::Done
+    );
+    assert_eq!(rt; out.sent(), CLIP);
+    assert_eq!(rt; out.target(), Some("o.otio"));
+    assert!(rt; err.sent().is_empty());
+    Ok(())
+}
+
+#[test]
+fn a_target_that_fails_takes_nothing(rt: HostRuntime) -> Result<(), Fail> {
+    let alloc = rt.alloc();
+    let words = words_of(alloc, "convert --to json -o o.json list.json")?;
+    let mut files = some_files(alloc)?;
+    let mut out = MemOut::new(alloc, 1000)?;
+    out.fail_on(1)?;
+    let mut err = MemOut::new(alloc, 1000)?;
+    assert_eq!(rt;
+        run(alloc, &words, &mut files, &mut out, &mut err),
+        Status::Output
+    );
+    assert!(rt; out.sent().is_empty());
+    assert!(rt; out.target().is_none());
+    assert_eq!(rt; err.sent(), b"otio: output failed\n".as_slice());
+    Ok(())
+}
+
+#[test]
+fn a_refused_object_leaves_the_target(rt: HostRuntime) -> Result<(), Fail> {
+    let alloc = rt.alloc();
+    let words = words_of(alloc, "convert -o o.otio newer.otio")?;
+    let mut files = some_files(alloc)?;
+    let mut out = MemOut::new(alloc, 1000)?;
+    let mut err = MemOut::new(alloc, 1000)?;
+    assert_eq!(rt;
+        run(alloc, &words, &mut files, &mut out, &mut err),
+        Status::Refused
+    );
+    assert!(rt; out.target().is_none());
+    assert!(rt; out.sent().is_empty());
+    Ok(())
+}
+
+#[test]
+fn other_words_are_answered_by_the_usage_text(rt: HostRuntime) -> Result<(), Fail> {
+    let alloc = rt.alloc();
+    for line in [
+        "",
+        "paint",
+        "convert",
+        "convert --to edl",
+        "convert a.edl",
+        "convert --from edl --to edl a.edl",
+        "convert --to edl c.otio",
+        "convert -o l.edl c.otio",
+        "convert --to edl a.edl a.edl",
+        "convert --to edl -b.edl",
+        "convert --to edl list.json",
+        "convert --to json -x",
+        "convert --to json a.edl",
+        "convert --to edl --rate 29.5 a.edl",
+        "convert --to edl --drop --drop a.edl",
+        "convert --to edl -o -b a.edl",
+        "convert --to --to edl",
+        "Convert --to edl a.edl",
+    ] {
+        let mut files = some_files(alloc)?;
+        let mut out = MemOut::new(alloc, 1000)?;
+        let mut err = MemOut::new(alloc, 1000)?;
+        let words = words_of(alloc, line)?;
+        assert_eq!(rt;
+            run(alloc, &words, &mut files, &mut out, &mut err),
+            Status::Usage,
+            "{line}"
+        );
+        assert!(rt; out.sent().is_empty());
+        assert!(rt; err.sent().starts_with(b"otio: usage\n  otio convert ["));
+        assert_eq!(rt;
+            err.sent().iter().filter(|b| **b == b'\n').count(),
+            USAGE_LINES
+        );
+    }
+    Ok(())
+}
+
+#[test]
+fn a_stream_of_output_that_fails_leaves_a_prefix(rt: HostRuntime) -> Result<(), Fail> {
+    let alloc = rt.alloc();
+    let words = words_of(alloc, "convert --to edl a.edl")?;
+    for call in 1..8u64 {
+        let mut files = some_files(alloc)?;
+        let mut out = MemOut::new(alloc, 1000)?;
+        out.piece(16);
+        out.fail_on(call)?;
+        let mut err = MemOut::new(alloc, 1000)?;
+        assert_eq!(rt;
+            run(alloc, &words, &mut files, &mut out, &mut err),
+            Status::Output
+        );
+        assert_eq!(rt; err.sent(), b"otio: output failed\n".as_slice());
+        assert!(rt; ONE_SPELLED.starts_with(out.sent()));
+        assert!(rt; out.sent().len() < ONE_SPELLED.len());
+    }
+    Ok(())
+}
+
+#[test]
+fn a_failing_stream_of_messages_changes_no_status(rt: HostRuntime) -> Result<(), Fail> {
+    let alloc = rt.alloc();
+    for (line, status) in [
+        ("convert --to edl gone.edl", Status::Input),
+        ("convert --to edl unequal.edl", Status::Refused),
+        ("paint", Status::Usage),
+    ] {
+        let mut files = some_files(alloc)?;
+        let mut out = MemOut::new(alloc, 1000)?;
+        let mut err = MemOut::new(alloc, 1000)?;
+        err.piece(5);
+        err.fail_on(2)?;
+        let words = words_of(alloc, line)?;
+        assert_eq!(rt;
+            run(alloc, &words, &mut files, &mut out, &mut err),
+            status,
+            "{line}"
+        );
+        assert_eq!(rt; err.sent(), b"otio:".as_slice());
+        assert!(rt; out.sent().is_empty());
+    }
+    Ok(())
+}
+
+#[test]
+fn a_file_that_fails_is_named(rt: HostRuntime) -> Result<(), Fail> {
+    let alloc = rt.alloc();
+    let words = words_of(alloc, "convert --to edl a.edl")?;
+    for call in 1..5u64 {
+        let mut files = some_files(alloc)?;
+        files.piece(64);
+        files.fail_on(call)?;
+        let mut out = MemOut::new(alloc, 1000)?;
+        let mut err = MemOut::new(alloc, 1000)?;
+        assert_eq!(rt;
+            run(alloc, &words, &mut files, &mut out, &mut err),
+            Status::Input
+        );
+        assert_eq!(rt; err.sent(), b"otio: a.edl: read failed\n".as_slice());
+        assert!(rt; out.sent().is_empty());
+    }
+    Ok(())
+}

@@ -1,0 +1,85 @@
+//! Texts of objects, what is written of them, and what others are refused for.
+
+/// A text that is read, and what is written of the object without blanks and line feeds.
+pub struct Rewritten {
+    pub text: &'static str,
+    pub written: &'static str,
+}
+
+/// Texts of each schema, with what is written of them by the tables of the schemas.
+pub const REWRITTEN: [Rewritten; 7] = [
+    Rewritten {
+        text: r#"{"enabled":false,"b":[1.50],"OTIO_SCHEMA":"Gap.01","name":null,"a":{}}"#,
+        written: r#"{"OTIO_SCHEMA":"Gap.1","metadata":{},"name":"","source_range":null,"effects":[],"markers":[],"enabled":false,"b":[1.50],"a":{}}"#,
+    },
+    Rewritten {
+        text: r#"{"OTIO_SCHEMA":"Gap.1","source_range":{"OTIO_SCHEMA":"TimeRange.1","start_time":{"OTIO_SCHEMA":"RationalTime.1","value":1,"rate":25},"duration":{"OTIO_SCHEMA":"RationalTime.1","rate":24,"value":2.5}}}"#,
+        written: r#"{"OTIO_SCHEMA":"Gap.1","metadata":{},"name":"","source_range":{"OTIO_SCHEMA":"TimeRange.1","duration":{"OTIO_SCHEMA":"RationalTime.1","rate":24.0,"value":2.5},"start_time":{"OTIO_SCHEMA":"RationalTime.1","rate":25.0,"value":1.0}},"effects":[],"markers":[],"enabled":true}"#,
+    },
+    Rewritten {
+        text: r#"{"OTIO_SCHEMA":"Clip.2","effects":[{"OTIO_SCHEMA":"LinearTimeWarp.1","time_scalar":-1.5},{"OTIO_SCHEMA":"FreezeFrame.1","time_scalar":2},{"OTIO_SCHEMA":"TimeEffect.1","name":"a"},{"OTIO_SCHEMA":"Effect.1","effect_name":"b"},{"OTIO_SCHEMA":"Foo.7"}],"markers":[{"OTIO_SCHEMA":"Marker.2"},7]}"#,
+        written: r#"{"OTIO_SCHEMA":"Clip.2","metadata":{},"name":"","source_range":null,"effects":[{"OTIO_SCHEMA":"LinearTimeWarp.1","metadata":{},"name":"","effect_name":"","time_scalar":-1.5},{"OTIO_SCHEMA":"FreezeFrame.1","metadata":{},"name":"","effect_name":"","time_scalar":0.0},{"OTIO_SCHEMA":"TimeEffect.1","metadata":{},"name":"a","effect_name":""},{"OTIO_SCHEMA":"Effect.1","metadata":{},"name":"","effect_name":"b"},{"OTIO_SCHEMA":"Foo.7"}],"markers":[{"OTIO_SCHEMA":"Marker.2","metadata":{},"name":"","marked_range":null},7],"enabled":true,"media_references":{},"active_media_reference_key":"DEFAULT_MEDIA"}"#,
+    },
+    Rewritten {
+        text: r#"{"OTIO_SCHEMA":"Clip.2","media_references":{"a":{"OTIO_SCHEMA":"ExternalReference.1","target_url":"u"},"b":null,"c":{"OTIO_SCHEMA":"GeneratorReference.1","generator_kind":"bars"},"d":{"OTIO_SCHEMA":"ImageSequenceReference.1","name_suffix":".exr","frame_step":1}},"active_media_reference_key":"a"}"#,
+        written: r#"{"OTIO_SCHEMA":"Clip.2","metadata":{},"name":"","source_range":null,"effects":[],"markers":[],"enabled":true,"media_references":{"a":{"OTIO_SCHEMA":"ExternalReference.1","metadata":{},"name":"","available_range":null,"target_url":"u"},"b":{"OTIO_SCHEMA":"MissingReference.1","metadata":{},"name":"","available_range":null},"c":{"OTIO_SCHEMA":"GeneratorReference.1","metadata":{},"name":"","available_range":null,"generator_kind":"bars"},"d":{"OTIO_SCHEMA":"ImageSequenceReference.1","metadata":{},"name":"","available_range":null,"target_url_base":"","name_prefix":"","name_suffix":".exr","frame_step":1}},"active_media_reference_key":"a"}"#,
+    },
+    Rewritten {
+        text: r#"{"OTIO_SCHEMA":"Track.1","kind":"Audio","children":[{"OTIO_SCHEMA":"Transition.1","in_offset":{"OTIO_SCHEMA":"RationalTime.1","rate":23.976023976023978,"value":6}},{"OTIO_SCHEMA":"Gap.1"}]}"#,
+        written: r#"{"OTIO_SCHEMA":"Track.1","metadata":{},"name":"","source_range":null,"effects":[],"markers":[],"enabled":true,"children":[{"OTIO_SCHEMA":"Transition.1","metadata":{},"name":"","transition_type":"SMPTE_Dissolve","in_offset":{"OTIO_SCHEMA":"RationalTime.1","rate":23.976023976023978,"value":6.0},"out_offset":null},{"OTIO_SCHEMA":"Gap.1","metadata":{},"name":"","source_range":null,"effects":[],"markers":[],"enabled":true}],"kind":"Audio"}"#,
+    },
+    Rewritten {
+        text: r#"{"OTIO_SCHEMA":"Timeline.1","color":"red","global_start_time":{"OTIO_SCHEMA":"RationalTime.1","rate":24,"value":86400},"tracks":{"OTIO_SCHEMA":"Stack.1","children":[{"OTIO_SCHEMA":"Stack.1"}]}}"#,
+        written: r#"{"OTIO_SCHEMA":"Timeline.1","metadata":{},"name":"","global_start_time":{"OTIO_SCHEMA":"RationalTime.1","rate":24.0,"value":86400.0},"tracks":{"OTIO_SCHEMA":"Stack.1","metadata":{},"name":"","source_range":null,"effects":[],"markers":[],"enabled":true,"children":[{"OTIO_SCHEMA":"Stack.1","metadata":{},"name":"","source_range":null,"effects":[],"markers":[],"enabled":true,"children":[]}]},"color":"red"}"#,
+    },
+    Rewritten {
+        text: r#"{"OTIO_SCHEMA":"SerializableCollection.1","children":[{"OTIO_SCHEMA":"Timeline.1"},{"OTIO_SCHEMA":"SerializableCollection.1"}]}"#,
+        written: r#"{"OTIO_SCHEMA":"SerializableCollection.1","metadata":{},"name":"","children":[{"OTIO_SCHEMA":"Timeline.1","metadata":{},"name":"","global_start_time":null,"tracks":{"OTIO_SCHEMA":"Stack.1","metadata":{},"name":"tracks","source_range":null,"effects":[],"markers":[],"enabled":true,"children":[]}},{"OTIO_SCHEMA":"SerializableCollection.1","metadata":{},"name":"","children":[]}]}"#,
+    },
+];
+
+/// A text that is refused, and what is told of it behind the file's name.
+pub struct Refused {
+    pub text: &'static str,
+    pub told: &'static str,
+}
+
+/// Texts of each fault of objects.
+pub const REFUSED: [Refused; 9] = [
+    Refused {
+        text: r#"{"OTIO_SCHEMA":"Clip"}"#,
+        told: "S1 NotObject at .\n",
+    },
+    Refused {
+        text: r#"{"OTIO_SCHEMA":"Timeline.1","tracks":{"OTIO_SCHEMA":"Stack.1","children":[{"OTIO_SCHEMA":"Track.1","children":[{"OTIO_SCHEMA":"Gap.1"},{"OTIO_SCHEMA":"Foo.7"}]},{"OTIO_SCHEMA":"Foo.8"}]}}"#,
+        told: "S2 UnknownChild at 0/1\n",
+    },
+    Refused {
+        text: r#"{"OTIO_SCHEMA":"Clip.3"}"#,
+        told: "S3 Newer at .\n",
+    },
+    Refused {
+        text: r#"{"OTIO_SCHEMA":"Stack.1","children":[{"OTIO_SCHEMA":"Gap.1"},{"OTIO_SCHEMA":"Gap.1","enabled":1}]}"#,
+        told: "S4 Field at 1 enabled\n",
+    },
+    Refused {
+        text: r#"{"OTIO_SCHEMA":"Timeline.1","global_start_time":{"OTIO_SCHEMA":"RationalTime.1","rate":29.5,"value":0}}"#,
+        told: "S5 Rate at .\n",
+    },
+    Refused {
+        text: r#"{"OTIO_SCHEMA":"Timeline.1","global_start_time":{"OTIO_SCHEMA":"RationalTime.1","rate":24,"value":1e99}}"#,
+        told: "S6 Range at .\n",
+    },
+    Refused {
+        text: r#"{"OTIO_SCHEMA":"Stack.1","children":[{"OTIO_SCHEMA":"Transition.1"}]}"#,
+        told: "S7 Transitions at .\n",
+    },
+    Refused {
+        text: r#"{"OTIO_SCHEMA":"SerializableCollection.1","children":[{"OTIO_SCHEMA":"Track.1","children":[{"OTIO_SCHEMA":"Transition.1"},{"OTIO_SCHEMA":"Transition.1"}]}]}"#,
+        told: "S7 Transitions at 0\n",
+    },
+    Refused {
+        text: r#"{"OTIO_SCHEMA":"Effect.1"}"#,
+        told: "S2 UnknownChild at .\n",
+    },
+];

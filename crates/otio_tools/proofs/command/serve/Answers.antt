@@ -1,0 +1,28 @@
+use Rattle.otio_tools.proofs.Ending.{carried, carried_still, carried_calm, never_usage}
+use Rattle.otio_tools.specs.Texts.{text_at}
+use Rattle.otio_tools.proofs.command.serve.Goals as goal
+
+pub returns-clause-ends : goal.returns-clause-ends
+returns-clause-ends g c = λ words asked.
+    let plan = c.plan-planned.ensures in
+    carried words c.args.request.command c.args.request.name.now
+    (text_at c.args.request.target) _ _ _ _ _ c.plan-planned.result
+    c.carry_out.result asked (plan.told (text_at c.args.request.target)) plan.kind plan.cause
+    c.carry_out.ensures
+
+pub returns-clause-still : goal.returns-clause-still
+returns-clause-still g c = λ words asked.
+    carried_still words c.args.request.command c.args.request.name.now
+    (text_at c.args.request.target) _ c.plan-planned.result
+    c.carry_out.result asked c.plan-planned.ensures.kind c.carry_out.ensures
+
+pub returns-clause-asked : goal.returns-clause-asked
+returns-clause-asked g c =
+    never_usage (text_at c.args.request.target) _ c.plan-planned.result c.carry_out.result
+    c.carry_out.ensures
+
+pub returns-clause-calm : goal.returns-clause-calm
+returns-clause-calm g c =
+    carried_calm (text_at c.args.request.target) _ _ _ c.plan-planned.result c.carry_out.result
+    c.plan-planned.ensures.cause
+    c.carry_out.ensures

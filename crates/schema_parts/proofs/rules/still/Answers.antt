@@ -1,0 +1,5 @@
+use Rattle.schema_parts.proofs.Stilled.{unstilled}
+use Rattle.schema_parts.proofs.rules.still.Goals as goal
+
+pub returns-in_default : goal.returns-in_default
+returns-in_default c = unstilled c.args.schema c.args.values.items c.in_default.not-Freeze

@@ -1,6 +1,0 @@
-use Rattle.std.proofs.Common.{◌≡◌, map}
-use Rattle.schema_rows.specs.Families.{stilled}
-use Rattle.schema_parts.proofs.rules.still.Given as goal
-
-abbrev pub invariant-loop-value : goal.invariant-loop-value
-invariant-loop-value l = l.made.items ≡ map (stilled l.schema) l.yielded

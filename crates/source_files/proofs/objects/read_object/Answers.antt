@@ -1,0 +1,28 @@
+use Rattle.std.proofs.Common.{inl}
+use Rattle.upgrade_law.proofs.Upgraded.{upgraded_numerals}
+use Rattle.otio_model.specs.declared.roots.Object.{Object}
+use Rattle.json_value.specs.declared.Json.{Json}
+use Rattle.source_files.specs.Formats.{IsJson, IsObject, IsCalmJson, RefusesJson, RefusesObject}
+use Rattle.source_files.proofs.Handing.{judged_further, fault_further}
+use Rattle.source_files.proofs.ObjectLemmas.{object_judged}
+use Rattle.source_files.proofs.objects.read_object.Goals as goal
+
+pub object_in-requires : goal.object_in-requires
+object_in-requires g c = record {
+  numerals =
+      upgraded_numerals c.in-Ok.ensures.text.0 c.in-Ok.value c.in-Ok.ensures.text.1;
+}
+
+pub returns-in-Ok-clause-told : goal.returns-in-Ok-clause-told
+returns-in-Ok-clause-told g c =
+    judged_further IsJson RefusesJson IsCalmJson IsObject RefusesObject _ _ c.in-Ok.value
+    c.object_in.result
+    (λ bytes is. object_judged c.in-Ok.value c.object_in.result bytes c.object_in.ensures.stands
+    c.object_in.ensures.few is)
+    c.in-Ok.ensures.told
+
+pub returns-in-Err-clause-told : goal.returns-in-Err-clause-told
+returns-in-Err-clause-told g c =
+    fault_further Json Object IsJson RefusesJson IsCalmJson IsObject RefusesObject _ _
+    c.in-Err.fault (λ bytes why r. inl r)
+    c.in-Err.ensures.told

@@ -1,0 +1,122 @@
+-- The formats of files: which bytes are what, why bytes are none, and bytes that show no fault yet.
+use Rattle.std.specs.Prelude.{◌≡◌, ◌⊎◌, ◌≤◌, ◌<◌, ◌^◌, ℕ, List, [], length}
+use Rattle.limits.specs.Limits.{most_bytes, most_items}
+use Rattle.json_value.specs.declared.Json.{Json}
+use Rattle.json_text.specs.Grammar.{IsLive, text_of}
+use Rattle.json_text.specs.Faults.{IsFault}
+use Rattle.json_text.specs.declared.faults.JsonFault.{JsonFault}
+use Rattle.text_lines.specs.Lines.{ended_lines}
+use Rattle.tick_time.specs.declared.rates.Rate.{Rate}
+use Rattle.edl_line.specs.Statements.{Statement}
+use Rattle.edl_list.specs.Formed.{IsWellFormed}
+use Rattle.edl_list.specs.declared.list.EventList.{EventList}
+use Rattle.edl_text.specs.Lists.{IsList, IsFault as IsListFault}
+use Rattle.edl_text.specs.Lines.{AreSound}
+use Rattle.edl_text.specs.declared.faults.EdlFault.{EdlFault}
+use Rattle.otio_model.specs.Counts.{count as count_below}
+use Rattle.otio_model.specs.declared.roots.Object.{Object, out-Object}
+use Rattle.otio_model.specs.declared.roots.Object.TheOpen.{Object-F}
+use Rattle.otio_model.specs.declared.roots.Collection.{Collection}
+use Rattle.otio_model.specs.declared.timelines.Timeline.{Timeline}
+use Rattle.schema_up.specs.Upgrades.{upgraded}
+use Rattle.schema_rows.specs.Counts.{count_of}
+use Rattle.schema_rows.specs.Stands.{Stands}
+use Rattle.schema_rows.specs.Faults.{IsFirstFault}
+use Rattle.schema_rows.specs.declared.faults.SchemaFault.{SchemaFault}
+use Rattle.fault_text.specs.Faults.{json_fault_text, list_fault_text, fault_text, not_timeline_text}
+use Rattle.source_files.specs.declared.kinds.Kind.{Kind}
+use Rattle.source_files.specs.declared.kinds.Kind.TheVariants as kinds
+use Rattle.source_files.specs.declared.kinds.Content.{Content}
+use Rattle.source_files.specs.declared.kinds.Content.TheVariants.{Value, Root, Film, Events}
+
+-- the bytes are a text of this value
+pub record IsJson (bytes : List ℕ) (value : Json) : Type 0 where
+  pub small : length bytes ≤ most_bytes
+  pub text : text_of bytes value
+
+-- The bytes are a text of an object of at most 100 000 items, by the tables of the schemas, with
+-- all old names and versions rewritten.
+pub record IsObject (bytes : List ℕ) (object : Object) : Type 0 where
+  pub value : Json
+  pub text : IsJson bytes value
+  pub stands : Stands (upgraded value) object
+  pub few : count_of object ≤ most_items
+
+-- the bytes are a text of such an object, and it is this timeline
+pub record IsTimeline (bytes : List ℕ) (timeline : Timeline) : Type 0 where
+  pub object : Object
+  pub is : IsObject bytes object
+  pub root : out-Object object ≡ Object-F.Timeline timeline
+
+-- the bytes are this, by the format of their file
+abbrev pub Holds : Kind → List ℕ → Content → Type 0
+Holds kinds.Json bytes (Value value) = IsJson bytes value
+Holds kinds.Object bytes (Root object) = IsObject bytes object
+Holds kinds.Timeline bytes (Film timeline) = IsTimeline bytes timeline
+Holds (kinds.List rate) bytes (Events list) = IsList rate bytes list
+Holds kind bytes content = ⊥
+
+-- the bytes are no JSON text, and their first fault is told so
+abbrev pub RefusesJson : List ℕ → List ℕ → Type 0
+RefusesJson bytes why = (fault : JsonFault) × IsFault fault bytes × (why ≡ json_fault_text fault)
+
+-- the value stands for no object, and its first fault is told so
+abbrev pub RefusesValue : Json → List ℕ → Type 0
+RefusesValue value why = (fault : SchemaFault) × IsFirstFault value fault × (why ≡ fault_text fault)
+
+-- the bytes are no object: they are no JSON text, or its value stands for none
+abbrev pub RefusesObject : List ℕ → List ℕ → Type 0
+RefusesObject bytes why =
+    RefusesJson bytes why ⊎ ((value : Json) × IsJson bytes value
+    × RefusesValue (upgraded value) why)
+
+-- the root is a collection or an item
+abbrev pub IsNoTimeline : Object-F Object Collection → Type 0
+IsNoTimeline (Object-F.Timeline timeline) = ⊥
+IsNoTimeline (Object-F.Collection collection) = Unit {0}
+IsNoTimeline (Object-F.Item item) = Unit {0}
+
+-- the bytes are no timeline: they are no object, or it is another one
+abbrev pub RefusesTimeline : List ℕ → List ℕ → Type 0
+RefusesTimeline bytes why =
+    RefusesObject bytes why
+    ⊎ ((object : Object) × IsObject bytes object × IsNoTimeline (out-Object object)
+    × (why ≡ not_timeline_text))
+
+-- the bytes are no list at that rate, and their first fault is told so
+abbrev pub RefusesList : Rate → List ℕ → List ℕ → Type 0
+RefusesList rate bytes why =
+    (fault : EdlFault) × IsListFault rate bytes fault × (why ≡ list_fault_text fault)
+
+-- why the bytes are nothing of their file's format, as it is told behind the name of the file
+abbrev pub Refuses : Kind → List ℕ → List ℕ → Type 0
+Refuses kinds.Json bytes why = RefusesJson bytes why
+Refuses kinds.Object bytes why = RefusesObject bytes why
+Refuses kinds.Timeline bytes why = RefusesTimeline bytes why
+Refuses (kinds.List rate) bytes why = RefusesList rate bytes why
+
+-- bytes from the front of a JSON text show no fault: some continuation of them is a text
+pub record IsCalmJson (taken : List ℕ) : Type 0 where
+  pub few : length taken ≤ most_bytes
+  pub live : IsLive taken
+
+-- bytes from the front of a list show no fault: no line that ended has one
+pub record IsCalmList (rate : Rate) (taken : List ℕ) : Type 0 where
+  pub few : length taken ≤ most_bytes
+  pub said : List Statement
+  pub sound : AreSound rate [] (ended_lines taken) said
+
+-- bytes from the front of such a file show no fault, however the file goes on
+abbrev pub IsCalm : Kind → List ℕ → Type 0
+IsCalm kinds.Json taken = IsCalmJson taken
+IsCalm kinds.Object taken = IsCalmJson taken
+IsCalm kinds.Timeline taken = IsCalmJson taken
+IsCalm (kinds.List rate) taken = IsCalmList rate taken
+
+-- what is known of what was read whatever the files tell
+abbrev pub Suits : Kind → Content → Type 0
+Suits kinds.Json (Value value) = Unit {0}
+Suits kinds.Object (Root object) = count_of object ≤ most_items
+Suits kinds.Timeline (Film timeline) = count_below timeline.tracks.children < 2 ^ 32
+Suits (kinds.List rate) (Events list) = IsWellFormed list
+Suits kind content = ⊥

@@ -1,0 +1,108 @@
+-- What reading files gives: what they hold, or why the first that isn't read is not.
+use Rattle.std.specs.Prelude.{◌≡◌, ℕ, List, [], ◌∷◌, ◌++◌, map, Some, None, Result, Ok, Err}
+use Rattle.std.specs.declared.option.Option.{Option}
+use Rattle.dev_io.specs.Known.{KnownFiles, LastFailure, NoFailure, OpenHeld, OpenMissing, ReadOf}
+use Rattle.dev_io.specs.Causes.{Rose}
+use Rattle.fault_text.specs.Reasons.{reason_text}
+use Rattle.source_files.specs.Order.{EachIs, FirstIsNot}
+use Rattle.source_files.specs.Formats.{Holds, Refuses, IsCalm}
+use Rattle.source_files.specs.declared.kinds.Kind.{Kind}
+use Rattle.source_files.specs.declared.kinds.Content.{Content}
+use Rattle.source_files.specs.declared.kinds.Source as code
+use Rattle.source_files.specs.declared.faults.Refusal.{Refusal}
+use Rattle.source_files.specs.declared.faults.Refusal.TheVariants.{Broken, Memory}
+use Rattle.source_files.specs.declared.faults.ReadFault.{ReadFault}
+use Rattle.source_files.specs.declared.faults.ReadFault.TheVariants.{Absent, Failed, Refused}
+use Rattle.source_files.specs.declared.faults.SourceFault.{SourceFault}
+
+-- what each name holds
+abbrev pub Held : Type 0
+Held = List ℕ → Option (List ℕ)
+
+-- a file that is read: its name and what it is read as
+pub record Source : Type 0 where
+  pub name : List ℕ
+  pub kind : Kind
+
+abbrev pub source_of : code.Source → Source
+source_of source = record { name = source.name.now; kind = source.kind }
+
+-- the file holds this
+pub record IsRead (held : Held) (source : Source) (content : Content) : Type 0 where
+  pub bytes : List ℕ
+  pub there : held source.name ≡ Some bytes
+  pub holds : Holds source.kind bytes content
+
+-- the files hold these, one after another
+abbrev pub AreRead : Held → List Source → List Content → Type 0
+AreRead held sources contents = EachIs (IsRead held) sources contents
+
+-- The last failed call was one of opening this file, or a read of it behind bytes that show no
+-- fault; opening a file that isn't there is kept without its name.
+abbrev pub IsFailureOf : Source → Option (List ℕ) → LastFailure → Type 0
+IsFailureOf source bytes NoFailure = ⊥
+IsFailureOf source bytes (OpenHeld name) = name ≡ source.name
+IsFailureOf source bytes OpenMissing = bytes ≡ None
+IsFailureOf source bytes (ReadOf name left) =
+    (name ≡ source.name)
+    × ((taken : List ℕ) × (bytes ≡ Some (taken ++ left)) × IsCalm source.kind taken)
+
+-- what is refused is refused for such a reason; want of memory is free
+abbrev pub IsRefused : (List ℕ → Type 0) → Refusal → Type 0
+IsRefused Why (Broken reason) = Why (reason_text reason)
+IsRefused Why Memory = Unit {0}
+
+-- this file has bytes that are refused so
+abbrev pub IsRefusedIn : Held → Source → List ℕ → Type 0
+IsRefusedIn held source why =
+    (bytes : List ℕ) × (held source.name ≡ Some bytes) × Refuses source.kind bytes why
+
+-- why the file isn't read
+abbrev pub IsUnread : Held → LastFailure → Source → ReadFault → Type 0
+IsUnread held last source Absent = held source.name ≡ None
+IsUnread held last source Failed = IsFailureOf source (held source.name) last
+IsUnread held last source (Refused refusal) = IsRefused (IsRefusedIn held source) refusal
+
+-- why the file isn't read, told under its name
+abbrev pub StopsAt : Held → LastFailure → Source → SourceFault → Type 0
+StopsAt held last source stop = (stop.name.now ≡ source.name) × IsUnread held last source stop.fault
+
+-- what reading a file gave; where it was read, that went to its end
+abbrev pub SourceReads : Source → Result Content ReadFault → Held → KnownFiles → Type 0
+SourceReads source (Ok content) held new =
+    IsRead held source content × (new.hand ≡ Some (source.name, []))
+SourceReads source (Err fault) held new = IsUnread held new.last source fault
+
+abbrev pub ReadsSource : Source → Result Content ReadFault → KnownFiles → KnownFiles → Type 0
+ReadsSource source result old new =
+    (new.held ≡ old.held) × SourceReads source result old.held new
+
+-- The last of the files was read to its end; that the others were is seen of what they hold.
+abbrev pub EndsWith : List Source → KnownFiles → Type 0
+EndsWith [] known = Unit {0}
+EndsWith (source ∷ []) known = known.hand ≡ Some (source.name, [])
+EndsWith (source ∷ next ∷ more) known = EndsWith (next ∷ more) known
+
+-- the files were read, one after another, and hold these
+abbrev pub HaveRead : List Source → List Content → KnownFiles → KnownFiles → Type 0
+HaveRead sources contents old new =
+    (new.held ≡ old.held) × AreRead old.held sources contents × EndsWith sources new
+
+-- the first file that isn't read, and why; each before it was
+abbrev pub HasStopped : List Source → SourceFault → KnownFiles → KnownFiles → Type 0
+HasStopped sources stop old new =
+    (new.held ≡ old.held) × FirstIsNot (IsRead old.held) (StopsAt old.held new.last) sources stop
+
+-- the count of the files rose where a call failed, and stands otherwise
+abbrev pub RaisedBy : ReadFault → ℕ → ℕ → Type 0
+RaisedBy Absent before now = now ≡ before
+RaisedBy Failed before now = Rose before now
+RaisedBy (Refused refusal) before now = now ≡ before
+
+abbrev pub Raised : {T : Type 0} → Result T ReadFault → ℕ → ℕ → Type 0
+Raised (Ok _) before now = now ≡ before
+Raised (Err fault) before now = RaisedBy fault before now
+
+abbrev pub RaisedAt : {T : Type 0} → Result T SourceFault → ℕ → ℕ → Type 0
+RaisedAt (Ok _) before now = now ≡ before
+RaisedAt (Err stop) before now = RaisedBy stop.fault before now

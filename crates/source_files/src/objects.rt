@@ -1,0 +1,106 @@
+// Objects of OpenTimelineIO in the file in hand.
+ghost use Rattle.std.specs.Prelude.{◌≡◌, ◌≢◌, ◌≤◌, ◌<◌, ◌^◌, ℕ, List, IfOk};
+ghost use Rattle.dev_io.specs.Calls.{Tells};
+ghost use Rattle.limits.specs.Limits.{most_items};
+ghost use Rattle.json_value.specs.declared.Json.{Json as JsonValue};
+ghost use Rattle.otio_model.specs.Counts.{count as count_below};
+ghost use Rattle.schema_up.specs.Upgrades.{upgraded};
+ghost use Rattle.schema_rows.specs.Counts.{count_of};
+ghost use Rattle.schema_rows.specs.Faults.{IsFirstFault};
+ghost use Rattle.schema_rows.specs.Numerals.{HasNumerals};
+ghost use Rattle.schema_rows.specs.declared.faults.SchemaFault.TheVariants.{Memory as WantOfMemory};
+ghost use Rattle.source_files.specs.Formats.{IsObject, IsTimeline, IsCalmJson, RefusesValue, RefusesObject, RefusesTimeline};
+ghost use Rattle.source_files.specs.Hand.{Judges, ReadsHand};
+ghost use Rattle.source_files.specs.Values.{StandsAs};
+ghost use Rattle.source_files.specs.Reading.{IsRefused, Raised};
+
+use crate::faults::{ReadFault, Refusal};
+use crate::json::read_json;
+use dev_io::Files;
+use fault_text::{not_timeline_reason, schema_reason};
+use json_value::Json;
+use otio_model::{Object, Timeline};
+use schema_rows::SchemaFault;
+use schema_tab::object_of;
+use schema_up::upgrade;
+use std::alloc::Global;
+
+/// The object in the file in hand, of at most 100 000 items; or the first fault of its text, or
+/// else of its value.
+pub fn read_object<F: Files>(alloc: Global, files: &mut F) -> Result<Object, ReadFault>
+    ensures told { Tells (ReadsHand IsObject RefusesObject IsCalmJson result) (F.known files.old)
+        (F.known files.new) }
+    ensures few { IfOk result (λ object. count_of object ≤ most_items) }
+    ensures cause { Raised result (F.faults files.old) (F.faults files.new) }
+{
+    match read_json(alloc, files) {
+        Ok(value) => object_in(alloc, value),
+        Err(fault) => Err(fault),
+    }
+}
+
+/// The timeline in the file in hand, of at most 100 000 items; or the first fault of its object, or
+/// else that it is no timeline.
+pub fn read_timeline<F: Files>(alloc: Global, files: &mut F) -> Result<Timeline, ReadFault>
+    ensures told { Tells (ReadsHand IsTimeline RefusesTimeline IsCalmJson result)
+        (F.known files.old) (F.known files.new) }
+    ensures few { IfOk result (λ timeline. count_below timeline.tracks.children < 2 ^ 32) }
+    ensures cause { Raised result (F.faults files.old) (F.faults files.new) }
+{
+    match read_object(alloc, files) {
+        Ok(object) => timeline_in(object),
+        Err(fault) => Err(fault),
+    }
+}
+
+// The timeline that an object is.
+fn timeline_in(object: Object) -> Result<Timeline, ReadFault>
+    requires few { count_of object ≤ most_items }
+    ensures judged { (bytes : List ℕ) → IsObject bytes object →
+        Judges IsTimeline RefusesTimeline bytes result }
+    ensures few { IfOk result (λ timeline. count_below timeline.tracks.children < 2 ^ 32) }
+    ensures calm { (n : ℕ) → Raised result n n }
+{
+    match object {
+        Object::Timeline(timeline) => Ok(timeline),
+        Object::Collection(_) => Err(ReadFault::Refused(Refusal::Broken(not_timeline_reason()))),
+        Object::Item(_) => Err(ReadFault::Refused(Refusal::Broken(not_timeline_reason()))),
+    }
+}
+
+// The object that a value stands for, old names and versions included.
+fn object_in(alloc: Global, value: Json) -> Result<Object, ReadFault>
+    requires numerals { HasNumerals (upgraded value) }
+    ensures stands { StandsAs (upgraded value) result }
+    ensures few { IfOk result (λ object. count_of object ≤ most_items) }
+    ensures calm { (n : ℕ) → Raised result n n }
+{
+    match upgrade(alloc, value) {
+        Ok(value) => current_object_in(alloc, value),
+        Err(_) => Err(ReadFault::Refused(Refusal::Memory)),
+    }
+}
+
+// The object that a value without old names and versions stands for.
+fn current_object_in(alloc: Global, value: Json) -> Result<Object, ReadFault>
+    requires numerals { HasNumerals value }
+    ensures stands { StandsAs value result }
+    ensures few { IfOk result (λ object. count_of object ≤ most_items) }
+    ensures calm { (n : ℕ) → Raised result n n }
+{
+    match object_of(alloc, &value) {
+        Ok(object) => Ok(object),
+        Err(fault) => Err(ReadFault::Refused(schema_refusal(fault))),
+    }
+}
+
+// How the first fault of a value is refused.
+fn schema_refusal(fault: SchemaFault) -> Refusal
+    ensures { (value : JsonValue) → (fault ≢ WantOfMemory → IsFirstFault value fault) →
+        IsRefused (RefusesValue value) result }
+{
+    match schema_reason(fault) {
+        Some(reason) => Refusal::Broken(reason),
+        None => Refusal::Memory,
+    }
+}

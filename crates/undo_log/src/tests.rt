@@ -1,0 +1,198 @@
+//! A change that is made, undone and done again, on a copy of a timeline.
+
+ghost use Rattle.undo_log.specs.States.{IsKept};
+
+use crate::{Log, UndoFault};
+use otio_model::{
+    Children, Effects, Gap, Item, ItemOf, Items, Markers, Patch, Place, Stack, StackOf, Timeline,
+    TrackOf, copy_timeline,
+};
+use sequences::{NamedValues, Text};
+use std::alloc::{AllocError, Global};
+use std::test::Fail;
+
+fn gap(alloc: Global, name: Text) -> Item {
+    ItemOf::Gap(Gap {
+        metadata: NamedValues::new(alloc),
+        name,
+        source_range: None,
+        effects: Effects::new(alloc),
+        markers: Markers::new(alloc),
+        enabled: true,
+        rest: NamedValues::new(alloc),
+    })
+}
+
+/// So many gaps.
+fn gaps(alloc: Global, count: usize) -> Result<Items, AllocError> {
+    let mut list = Vec::with_capacity(alloc, count)?;
+    'gaps: for _ in 0..count {
+        let name = Text::of(alloc, "g")?;
+        list.push(gap(alloc, name))?;
+    }
+    Ok(Items::of(list))
+}
+
+fn track(alloc: Global, name: Text, kind: Text, children: Children) -> Item {
+    ItemOf::Track(TrackOf {
+        metadata: NamedValues::new(alloc),
+        name,
+        source_range: None,
+        effects: Effects::new(alloc),
+        markers: Markers::new(alloc),
+        enabled: true,
+        children,
+        kind,
+        rest: NamedValues::new(alloc),
+    })
+}
+
+fn stack(alloc: Global, name: Text, children: Children) -> Stack {
+    StackOf {
+        metadata: NamedValues::new(alloc),
+        name,
+        source_range: None,
+        effects: Effects::new(alloc),
+        markers: Markers::new(alloc),
+        enabled: true,
+        children,
+        rest: NamedValues::new(alloc),
+    }
+}
+
+/// The children that are one item.
+fn alone(alloc: Global, item: Item) -> Result<Children, AllocError> {
+    let mut items = Items::new(alloc);
+    items.push(item)?;
+    Children::of(alloc, items)
+}
+
+fn timeline_of(alloc: Global, name: Text, tracks: Stack) -> Timeline {
+    let metadata = NamedValues::new(alloc);
+    Timeline::of(alloc, metadata, name, None, tracks, NamedValues::new(alloc))
+}
+
+/// A timeline of one track of one gap.
+fn timeline(alloc: Global) -> Result<Timeline, AllocError> {
+    let name = Text::of(alloc, "X")?;
+    let tracks_name = Text::of(alloc, "tracks")?;
+    let kind = Text::of(alloc, "Video")?;
+    let track_name = Text::of(alloc, "V1")?;
+    let children = Children::of(alloc, gaps(alloc, 1)?)?;
+    let tracks = alone(alloc, track(alloc, track_name, kind, children))?;
+    Ok(timeline_of(alloc, name, stack(alloc, tracks_name, tracks)))
+}
+
+/// A copy of a timeline, once that is made.
+fn copied(alloc: Global, made: Result<Timeline, AllocError>) -> Result<Timeline, AllocError> {
+    let timeline = made?;
+    copy_timeline(alloc, &timeline)
+}
+
+/// A patch that puts three gaps in place of the first one.
+fn patch(alloc: Global) -> Result<Patch, AllocError> {
+    let mut place = Place::new(alloc);
+    place.push(0)?;
+    let put = gaps(alloc, 3)?;
+    Ok(Patch {
+        place,
+        at: 0,
+        count: 1,
+        put,
+    })
+}
+
+/// How many children the track has.
+fn children(timeline: &Timeline) -> usize {
+    match timeline.tracks.children.item(0) {
+        Some(ItemOf::Track(track)) => track.children.len(),
+        _ => 0,
+    }
+}
+
+/// Makes the change where it fits; whether it was made.
+fn commit(log: &mut Log, timeline: &mut Timeline, patch: Patch) -> bool
+    requires kept { IsKept log.old timeline.old }
+    ensures kept { IsKept log.new timeline.new }
+{
+    if !timeline.fits(&patch) {
+        return false;
+    }
+    match log.room_commit(timeline, &patch) {
+        Ok(()) => {
+            log.commit(timeline, patch);
+            true
+        }
+        Err(_) => false,
+    }
+}
+
+/// Why nothing is undone, else how many children the track has then.
+fn undo(log: &mut Log, timeline: &mut Timeline) -> Result<usize, Option<UndoFault>>
+    requires kept { IsKept log.old timeline.old }
+    ensures kept { IsKept log.new timeline.new }
+{
+    match log.room_undo(timeline) {
+        Ok(()) => match log.undo(timeline) {
+            Ok(()) => Ok(children(timeline)),
+            Err(fault) => Err(Some(fault)),
+        },
+        Err(_) => Err(None),
+    }
+}
+
+/// Why nothing is done again, else how many children the track has then.
+fn redo(log: &mut Log, timeline: &mut Timeline) -> Result<usize, Option<UndoFault>>
+    requires kept { IsKept log.old timeline.old }
+    ensures kept { IsKept log.new timeline.new }
+{
+    match log.room_redo(timeline) {
+        Ok(()) => match log.redo(timeline) {
+            Ok(()) => Ok(children(timeline)),
+            Err(fault) => Err(Some(fault)),
+        },
+        Err(_) => Err(None),
+    }
+}
+
+/// What comes of a change, of undoing it twice, and of doing it again twice.
+fn steps(
+    log: &mut Log,
+    timeline: &mut Timeline,
+    patch: Patch,
+) -> [Result<usize, Option<UndoFault>>; 4]
+    requires kept { IsKept log.old timeline.old }
+{
+    let _ = commit(log, timeline, patch);
+    let undone = undo(log, timeline);
+    let nothing_done = undo(log, timeline);
+    let redone = redo(log, timeline);
+    let nothing_undone = redo(log, timeline);
+    [undone, nothing_done, redone, nothing_undone]
+}
+
+/// The same of a new log, once the timeline is made.
+fn outcome(
+    alloc: Global,
+    made: Result<Timeline, AllocError>,
+    patch: Patch,
+) -> Result<[Result<usize, Option<UndoFault>>; 4], AllocError> {
+    let mut timeline = made?;
+    let mut log = Log::new(alloc);
+    Ok(steps(&mut log, &mut timeline, patch))
+}
+
+#[test]
+fn a_change_is_undone_and_done_again(rt: HostRuntime) -> Result<(), Fail> {
+    let alloc = rt.alloc();
+    let [undone, nothing_done, redone, nothing_undone] = outcome(
+        alloc,
+        timeline(alloc),
+        patch(alloc)?,
+    )?;
+    assert_eq!(rt; undone, Ok(1));
+    assert_eq!(rt; nothing_done, Err(Some(UndoFault::NothingDone)));
+    assert_eq!(rt; redone, Ok(3));
+    assert_eq!(rt; nothing_undone, Err(Some(UndoFault::NothingUndone)));
+    Ok(())
+}
