@@ -1,11 +1,12 @@
 #!/usr/bin/env python3
 """Measures `otio frames` on generated timelines.
 
-    bench/frames.py [--runs R] [--clips N,N,..] [--frames N,N,..]
+    bench/frames.py [--runs R] [--clips N,N,..] [--frames N,N,..] [--short]
 
-Three tables: how the time of a frame grows with the clips of a track (250, 1000 and 4000 clips of 24 frames; the last 1000 frames, which stand
+Four tables: how the time of a frame grows with the clips of a track (250, 1000 and 4000 clips of 24 frames; the last 1000 frames, which stand
 behind all others), how it grows with the frames that are asked for (1000, 4000 and 16 000 from the first on, over 1000 clips), and all
-frames of these tracks and of a timeline of two tracks with a dissolve at each cut and nested stacks, beside `otio convert` of the same file.
+frames of these tracks and of a timeline of two tracks with a dissolve at each cut and nested stacks, beside `otio convert` of the same file;
+and all frames of tracks of 10 000, 30 000 and 99 000 clips of one frame, and of tracks with a dissolve at each cut (--short: this one alone).
 
 Output goes to /dev/null. Times are wall times, medians of R runs (3). The time of a frame is what more frames take over a single one, so reading
 the file and judging the timeline aren't in it. The program is OTIO of the environment, or the one that `./otio` builds.
@@ -72,6 +73,16 @@ def mixed(shots):
     return timeline(tracks)
 
 
+def short(clips, dissolves):
+    """A track of clips of one frame, with a dissolve of no length on its left side and one frame on its right at each cut, where that is asked for."""
+    mix = f'{{"OTIO_SCHEMA":"Transition.1","transition_type":"SMPTE_Dissolve","in_offset":{rational(0)},"out_offset":{rational(1)}}}'
+    items = []
+    for index in range(clips):
+        items += [mix] if dissolves and index else []
+        items.append(f'{{"OTIO_SCHEMA":"Clip.2","name":"s{index}","source_range":{time_range(index, 1)}}}')
+    return timeline([track(items)])
+
+
 def write(folder, text):
     with open(os.path.join(folder, 'timeline.otio'), 'w') as f:
         f.write(text)
@@ -126,6 +137,18 @@ def in_all(folder, otio, numbers, runs):
         print(f'| {name} | {items} | {len(text) / 1e6:.1f} | {written[0] / 1e6:.1f} | {wall:.1f} | {shown(peak)} | {ratio(wall, convert)} |', flush=True)
 
 
+def of_short(folder, otio, runs):
+    print('\nAll frames of a track of clips of one frame:\n')
+    print('| clips | dissolves | ms | ms of one frame | us a frame | to 10000 clips |\n|---|---|---|---|---|---|')
+    for dissolves, many in ((False, 99000), (True, 49900)):
+        base = None
+        for clips in (10000, 30000, many):
+            write(folder, short(clips, dissolves))
+            one, whole, cost = frame_cost(otio, folder, FIRST, clips, runs)
+            base = base or cost
+            print(f'| {clips} | {clips - 1 if dissolves else 0} | {whole:.1f} | {one:.1f} | {cost:.2f} | {ratio(cost, base)} |', flush=True)
+
+
 def numbers(text):
     return [int(part) for part in text.split(',')]
 
@@ -135,13 +158,16 @@ def main():
     words.add_argument('--runs', type=int, default=3)
     words.add_argument('--clips', type=numbers, default=[250, 1000, 4000], help='clips of a track, at least 42 and at most 4166')
     words.add_argument('--frames', type=numbers, default=[1000, 4000, 16000], help='frames that are asked for, at least 2')
+    words.add_argument('--short', action='store_true', help='the table of clips of one frame alone')
     asked = words.parse_args()
     otio = os.path.abspath(os.environ.get('OTIO', PROGRAM))
     require(otio)
     with tempfile.TemporaryDirectory() as folder:
-        by_clips(folder, otio, asked.clips, asked.runs)
-        by_frames(folder, otio, asked.clips[len(asked.clips) // 2], asked.frames, asked.runs)
-        in_all(folder, otio, asked.clips, asked.runs)
+        if not asked.short:
+            by_clips(folder, otio, asked.clips, asked.runs)
+            by_frames(folder, otio, asked.clips[len(asked.clips) // 2], asked.frames, asked.runs)
+            in_all(folder, otio, asked.clips, asked.runs)
+        of_short(folder, otio, asked.runs)
 
 
 if __name__ == '__main__':
