@@ -3,7 +3,7 @@ use Rattle.std.proofs.Common.{◌≡◌, ℕ, Bool, List, [], ◌∷◌, Option,
 use Rattle.command_words.specs.declared.requests.Request.{Request}
 use Rattle.std.specs.Option.{option_map, option_and_then}
 use Rattle.tick_time.specs.declared.rates.Rate.{Rate}
-use Rattle.command_words.specs.Parts.{Part, IsPart, AreParts, spelled, spell}
+use Rattle.command_words.specs.Parts.{CommandPart, IsPart, AreParts, spelled, spell}
 use Rattle.command_words.specs.Gathered.{Given, nothing_given, add, add_all, given_by}
 use Rattle.command_words.specs.Asked.{IsRate, IsInput, IsDefault, IsOutput, IsAskedOf, IsConversion, IsValue, IsCount, AreFrames, IsFrameList, IsAskedBy, Ask, AskNothing}
 use Rattle.command_words.specs.declared.conversions.Form.{Form}
@@ -16,7 +16,7 @@ use Rattle.command_words.specs.declared.names.Verb.{Verb}
 use Rattle.command_words.specs.declared.names.Verb.TheVariants as verbs
 use Rattle.record_points.specs.declared.points.RecordPoint.{RecordPoint}
 use Rattle.record_points.specs.Words.{IsWholeNumber, IsPoint}
-use Rattle.record_points.proofs.Single.{number_once, point_once}
+use Rattle.record_points.proofs.OnePoint.{number_once, point_once}
 use Rattle.command_words.specs.Names.{word_of}
 use Rattle.command_words.proofs.Naming.{verb_once}
 use Rattle.command_words.proofs.Spelling.{heads, parts_once}
@@ -24,22 +24,22 @@ use Rattle.command_words.proofs.SameRates.{rate_once}
 
 -- where no part begins the words, they spell none
 pub no_parts : (verb : Verb) (word : List ℕ) (behind : List (List ℕ))
-    → ((p : Part) (ws : List (List ℕ)) → IsPart verb p → word ∷ behind ≡ spelled p ws → ⊥)
-    → (parts : List Part) → AreParts verb parts → word ∷ behind ≡ spell parts → ⊥
+    → ((p : CommandPart) (ws : List (List ℕ)) → IsPart verb p → word ∷ behind ≡ spelled p ws → ⊥)
+    → (parts : List CommandPart) → AreParts verb parts → word ∷ behind ≡ spell parts → ⊥
 no_parts verb word behind h [] a e = cc
 no_parts verb word behind h (p ∷ ps) a e = h p (spell ps) a.0 e
 
 -- the parts begin with this one, and the rest spells the others
-pub record Follows (verb : Verb) (found : Part) (rest : List (List ℕ))
-    (parts : List Part) : Type 0 where
-  pub more : List Part
+pub record Follows (verb : Verb) (found : CommandPart) (rest : List (List ℕ))
+    (parts : List CommandPart) : Type 0 where
+  pub more : List CommandPart
   pub are : parts ≡ found ∷ more
   pub are_parts : AreParts verb more
   pub spelled_by : rest ≡ spell more
 
-pub follow : (verb : Verb) (found : Part) (word : List ℕ) (behind rest : List (List ℕ))
+pub follow : (verb : Verb) (found : CommandPart) (word : List ℕ) (behind rest : List (List ℕ))
     → IsPart verb found → word ∷ behind ≡ spelled found rest
-    → (parts : List Part) → AreParts verb parts → word ∷ behind ≡ spell parts
+    → (parts : List CommandPart) → AreParts verb parts → word ∷ behind ≡ spell parts
     → Follows verb found rest parts
 follow verb found word behind rest is e [] a f = absurd (let g = f in cc)
 follow verb found word behind rest is e (p ∷ ps) a f =
@@ -47,16 +47,16 @@ follow verb found word behind rest is e (p ∷ ps) a f =
     record { more = ps; are = ap (λ q. q ∷ ps) (sym h.0); are_parts = a.1; spelled_by = h.1 }
 
 -- what is given with the first part, and then with the others
-pub add_first : (g h : Given) (p : Part) (ps : List Part) → add g p ≡ Some h
+pub add_first : (g h : Given) (p : CommandPart) (ps : List CommandPart) → add g p ≡ Some h
     → add_all g (p ∷ ps) ≡ add_all h ps
 add_first g h p ps e = ap (option_and_then (λ k. add_all k ps)) e
 
-pub add_twice : (g : Given) (p : Part) (ps : List Part) → add g p ≡ None → add_all g (p ∷ ps) ≡ None
+pub add_twice : (g : Given) (p : CommandPart) (ps : List CommandPart) → add g p ≡ None → add_all g (p ∷ ps) ≡ None
 add_twice g p ps e = ap (option_and_then (λ k. add_all k ps)) e
 
 -- where the first part is given twice, nothing is gathered
-pub twice : (verb : Verb) (found : Part) (rest : List (List ℕ)) (g : Given) → add g found ≡ None
-    → (parts : List Part) → Follows verb found rest parts → (given : Given)
+pub twice : (verb : Verb) (found : CommandPart) (rest : List (List ℕ)) (g : Given) → add g found ≡ None
+    → (parts : List CommandPart) → Follows verb found rest parts → (given : Given)
     → add_all g parts ≡ Some given → ⊥
 twice verb found rest g none parts f given e =
     let k = ap (add_all g) f.are ∙ add_twice g found f.more none in
@@ -65,12 +65,12 @@ twice verb found rest g none parts f given e =
 -- what is gathered of some words
 abbrev pub Gathers : Verb → List (List ℕ) → Given → Option Line → Type 0
 Gathers verb words g result = MatchOption result
-    ((parts : List Part) (given : Given) → AreParts verb parts → words ≡ spell parts
+    ((parts : List CommandPart) (given : Given) → AreParts verb parts → words ≡ spell parts
     → add_all g parts ≡ Some given → ⊥)
-    (λ all. (parts : List Part) × AreParts verb parts × (words ≡ spell parts)
+    (λ all. (parts : List CommandPart) × AreParts verb parts × (words ≡ spell parts)
     × (add_all g parts ≡ Some (given_by all)))
 
-pub gathers_more : (verb : Verb) (found : Part) (word : List ℕ) (behind rest : List (List ℕ))
+pub gathers_more : (verb : Verb) (found : CommandPart) (word : List ℕ) (behind rest : List (List ℕ))
     (g h : Given) (result : Option Line) → IsPart verb found → word ∷ behind ≡ spelled found rest
     → add g found ≡ Some h → Gathers verb rest h result → Gathers verb (word ∷ behind) g result
 gathers_more verb found word behind rest g h None is e a m = λ parts given are f all.
@@ -161,7 +161,7 @@ asked_with command called name target input output rate given file reads writes 
     )
 
 -- words ask for what their parts ask for
-pub asks : (verb : Verb) (words rest : List (List ℕ)) (given : Given) (parts : List Part)
+pub asks : (verb : Verb) (words rest : List (List ℕ)) (given : Given) (parts : List CommandPart)
     (command : Command) (name : List ℕ) (target : Option (List ℕ)) → words ≡ word_of verb ∷ rest
     → AreParts verb parts → rest ≡ spell parts → add_all nothing_given parts ≡ Some given
     → IsAskedBy verb command name target given → Ask words command name target
@@ -176,8 +176,8 @@ asks verb words rest given parts command name target w a s e is = record {
 }
 
 -- words that begin with the word of a command ask for that command, by one list of parts
-same_line : (words rest : List (List ℕ)) (verb : Verb) (parts : List Part) (g : Given)
-    (other : Verb) (found : List Part) (given : Given) → other ≡ verb
+same_line : (words rest : List (List ℕ)) (verb : Verb) (parts : List CommandPart) (g : Given)
+    (other : Verb) (found : List CommandPart) (given : Given) → other ≡ verb
     → words ≡ word_of verb ∷ rest → AreParts verb parts → rest ≡ spell parts
     → add_all nothing_given parts ≡ Some g
     → words ≡ word_of other ∷ spell found → AreParts other found
@@ -203,7 +203,7 @@ AsksOf verb given result = MatchOption result
     (λ request. IsAskedBy verb request.command request.name.now (target_of request) given)
 
 -- the request of a line is what the words ask for
-pub request_asks : (verb : Verb) (words rest : List (List ℕ)) (parts : List Part) (g : Given)
+pub request_asks : (verb : Verb) (words rest : List (List ℕ)) (parts : List CommandPart) (g : Given)
     (result : Option Request) → words ≡ word_of verb ∷ rest → AreParts verb parts
     → rest ≡ spell parts → add_all nothing_given parts ≡ Some g → AsksOf verb g result
     → MatchOption result (AskNothing words)

@@ -1,18 +1,14 @@
 -- Rates of words.
-use Rattle.std.proofs.Common.{◌≡◌, ◌≤ℤ◌, ℕ, ℤ, pos, List, Option, Some, None, sym, ◌∙◌, arith}
+use Rattle.std.proofs.Common.{◌≡◌, ℕ, ℤ, List, Option, Some, None, sym, ◌∙◌}
 use Rattle.std.specs.Prelude.{Bool}
-use Rattle.std.proofs.lemmas.Int.{ints}
 use Rattle.tick_time.specs.Numerals.{Numeral, IsSame, fraction}
 use Rattle.tick_time.specs.Decimals.{decimal_value}
 use Rattle.tick_time.specs.Rates.{GivesRate}
 use Rattle.tick_time.specs.declared.rates.Rate.{Rate}
-use Rattle.tick_time.proofs.SameValues.{same_rate}
-use Rattle.tick_time.proofs.Once.{gives_same, gives_once, same_positive}
-use Rattle.tick_time.proofs.Spelled.{power_some}
+use Rattle.tick_time.proofs.SameValues.{same_rate, at_least_one}
+use Rattle.tick_time.proofs.OneValue.{gives_same, gives_once, same_positive}
+use Rattle.tick_time.proofs.SpelledRates.{power_some}
 use Rattle.command_words.specs.Asked.{IsRate, IsRateWord}
-
-at_least_one : (r : Rate) → pos 1 ≤ℤ r.num
-at_least_one r = omega (arith, ints, r.positive, r.at_least_one)
 
 -- a word is at most one rate
 word_once : (word : List ℕ) (r s : Rate) → IsRateWord word r → IsRateWord word s → r ≡ s

@@ -1,13 +1,13 @@
 -- What words spell.
 use Rattle.std.proofs.Common.{◌≡◌, ℕ, List, [], ◌∷◌, refl, sym, subst}
 use Rattle.command_words.specs.Names.{IsNamed}
-use Rattle.command_words.specs.Parts.{Part, Valued, Flagged, File, IsPart, AreParts, spelled, spell}
+use Rattle.command_words.specs.Parts.{CommandPart, Valued, Flagged, File, IsPart, AreParts, spelled, spell}
 use Rattle.command_words.specs.declared.names.Verb.{Verb}
 use Rattle.command_words.specs.declared.names.Named.TheVariants as named
 use Rattle.command_words.proofs.Naming.{option_no_name, named_once}
 
 -- words begin with at most one part
-pub heads : (verb : Verb) (p q : Part) (ws vs : List (List ℕ)) → IsPart verb p → IsPart verb q
+pub heads : (verb : Verb) (p q : CommandPart) (ws vs : List (List ℕ)) → IsPart verb p → IsPart verb q
     → spelled p ws ≡ spelled q vs → (p ≡ q) × (ws ≡ vs)
 heads verb (Valued c n v) (Valued d m u) ws vs p q e =
     let same : n ≡ m = cc in
@@ -39,13 +39,13 @@ heads verb (File n) (Flagged g m) ws vs p q e = let same : m ≡ n =
     (subst (IsNamed verb (named.Flagged g)) same q) p)
 heads verb (File n) (File m) ws vs p q e = (cc, cc)
 
-part_some : (p : Part) (ws : List (List ℕ)) → [] ≡ spelled p ws → ⊥
+part_some : (p : CommandPart) (ws : List (List ℕ)) → [] ≡ spelled p ws → ⊥
 part_some (Valued c n v) ws e = cc
 part_some (Flagged f n) ws e = cc
 part_some (File n) ws e = cc
 
 -- words spell at most one list of parts
-pub parts_once : (verb : Verb) (ps qs : List Part) → AreParts verb ps → AreParts verb qs
+pub parts_once : (verb : Verb) (ps qs : List CommandPart) → AreParts verb ps → AreParts verb qs
     → spell ps ≡ spell qs → ps ≡ qs
 parts_once verb [] [] a b e = refl
 parts_once verb [] (q ∷ qs) a b e = absurd (part_some q (spell qs) e)

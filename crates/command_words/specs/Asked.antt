@@ -5,7 +5,7 @@ use Rattle.tick_time.specs.Rates.{GivesRate}
 use Rattle.tick_time.specs.declared.rates.Rate.{Rate}
 use Rattle.record_points.specs.Words.{IsWholeNumber, IsPoint}
 use Rattle.command_words.specs.Names.{IsListName, word_of}
-use Rattle.command_words.specs.Parts.{Part, AreParts, spell}
+use Rattle.command_words.specs.Parts.{CommandPart, AreParts, spell}
 use Rattle.command_words.specs.Gathered.{Given, nothing_given, add_all}
 use Rattle.command_words.specs.declared.conversions.Form.{Form}
 use Rattle.command_words.specs.declared.conversions.Form.TheVariants as form
@@ -115,7 +115,7 @@ IsAskedBy verbs.Frames command name target given = IsFrameList command name targ
 pub record Ask (words : List (List ℕ)) (command : Command) (name : List ℕ)
     (target : Option (List ℕ)) : Type 0 where
   pub verb : Verb
-  pub parts : List Part
+  pub parts : List CommandPart
   pub are_parts : AreParts verb parts
   pub words_are : words ≡ word_of verb ∷ spell parts
   pub given : Given

@@ -2,7 +2,7 @@
 -- there, and the file, each at most once.
 use Rattle.std.specs.Prelude.{ℕ, Bool, true, false, List, [], ◌∷◌, Option, Some, None}
 use Rattle.std.specs.Option.{option_map, option_and_then}
-use Rattle.command_words.specs.Parts.{Part, Valued, Flagged, File}
+use Rattle.command_words.specs.Parts.{CommandPart, Valued, Flagged, File}
 use Rattle.command_words.specs.declared.names.Choice.TheVariants.{From, To, Rate, Target, Child, Start, Count}
 use Rattle.command_words.specs.declared.names.Flag.TheVariants.{Drop}
 use Rattle.command_words.specs.declared.lines.Line.{Line}
@@ -42,7 +42,7 @@ once_flag false given = Some given
 once_flag true given = None
 
 -- what is given with one more part
-abbrev pub add : Given → Part → Option Given
+abbrev pub add : Given → CommandPart → Option Given
 add g (Valued From name value) = once g.from (record g { from = Some value })
 add g (Valued To name value) = once g.to (record g { to = Some value })
 add g (Valued Rate name value) = once g.rate (record g { rate = Some value })
@@ -54,7 +54,7 @@ add g (Flagged Drop name) = once_flag g.drop (record g { drop = true })
 add g (File name) = once g.file (record g { file = Some name })
 
 -- what is given with more parts, each in its turn
-abbrev pub add_all : Given → List Part → Option Given
+abbrev pub add_all : Given → List CommandPart → Option Given
 add_all g [] = Some g
 add_all g (p ∷ ps) = option_and_then (λ h. add_all h ps) (add g p)
 

@@ -1,6 +1,6 @@
 // What the parts of a command line give together.
 ghost use Rattle.std.specs.Prelude.{◌≡◌, ℕ, List, Some, None, map, string_bytes, MatchOption};
-ghost use Rattle.command_words.specs.Parts.{Part, AreParts, spell, Valued as ValuedPart, Flagged as FlaggedPart};
+ghost use Rattle.command_words.specs.Parts.{CommandPart, AreParts, spell, Valued as ValuedPart, Flagged as FlaggedPart};
 ghost use Rattle.command_words.specs.Gathered.{Given, add, add_all, given_by, nothing_given};
 ghost use Rattle.command_words.specs.Found.{part_found};
 
@@ -116,9 +116,9 @@ fn with_value<'a>(line: Line<'a>, choice: Choice, value: &'a str) -> Option<Line
 /// no parts, or something is given twice.
 pub fn gather<'a>(verb: Verb, words: &'a [String], line: Line<'a>) -> Option<Line<'a>>
     ensures { let spelled = map (λ w. string_bytes w) words.now in MatchOption result
-        ((parts : List Part) (given : Given) → AreParts verb parts → spelled ≡ spell parts →
+        ((parts : List CommandPart) (given : Given) → AreParts verb parts → spelled ≡ spell parts →
         add_all (given_by line.entry) parts ≡ Some given → ⊥)
-        (λ all. (parts : List Part) × AreParts verb parts × (spelled ≡ spell parts) ×
+        (λ all. (parts : List CommandPart) × AreParts verb parts × (spelled ≡ spell parts) ×
         (add_all (given_by line.entry) parts ≡ Some (given_by all))) }
 {
     let Some((word, rest)) = first_word(words) else {

@@ -1,8 +1,8 @@
 // The parts of a command line: options with their values, flags and the file.
 ghost use Rattle.std.specs.Prelude.{◌≡◌, ◌<◌, ◌≤◌, [], ◌∷◌, ℕ, List, length, map, string_bytes, IfSome, MatchOption};
 ghost use Rattle.command_words.specs.Names.{IsNamed};
-ghost use Rattle.command_words.specs.Parts.{Part, IsPart, spelled};
-ghost use Rattle.command_words.specs.Found.{part_found};
+ghost use Rattle.command_words.specs.Parts.{CommandPart, IsPart, spelled};
+ghost use Rattle.command_words.specs.Found.{part_found, HasNoPart, BeginsWith};
 
 use crate::names::{Choice, Flag, Named, Verb, is_name, option_of};
 
@@ -38,7 +38,7 @@ pub fn first_part<'a>(
 ) -> Option<(Found<'a>, &'a [String])>
     ensures fewer { IfSome result (λ found. length found.1.now ≤ length rest.now) }
     ensures part { let behind = map (λ w. string_bytes w) rest.now in MatchOption result
-        ((part : Part) (words : List (List ℕ)) → IsPart verb part →
+        ((part : CommandPart) (words : List (List ℕ)) → IsPart verb part →
         word.now ∷ behind ≡ spelled part words → ⊥)
         (λ found. IsPart verb (part_found found.0) ×
         (word.now ∷ behind ≡ spelled (part_found found.0)
@@ -67,11 +67,9 @@ fn valued_part<'a>(
     requires { IsNamed verb (Named.Valued choice) word.now }
     ensures fewer { IfSome result (λ found. length found.1.now ≤ length rest.now) }
     ensures part { let behind = map (λ w. string_bytes w) rest.now in MatchOption result
-        ((part : Part) (words : List (List ℕ)) → IsPart verb part →
-        word.now ∷ behind ≡ spelled part words → ⊥)
-        (λ found. IsPart verb (part_found found.0) ×
-        (word.now ∷ behind ≡ spelled (part_found found.0)
-        (map (λ w. string_bytes w) found.1.now))) }
+        (HasNoPart verb word.now behind)
+        (λ found. BeginsWith verb word.now behind found.0
+        (map (λ w. string_bytes w) found.1.now)) }
 {
     let Some((value, behind)) = first_word(rest) else {
         return None;

@@ -1,5 +1,5 @@
 -- 24 frames a second are a rate at which items are worked out, and what they show.
-use Rattle.std.proofs.Common.{◌≡◌, refl, ap, ◌∙◌, ℕ, ◌*◌, ◌%◌, ℤ, pos, ◌-ℤ◌, ◌≤ℤ◌, true, arith, rules}
+use Rattle.std.proofs.Common.{◌≡◌, refl, ℕ, pos, ◌≤ℤ◌, true, arith, rules}
 use Rattle.std.specs.Prelude.{nat_le}
 use Rattle.std.specs.Bool.{IsTrue}
 use Rattle.std.proofs.lemmas.Int.{ints}

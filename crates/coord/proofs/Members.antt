@@ -1,15 +1,11 @@
 -- Members of a list from an index on, and how many items children have.
-use Rattle.std.proofs.Common.{◌≡◌, ℕ, zero, suc, ◌+◌, ◌<◌, ◌≤◌, ◌^◌, max, List, [], ◌∷◌, Option, Some, None, refl, ap, sym, ◌∙◌, length, drop, map, slice_get, add-one, arith}
+use Rattle.std.proofs.Common.{◌≡◌, ℕ, zero, suc, ◌+◌, ◌<◌, ◌≤◌, ◌^◌, List, [], ◌∷◌, Some, refl, ap, length, drop, slice_get, add-one, arith}
 use Rattle.otio_model.specs.declared.compositions.ItemOf.{ItemOf}
-use Rattle.otio_model.specs.declared.compositions.ItemOf.TheVariants.{Clip, Gap, Transition, Stack, Track}
 use Rattle.otio_model.specs.declared.compositions.Listed.{Listed}
-use Rattle.otio_model.specs.declared.compositions.Listed.TheViews.{roll-out-Listed}
 use Rattle.otio_model.specs.Trees.{items_of, listed}
-use Rattle.otio_model.specs.Lengths.{added, lengths, length_of, or_zero}
-use Rattle.otio_model.specs.Sums.{greatest, capped}
-use Rattle.otio_model.specs.Counts.{count, count_of, counts_by}
+use Rattle.otio_model.specs.Counts.{count, count_of}
 use Rattle.otio_model.specs.Falls.{child_counts, count-listed}
-use Rattle.coord.proofs.Seen.{lengths-listed}
+use Rattle.otio_model.proofs.LengthLimits.{few_enough}
 
 next_in : {A : Type 0} (xs : List A) (i : ℕ) (x : A) → slice_get xs i ≡ Some x → drop i xs ≡ x ∷ drop (suc i) xs
 next_in [] zero x e = absurd (cc e)
@@ -39,17 +35,9 @@ none_left (x ∷ xs) (suc i) h = none_left xs i (omega (arith, h))
 pub child_few : (l : Listed) (i : ℕ) (x : ItemOf Listed) → slice_get (items_of l) i ≡ Some x → count l < 2 ^ 32 → count_of x < 2 ^ 32
 child_few l i x e h = let k = child_counts l i x e in omega (arith, k, h)
 
-items_count : (xs : List (ItemOf Listed)) → length xs ≤ counts_by count xs
-items_count [] = omega arith
-items_count ((Clip c) ∷ xs) = omega (arith, items_count xs)
-items_count ((Gap g) ∷ xs) = omega (arith, items_count xs)
-items_count ((Transition t) ∷ xs) = omega (arith, items_count xs)
-items_count ((Stack s) ∷ xs) = omega (arith, items_count xs)
-items_count ((Track t) ∷ xs) = omega (arith, items_count xs)
-
 -- and so has its index
 pub index_few : (l : Listed) (i : ℕ) → i < length (items_of l) → count l < 2 ^ 32 → i < 2 ^ 32
-index_few l i h k = omega (arith, items_count (items_of l), count-listed (items_of l), ap count (roll-out-Listed l), h, k)
+index_few l i h k = omega (arith, few_enough l k, h)
 
 -- one item alone
 pub one_counts : (x : ItemOf Listed) → count (listed (x ∷ [])) ≡ count_of x

@@ -3,7 +3,7 @@ use Rattle.std.proofs.Common.{◌≡◌, refl, ℕ, Option, Some, None}
 use Rattle.std.specs.Prelude.{option_map}
 use Rattle.std.specs.Option.{option_or}
 use Rattle.tick_time.specs.declared.spans.Span.{Span}
-use Rattle.otio_model.specs.Lengths.{Range, range_of, range_start, from_zero}
+use Rattle.otio_model.specs.Lengths.{range_of, range_start, from_zero}
 
 -- what begins with 0 begins as what there isn't
 pub from_zero_starts : (s : Option Span) (n : ℕ)

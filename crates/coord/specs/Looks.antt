@@ -1,6 +1,6 @@
 -- What lists show, where each item is known by its length, by what it shows at each instant, and by
 -- its overlap if it is a transition.
-use Rattle.std.specs.Prelude.{ℕ, ◌/◌, ◌%◌, suc, zero, ℤ, pos, ◌+ℤ◌, ◌-ℤ◌, int_lt, int_le, unsigned_abs, Bool, true, false, ◌&&◌, cond, List, [], ◌∷◌, Option, Some, None, unwrap_or}
+use Rattle.std.specs.Prelude.{ℕ, ◌/◌, ◌%◌, suc, zero, ℤ, pos, ◌+ℤ◌, ◌-ℤ◌, unsigned_abs, Bool, true, false, ◌&&◌, cond, List, [], ◌∷◌, Option, Some, None, unwrap_or}
 use Rattle.otio_model.specs.Overlaps.{within}
 
 -- what a clip's frames are known by: a URL, the three texts of an image sequence, a generator's

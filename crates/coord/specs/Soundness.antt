@@ -1,5 +1,5 @@
 -- Which timelines are sound, and where one that isn't has its first fault.
-use Rattle.std.specs.Prelude.{◌≡◌, ℕ, ◌<◌, ℤ, pos, ◌+ℤ◌, ◌-ℤ◌, ◌*ℤ◌, int_le, nat_lt, Bool, true, false, not, ◌&&◌, ◌||◌, cond, List, [], ◌∷◌, Option, Some, None, IfSome, ◌⊎◌}
+use Rattle.std.specs.Prelude.{◌≡◌, ℕ, ◌<◌, ℤ, pos, ◌+ℤ◌, ◌-ℤ◌, ◌*ℤ◌, int_le, nat_lt, Bool, false, not, ◌&&◌, ◌||◌, cond, List, [], ◌∷◌, Option, Some, None, IfSome, ◌⊎◌}
 use Rattle.limits.specs.Limits.{most_ticks}
 use Rattle.std.specs.List.{list_any}
 use Rattle.tick_time.specs.Times.{IsWhole}
@@ -17,7 +17,8 @@ use Rattle.coord.specs.declared.faults.ItemFault.{ItemFault}
 use Rattle.coord.specs.declared.faults.ItemFault.TheVariants.{NoLength, Speed, Long}
 use Rattle.coord.specs.declared.faults.CoordFault.{CoordFault}
 use Rattle.coord.specs.declared.faults.CoordFault.TheVariants as F
-use Rattle.coord.specs.Speeds.{effects_of, speed_of, keeps_speed}
+use Rattle.otio_model.specs.Speeds.{keeps_speed}
+use Rattle.coord.specs.Speeds.{effects_of, speed_of}
 
 -- the length of a span, 0 where there is none
 abbrev pub span_ticks : Option Span → ℕ

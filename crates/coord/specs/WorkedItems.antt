@@ -1,13 +1,12 @@
 -- What small lists of items show at some frames, worked out by hand at 24 frames a second.
 use mathlib.Core.Path.{refl}
-use Rattle.std.specs.Prelude.{◌≡◌, ℕ, nat_le, ℤ, pos, ◌-ℤ◌, ◌≤ℤ◌, true, List, [], ◌∷◌, map, Option, Some, None, codes}
+use Rattle.std.specs.Prelude.{◌≡◌, ℕ, nat_le, pos, ◌≤ℤ◌, true, List, [], ◌∷◌, map, Some, None, codes}
 use Rattle.limits.specs.Limits.{most_ticks}
 use Rattle.tick_time.specs.declared.rates.Rate.{Rate}
 use Rattle.tick_time.specs.declared.spans.Span.{Span}
 use Rattle.tick_time.specs.declared.times.Time.{Time}
 use Rattle.tick_time.specs.Times.{IsWhole}
 use Rattle.tick_time.specs.Rates.{unit}
-use Rattle.otio_model.specs.declared.sources.Media.{Media}
 use Rattle.otio_model.specs.declared.sources.Media.TheVariants as M
 use Rattle.otio_model.specs.declared.warps.Effect.{Effect}
 use Rattle.otio_model.specs.declared.warps.Effect.TheVariants as E

@@ -143,7 +143,7 @@ fn under(index: usize, found: Found) -> Found
     }
 }
 
-#[tactic(auto, using(crate::proofs::Judged::sound_with, crate::proofs::Judged::sound_alone, crate::proofs::Judged::found_with))]
+#[tactic(auto, using(crate::proofs::JudgingLemmas::sound_with, crate::proofs::JudgingLemmas::sound_alone, crate::proofs::JudgingLemmas::found_with))]
 /// Looks for the first fault of an item and those below it.
 #[cycle(judge)]
 fn judge_item(alloc: Global, item: &Item) -> Result<(), Found>
@@ -163,7 +163,7 @@ fn judge_item(alloc: Global, item: &Item) -> Result<(), Found>
     }
 }
 
-#[tactic(auto, using(crate::proofs::Judged::sound_next, crate::proofs::Judged::sound_all, crate::proofs::Judged::found_under, crate::proofs::Members::child_few, crate::proofs::Members::index_few))]
+#[tactic(auto, using(crate::proofs::JudgingLemmas::sound_next, crate::proofs::JudgingLemmas::sound_all, crate::proofs::JudgingLemmas::found_under, crate::proofs::Members::child_few, crate::proofs::Members::index_few))]
 /// Looks for the first fault of children and those below them.
 #[cycle(judge)]
 fn judge_children(alloc: Global, children: &Children) -> Result<(), Found>
@@ -241,7 +241,7 @@ pub fn sound(alloc: Global, timeline: &Timeline) -> Result<(), CoordFault>
     }
 }
 
-#[tactic(auto, using(crate::proofs::Kept::kept_is))]
+#[tactic(auto, using(crate::proofs::SpeedProducts::kept_is))]
 /// The speed of an item without a fault, in millionths: by its effects, one after another.
 pub fn speed(item: &Item) -> i64
     requires { soundness.fault_of item.now ≡ None }

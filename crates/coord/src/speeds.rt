@@ -1,109 +1,23 @@
 //! The speeds at which items play.
 
-ghost use Rattle.std.specs.Prelude.{◌≡◌, ℤ, pos, ◌-ℤ◌, ◌≤ℤ◌, ◌*ℤ◌, IfSome};
+ghost use Rattle.std.specs.Prelude.{◌≡◌, pos, IfSome};
 ghost use Rattle.tick_time.specs.Times.{IsSpeed};
+ghost use Rattle.otio_model.specs.Speeds.{kept_speed};
 ghost use Rattle.coord.specs.Speeds as speeds;
 
-use otio_model::{Effect, Effects, Item, ItemOf};
+use otio_model::{Item, ItemOf};
 
-/// Whether a division by a million with this quotient and this rest is rounded down, half to even.
-fn is_rounded_down(quotient: i128, rest: i128) -> bool
-    ensures { result ≡ speeds.is_rounded_down quotient rest }
-{
-    rest < 500_000 || (rest <= 500_000 && quotient.unsigned_abs() % 2 == 0)
-}
-
-/// So many millionths as a whole number, rounded half to even.
-fn from_millionths(millionths: i128) -> i128
-    requires low { (pos 0 -ℤ pos 1000000000000000000) ≤ℤ millionths }
-    requires high { millionths ≤ℤ pos 1000000000000000000 }
-    ensures { result ≡ speeds.from_millionths millionths }
-{
-    let quotient = millionths.div_euclid(1_000_000);
-    if is_rounded_down(quotient, millionths.rem_euclid(1_000_000)) {
-        quotient
-    } else {
-        quotient + 1
-    }
-}
-
-#[tactic(auto, using(crate::proofs::Kept::product_low, crate::proofs::Kept::product_high))]
-/// One speed times another, in millionths.
-fn times(speed: i128, scalar: i64) -> i128
-    requires speed_low { (pos 0 -ℤ pos 1000000000) ≤ℤ speed }
-    requires speed_high { speed ≤ℤ pos 1000000000 }
-    requires scalar_low { (pos 0 -ℤ pos 1000000000) ≤ℤ scalar }
-    requires scalar_high { scalar ≤ℤ pos 1000000000 }
-    ensures { result ≡ speeds.from_millionths (speed *ℤ scalar) }
-{
-    from_millionths(product(speed, scalar))
-}
-
-/// The product of two speeds.
-fn product(speed: i128, scalar: i64) -> i128
-    requires speed_low { (pos 0 -ℤ pos 1000000000) ≤ℤ speed }
-    requires speed_high { speed ≤ℤ pos 1000000000 }
-    requires scalar_low { (pos 0 -ℤ pos 1000000000) ≤ℤ scalar }
-    requires scalar_high { scalar ≤ℤ pos 1000000000 }
-    ensures { result ≡ (speed *ℤ scalar) }
-{
-    speed * i128::from(scalar)
-}
-
-/// The speed after one more effect.
-fn next_speed(speed: i128, effect: &Effect) -> i128
-    requires low { (pos 0 -ℤ pos 1000000000) ≤ℤ speed }
-    requires high { speed ≤ℤ pos 1000000000 }
-    ensures { result ≡ speeds.next_speed speed effect.now }
-{
-    match effect {
-        Effect::Warp(warp) => times(speed, warp.time_scalar.0),
-        Effect::Freeze(_) => 0,
-        _ => speed,
-    }
-}
-
-/// Whether a speed is at most 1000 times, either way.
-fn is_speed(speed: i128) -> bool
-    ensures { result ≡ speeds.is_speed speed }
-{
-    -1_000_000_000 <= speed && speed <= 1_000_000_000
-}
-
-/// The speed after these effects, in millionths. `None` exactly where it passes 1000 times, either
-/// way, after one of them.
-pub(crate) fn kept_speed(effects: &[Effect]) -> Option<i64>
-    ensures speed { result ≡ speeds.kept_speed (pos 1000000) effects.now }
-    ensures range { IfSome result IsSpeed }
-{
-    let mut speed: i128 = 1_000_000;
-    'effects: for effect in effects {
-        speed = next_speed(speed, effect);
-        if !is_speed(speed) {
-            return None;
-        }
-    }
-    Some(speed as i64)
-}
-
-/// The speed of these effects, where they keep it.
-fn speed_after(effects: &Effects) -> Option<i64>
-    ensures speed { result ≡ speeds.kept_speed (pos 1000000) effects.now }
-    ensures range { IfSome result IsSpeed }
-{
-    kept_speed(effects.as_slice())
-}
-
-/// The speed of an item. `None` exactly where it passes 1000 times, either way, after some effect.
+/// The speed of an item, in constant time. `None` exactly where it passes 1000 times, either way,
+/// after some effect.
 pub(crate) fn item_speed(item: &Item) -> Option<i64>
-    ensures speed { result ≡ speeds.kept_speed (pos 1000000) (speeds.effects_of item.now) }
+    ensures speed { result ≡ kept_speed (pos 1000000) (speeds.effects_of item.now) }
     ensures range { IfSome result IsSpeed }
 {
     match item {
-        ItemOf::Clip(clip) => speed_after(&clip.effects),
-        ItemOf::Gap(gap) => speed_after(&gap.effects),
+        ItemOf::Clip(clip) => clip.effects.speed(),
+        ItemOf::Gap(gap) => gap.effects.speed(),
         ItemOf::Transition(_) => Some(1_000_000),
-        ItemOf::Stack(stack) => speed_after(&stack.effects),
-        ItemOf::Track(track) => speed_after(&track.effects),
+        ItemOf::Stack(stack) => stack.effects.speed(),
+        ItemOf::Track(track) => track.effects.speed(),
     }
 }

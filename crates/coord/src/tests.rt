@@ -3,13 +3,13 @@
 ghost use Rattle.std.specs.Prelude.{◌≡◌, ◌<◌, ◌+◌, IfOk, pos, ◌-ℤ◌, ◌≤ℤ◌};
 ghost use Rattle.otio_model.specs.Counts.{count, count_of};
 
-use crate::speeds::kept_speed;
+use crate::timing::rate_24;
 use crate::{CoordFault, record_rate, sound, speed, start_frame, trimmed_start};
 use otio_model::{
     Children, Clip, Effect, Effects, Item, ItemOf, Items, Markers, Media, MediaMap, Missing, Stack,
     StackOf, Timeline, TrackOf, Transition, Warp,
 };
-use sequences::{NamedValues, Text};
+use sequences::{NamedValues, Sequence, Text};
 use std::alloc::{AllocError, Global};
 use std::test::Fail;
 use tick_time::{Decimal, Rate, Scalar, Span, Time};
@@ -17,20 +17,11 @@ use tick_time::{Decimal, Rate, Scalar, Span, Time};
 /// A frame at 24 frames a second, in ticks.
 const FRAME: i128 = 29_400_000_000_000_000;
 
-fn rate_24() -> Option<Rate> {
-    let decimal = Decimal {
-        neg: false,
-        digits: 24,
-        exp: 0,
-    };
-    Rate::of(&decimal).ok()
-}
-
 fn rate_25() -> Option<Rate> {
     let decimal = Decimal {
-        neg: false,
         digits: 25,
         exp: 0,
+        neg: false,
     };
     Rate::of(&decimal).ok()
 }
@@ -91,14 +82,14 @@ fn played(
     ensures { count_of result ≡ 1 }
 {
     ItemOf::Clip(Clip {
-        metadata: NamedValues::new(alloc),
-        name: nameless(alloc),
         source_range,
         effects,
-        markers: Markers::new(alloc),
-        enabled: true,
         media_references,
+        enabled: true,
+        name: nameless(alloc),
         active_media_reference_key: nameless(alloc),
+        markers: Markers::new(alloc),
+        metadata: NamedValues::new(alloc),
         rest: NamedValues::new(alloc),
     })
 }
@@ -116,14 +107,14 @@ fn track(alloc: Global, children: Children) -> Item
     ensures { count_of result ≡ count children + 1 }
 {
     ItemOf::Track(TrackOf {
-        metadata: NamedValues::new(alloc),
-        name: nameless(alloc),
+        children,
         source_range: None,
+        enabled: true,
+        kind: nameless(alloc),
+        name: nameless(alloc),
         effects: Effects::new(alloc),
         markers: Markers::new(alloc),
-        enabled: true,
-        children,
-        kind: nameless(alloc),
+        metadata: NamedValues::new(alloc),
         rest: NamedValues::new(alloc),
     })
 }
@@ -132,14 +123,14 @@ fn root(alloc: Global, children: Children) -> Stack
     ensures { result.children ≡ children }
 {
     StackOf {
-        metadata: NamedValues::new(alloc),
-        name: nameless(alloc),
-        source_range: None,
-        effects: Effects::new(alloc),
-        markers: Markers::new(alloc),
-        enabled: true,
         children,
+        enabled: true,
+        source_range: None,
+        name: nameless(alloc),
+        markers: Markers::new(alloc),
+        effects: Effects::new(alloc),
         rest: NamedValues::new(alloc),
+        metadata: NamedValues::new(alloc),
     }
 }
 
@@ -148,15 +139,10 @@ fn timeline(alloc: Global, start: Option<Time>, item: Item) -> Result<Timeline, 
     ensures { IfOk result (λ timeline. count timeline.tracks.children ≡ count_of item + 1) }
 {
     let inner = one(alloc, item)?;
-    let tracks = one(alloc, track(alloc, inner))?;
-    Ok(Timeline::of(
-        alloc,
-        NamedValues::new(alloc),
-        nameless(alloc),
-        start,
-        root(alloc, tracks),
-        NamedValues::new(alloc),
-    ))
+    let tracks = root(alloc, one(alloc, track(alloc, inner))?);
+    let metadata = NamedValues::new(alloc);
+    let rest = NamedValues::new(alloc);
+    Ok(Timeline::of(alloc, metadata, nameless(alloc), start, tracks, rest))
 }
 
 /// What was found in a timeline.
@@ -215,9 +201,9 @@ fn fast(alloc: Global) -> Result<Item, AllocError>
     let effects = vec![in alloc; warp(alloc, 1_000_000_000), warp(alloc, 2_000_000)]?;
     Ok(played(
         alloc,
-        span(0, 24, rate_24()),
+        span(0, 24, Some(rate_24())),
         MediaMap::new(alloc),
-        Effects::of(effects),
+        Effects::of(Sequence::of(effects)),
     ))
 }
 
@@ -225,7 +211,11 @@ fn fast(alloc: Global) -> Result<Item, AllocError>
 fn late(alloc: Global) -> Item
     ensures { count_of result ≡ 1 }
 {
-    clip(alloc, span(23_999_999, 24, rate_24()), MediaMap::new(alloc))
+    clip(
+        alloc,
+        span(23_999_999, 24, Some(rate_24())),
+        MediaMap::new(alloc),
+    )
 }
 
 /// The record rate and the number of the first frame of a timeline of one track with one clip.
@@ -252,20 +242,6 @@ fn warp(alloc: Global, speed: i64) -> Effect
 }
 
 #[test]
-fn speeds_are_rounded_half_to_even(rt: HostRuntime) -> Result<(), Fail> {
-    let effects = [warp(rt.alloc(), 1_500_000), warp(rt.alloc(), 333_333)];
-    assert_eq!(rt; kept_speed(&effects), Some(500_000));
-    Ok(())
-}
-
-#[test]
-fn a_speed_may_pass_1000_on_the_way(rt: HostRuntime) -> Result<(), Fail> {
-    let effects = [warp(rt.alloc(), 1_000_000_000), warp(rt.alloc(), 2_000_000)];
-    assert_eq!(rt; kept_speed(&effects), None);
-    Ok(())
-}
-
-#[test]
 fn a_transition_plays_as_it_is(rt: HostRuntime) -> Result<(), Fail> {
     let item = ItemOf::Transition(Transition {
         metadata: NamedValues::new(rt.alloc()),
@@ -281,9 +257,9 @@ fn a_transition_plays_as_it_is(rt: HostRuntime) -> Result<(), Fail> {
 
 #[test]
 fn a_clip_starts_with_its_source_range(rt: HostRuntime) -> Result<(), Fail> {
-    let media = media(rt.alloc(), span(10, 200, rate_24()))?;
+    let media = media(rt.alloc(), span(10, 200, Some(rate_24())))?;
     assert_eq!(rt;
-        start_of(rt.alloc(), span(24, 48, rate_24()), media),
+        start_of(rt.alloc(), span(24, 48, Some(rate_24())), media),
         24 * FRAME
     );
     Ok(())
@@ -291,7 +267,7 @@ fn a_clip_starts_with_its_source_range(rt: HostRuntime) -> Result<(), Fail> {
 
 #[test]
 fn a_clip_without_one_starts_with_its_media(rt: HostRuntime) -> Result<(), Fail> {
-    let media = media(rt.alloc(), span(10, 200, rate_24()))?;
+    let media = media(rt.alloc(), span(10, 200, Some(rate_24())))?;
     assert_eq!(rt; start_of(rt.alloc(), None, media), 10 * FRAME);
     Ok(())
 }
@@ -299,7 +275,7 @@ fn a_clip_without_one_starts_with_its_media(rt: HostRuntime) -> Result<(), Fail>
 #[test]
 fn a_timeline_counts_at_the_rate_of_its_media(rt: HostRuntime) -> Result<(), Fail> {
     let media = media(rt.alloc(), span(0, 200, rate_25()))?;
-    let item = clip(rt.alloc(), span(0, 24, rate_24()), media);
+    let item = clip(rt.alloc(), span(0, 24, Some(rate_24())), media);
     let (rate, start) = counted(rt.alloc(), None, item)?;
     assert_eq!(rt; rate.num, 25);
     assert_eq!(rt; start, 0);
@@ -327,7 +303,7 @@ fn a_track_of_a_clip_without_a_range_has_no_length(rt: HostRuntime) -> Result<()
 fn a_timeline_of_a_clip_with_a_range_is_sound(rt: HostRuntime) -> Result<(), Fail> {
     let item = clip(
         rt.alloc(),
-        span(24, 48, rate_24()),
+        span(24, 48, Some(rate_24())),
         MediaMap::new(rt.alloc()),
     );
     assert_eq!(rt; judged(rt.alloc(), item)?, Outcome::Sound);

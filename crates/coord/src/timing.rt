@@ -39,7 +39,7 @@ pub fn trimmed_start(item: &Item) -> i128
 }
 
 /// 24 frames a second.
-fn rate_24() -> Rate
+pub(crate) fn rate_24() -> Rate
     ensures { frame_rate result ≡ programs.rate_24 }
 {
     Rate { num: 24, den: 1 }

@@ -1,7 +1,7 @@
 -- Loops that hand a text over part by part.
 use Rattle.std.proofs.Common.{◌≡◌, ℕ, List, [], ◌++◌, subst}
 use Rattle.dev_io.specs.Buffer.{Standing, Puts}
-use Rattle.dev_io.proofs.Buffered.{puts_none, puts_then}
+use Rattle.dev_io.proofs.BufferLemmas.{puts_none, puts_then}
 
 -- If what is left is handed over from here on, the whole text was.
 pub record Leaves (start now : Standing) (text rest : List ℕ) : Type 0 where

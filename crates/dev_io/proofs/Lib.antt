@@ -1,5 +1,5 @@
-pub mod Sent
-pub mod Named
-pub mod Buffered
-pub mod Parted
+pub mod SendingLemmas
+pub mod FileNumbers
+pub mod BufferLemmas
+pub mod PartLemmas
 pub mod Leaving

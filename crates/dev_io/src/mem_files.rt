@@ -113,7 +113,7 @@ fn index_of(files: &[MemFile], name: &str) -> Option<usize>
 }
 
 // The same, and what is known of it.
-#[tactic(auto, using(crate::proofs::Named::found_is_named))]
+#[tactic(auto, using(crate::proofs::FileNumbers::found_is_named))]
 fn find(files: &[MemFile], name: &str) -> Option<usize>
     ensures value { result ≡ index_in files.now name.now }
     ensures named { IfSome result (λ i. (i < length files.now) × (name_at files.now i ≡ name.now)) }

@@ -6,7 +6,7 @@ use Rattle.smpte_tc.specs.declared.modes.Mode.{Mode}
 use Rattle.smpte_tc.specs.Modes.{mode_of}
 use Rattle.smpte_tc.specs.Laws.{IsPlain}
 use Rattle.smpte_tc.specs.Answers.{ReadsAt, WritesAt}
-use Rattle.smpte_tc.proofs.Written.{written_eleven, written_plain, read_as}
+use Rattle.smpte_tc.proofs.WrittenLabels.{written_eleven, written_plain, read_as}
 use Rattle.smpte_tc.specs.Frames.{label_frame}
 use Rattle.smpte_tc.proofs.FrameLemmas.{frame_read}
 use Rattle.edl_layout.specs.Columns.{label_text}

@@ -11,7 +11,7 @@ use Rattle.edl_line.specs.Statements as said
 use Rattle.edl_line.specs.Saying.{Says, SaysTight, IsMode}
 use Rattle.edl_line.specs.Events.{IsKind, AreChannels}
 use Rattle.edl_line.specs.Numbers.{IsReel as IsReelField}
-use Rattle.edl_line.specs.Notes.{IsBehind}
+use Rattle.edl_line.specs.Notes.{IsBehind, IsName}
 use Rattle.edl_list.specs.declared.list.Reel.{Reel}
 use Rattle.edl_list.specs.declared.list.Reel.TheVariants.{Black, Named}
 use Rattle.edl_list.specs.declared.list.Channel.{Channel}
@@ -122,42 +122,35 @@ behind_space word rest begins = record {
   is = refl;
 }
 
+-- a note of the name of a side
+name_noted : (side name : List ℕ)
+    → begins_with_blank (side ++ (32 ∷ (codes "CLIP NAME: " ++ name))) ≡ false → trimmed name ≡ name → IsUtf8 name
+    → IsName side (codes "* " ++ (side ++ (32 ∷ (codes "CLIP NAME: " ++ name)))) name
+name_noted side name begins tight utf8 = record {
+  text = 32 ∷ name;
+  note = record {
+    first = side ++ (32 ∷ (codes "CLIP NAME: " ++ name));
+    second = codes "CLIP NAME: " ++ name;
+    third = codes "NAME: " ++ name;
+    star = behind_space (codes "*") _ begins;
+    is_side = behind_space side _ (blank_is 67);
+    clip = behind_space (codes "CLIP") _ (blank_is 78);
+    name = refl;
+  };
+  trims = space_trims name tight;
+  utf8 = utf8;
+}
+
 -- the notes of names
 pub from_says : (name : List ℕ) → name ≢ [] → trimmed name ≡ name → IsUtf8 name → Says (from_head ++ name) (said.FromName name)
 from_says name some tight utf8 =
     subst (λ l. SaysTight l (said.FromName name)) (sym (head_tight from_head name (blank_is 42) some tight))
-    (record {
-      text = 32 ∷ name;
-      note = record {
-        first = codes "FROM CLIP NAME: " ++ name;
-        second = codes "CLIP NAME: " ++ name;
-        third = codes "NAME: " ++ name;
-        star = behind_space (codes "*") _ (blank_is 70);
-        is_side = behind_space (codes "FROM") _ (blank_is 67);
-        clip = behind_space (codes "CLIP") _ (blank_is 78);
-        name = refl;
-      };
-      trims = space_trims name tight;
-      utf8 = utf8;
-    })
+    (name_noted (codes "FROM") name (blank_is 70) tight utf8)
 
 pub to_says : (name : List ℕ) → name ≢ [] → trimmed name ≡ name → IsUtf8 name → Says (to_head ++ name) (said.ToName name)
 to_says name some tight utf8 =
     subst (λ l. SaysTight l (said.ToName name)) (sym (head_tight to_head name (blank_is 42) some tight))
-    (record {
-      text = 32 ∷ name;
-      note = record {
-        first = codes "TO CLIP NAME: " ++ name;
-        second = codes "CLIP NAME: " ++ name;
-        third = codes "NAME: " ++ name;
-        star = behind_space (codes "*") _ (blank_is 84);
-        is_side = behind_space (codes "TO") _ (blank_is 67);
-        clip = behind_space (codes "CLIP") _ (blank_is 78);
-        name = refl;
-      };
-      trims = space_trims name tight;
-      utf8 = utf8;
-    })
+    (name_noted (codes "TO") name (blank_is 84) tight utf8)
 
 word_field : (b : ℕ) (word : List ℕ) → solid (b ∷ word) ≡ true → IsField (b ∷ word)
 word_field b word p = record { some = append_some [] b word; above = p }
@@ -196,21 +189,21 @@ speed_end reel tenths label =
     let text = behind (digits 3 (tenths / 10)) _ label (behind (46 ∷ []) _ label (behind (digits 1 tenths) _ label (behind (spaces 16) _ label (ends_here label)))) in
     behind (codes "M2   ") _ label (behind (column reel_width (reel_text reel)) _ label (behind (32 ∷ []) _ label text))
 
-abbrev number_text : ℕ → List ℕ
-number_text tenths = digits 3 (tenths / 10) ++ (codes "." ++ digits 1 tenths)
+abbrev tenths_column : ℕ → List ℕ
+tenths_column tenths = digits 3 (tenths / 10) ++ (codes "." ++ digits 1 tenths)
 
-number_field : (tenths : ℕ) → IsField (number_text tenths)
+number_field : (tenths : ℕ) → IsField (tenths_column tenths)
 number_field tenths = record {
   some = append_some [] _ _;
   above = solid_append (digits 3 (tenths / 10)) (codes "." ++ digits 1 tenths) (solid_digits 3 (tenths / 10)) (solid_append (codes ".") (digits 1 tenths) refl (solid_digits 1 tenths));
 }
 
-fields_speed : (reel : Reel) (tenths : ℕ) (label : List ℕ) → IsReel reel → IsField label → fields_of (speed_text reel tenths label) ≡ codes "M2" ∷ reel_text reel ∷ number_text tenths ∷ label ∷ []
+fields_speed : (reel : Reel) (tenths : ℕ) (label : List ℕ) → IsReel reel → IsField label → fields_of (speed_text reel tenths label) ≡ codes "M2" ∷ reel_text reel ∷ tenths_column tenths ∷ label ∷ []
 fields_speed reel tenths label is_reel h =
     let name = reel_field reel is_reel in
     field_at (codes "M2") _ (word_field 77 (50 ∷ []) refl) ∙ ap (λ l. codes "M2" ∷ l) (fields_space _ ∙ fields_space _
     ∙ fields_column reel_width (reel_text reel) _ name.some name.above ∙ ap (λ l. reel_text reel ∷ l)
-    (field_at (number_text tenths) (spaces 15 ++ (label ++ [])) (number_field tenths) ∙ ap (λ l. number_text tenths ∷ l) (fields_spaces 15 (label ++ []) ∙ field_end label h)))
+    (field_at (tenths_column tenths) (spaces 15 ++ (label ++ [])) (number_field tenths) ∙ ap (λ l. tenths_column tenths ∷ l) (fields_spaces 15 (label ++ []) ∙ field_end label h)))
 
 -- an M2 line
 pub speed_says : (reel : Reel) (tenths : ℕ) (label : List ℕ) → IsReel reel → tenths ≤ 9999 → IsField label → Says (speed_text reel tenths label) (said.Speed (said_speed reel tenths label))
@@ -221,8 +214,8 @@ speed_says reel tenths label is_reel small h =
     subst (λ l. SaysTight l (said.Speed (said_speed reel tenths label))) (sym tight)
     (record {
       reel = reel_text reel;
-      text = number_text tenths;
+      text = tenths_column tenths;
       are = fields_speed reel tenths label is_reel h;
       is_reel = reel_said reel is_reel;
-      is_speed = record { text = number_text tenths; is = refl; are_tenths = tenths_text tenths small };
+      is_speed = record { text = tenths_column tenths; is = refl; are_tenths = tenths_text tenths small };
     })

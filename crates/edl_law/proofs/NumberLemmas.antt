@@ -1,15 +1,9 @@
 -- Numbers as they are written.
-use Rattle.std.proofs.Common.{◌≡◌, ◌<◌, ◌≤◌, ◌+◌, ◌/◌, ◌%◌, ℕ, ◌++◌, codes, refl, arith}
-use Rattle.std.specs.Char.{digit_value}
-use Rattle.std.proofs.lemmas.Str.{digit_value_digit}
+use Rattle.std.proofs.Common.{◌≤◌, ◌/◌, ◌%◌, ℕ, ◌++◌, codes, refl, arith}
+use Rattle.tick_time.proofs.Places.{digit_is}
 use Rattle.edl_line.specs.Numbers.{IsNumber}
 use Rattle.edl_line.specs.Speeds.{IsTenths}
 use Rattle.edl_layout.specs.Columns.{digits}
-
-digit_is : (d : ℕ) → d < 10 → digit_value (48 + d) ≡ d
-digit_is d small =
-    let e : digit_value (48 + d) + 48 ≡ 48 + d = digit_value_digit (48 + d) (omega arith, omega arith) in
-    omega (arith, e)
 
 pub one_digit : (n : ℕ) → IsNumber 1 (digits 1 n) (n % 10)
 one_digit n =

@@ -15,7 +15,7 @@ use Rattle.edl_text.specs.Events.{events_of}
 use Rattle.edl_text.specs.Lines.{AreSound, title_fault}
 use Rattle.edl_text.specs.Late.{AreFine}
 use Rattle.edl_text.specs.Lists.{IsList, events_in}
-use Rattle.edl_law.specs.Law.{IsWritable}
+use Rattle.edl_law.specs.Law.{HasText}
 use Rattle.edl_law.proofs.LineLemmas.{AreShown, shown_lines, lines_written}
 use Rattle.edl_law.proofs.LineForms.{title_says, mode_says, nothing_says}
 use Rattle.edl_law.proofs.FieldLemmas.{append_some}
@@ -61,7 +61,7 @@ pub record Reading (list : EventList) (drop : Bool) : Type 0 where
   pub reads : IsList list.rate (spelling list drop) read
   pub same : IsSame list read
 
-pub reading : (list : EventList) (drop : Bool) → IsWritable list drop → Reading list drop
+pub reading : (list : EventList) (drop : Bool) → HasText list drop → Reading list drop
 reading list drop h =
     let rate = list.rate in
     let head = titled rate list.title (cleaned list.title) h.title refl in

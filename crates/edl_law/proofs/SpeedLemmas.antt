@@ -6,7 +6,7 @@ use Rattle.tick_time.specs.declared.rates.Rate.{Rate}
 use Rattle.smpte_tc.specs.declared.modes.Mode.{Mode}
 use Rattle.smpte_tc.specs.Modes.{mode_of, IsMode}
 use Rattle.smpte_tc.specs.Day.{counted_of}
-use Rattle.smpte_tc.proofs.Written.{mode_fair}
+use Rattle.smpte_tc.proofs.WrittenLabels.{mode_fair}
 use Rattle.edl_list.specs.declared.list.Side.{Side}
 use Rattle.edl_list.specs.Formed.{IsFrame, IsSpeed}
 use Rattle.edl_list.specs.Laws.{IsCount}

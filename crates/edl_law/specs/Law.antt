@@ -23,7 +23,7 @@ pub record HasNames (event : Event) : Type 0 where
 -- A list that has a text, with drop-frame or without, and one that a reader takes: it is well
 -- formed and even, its events are at most 999, their labels are below the day, its texts are UTF-8,
 -- and its text isn't too large.
-pub record IsWritable (list : EventList) (drop : Bool) : Type 0 where
+pub record HasText (list : EventList) (drop : Bool) : Type 0 where
   pub formed : IsWellFormed list
   pub even : IsEven list
   pub few : length list.events ≤ most_number
@@ -41,4 +41,4 @@ pub record IsReadAgain (list : EventList) (drop : Bool) : Type 0 where
 
 -- each list that has a text is read again from it
 abbrev pub SpellingIsRead : Type 0
-SpellingIsRead = (list : EventList) (drop : Bool) → IsWritable list drop → IsReadAgain list drop
+SpellingIsRead = (list : EventList) (drop : Bool) → HasText list drop → IsReadAgain list drop

@@ -1,5 +1,5 @@
-pub mod Trimmed
+pub mod TrimmedTexts
 pub mod Texts
 pub mod Days
-pub mod Firsts
+pub mod FirstPastDay
 pub mod Film

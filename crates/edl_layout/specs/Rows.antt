@@ -4,8 +4,7 @@ use Rattle.std.specs.List.{concat}
 use Rattle.tick_time.specs.declared.rates.Rate.{Rate}
 use Rattle.edl_list.specs.declared.list.Channel.{Channel}
 use Rattle.edl_list.specs.declared.list.Side.{Side}
-use Rattle.edl_list.specs.declared.list.Cross.{Cross}
-use Rattle.edl_list.specs.declared.list.Cross.TheVariants.{Cut, Dissolve, Wipe}
+use Rattle.edl_list.specs.declared.list.Cross.TheVariants.{Cut}
 use Rattle.edl_list.specs.declared.list.Event.{Event}
 use Rattle.edl_list.specs.Labelled.{outgoing}
 use Rattle.edl_list.specs.Speeds.{count_of, side_speed}

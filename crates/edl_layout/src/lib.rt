@@ -8,6 +8,7 @@
 mod columns;
 mod labels;
 mod notes;
+mod numbering;
 mod rows;
 mod speeds;
 mod write;

@@ -76,7 +76,7 @@ fn trim(text: &[u8]) -> &[u8]
 }
 
 // Whether a byte that is written as a space stands at the front.
-#[tactic(auto, using(crate::proofs::Trimmed::front_byte, crate::proofs::Trimmed::front_none))]
+#[tactic(auto, using(crate::proofs::TrimmedTexts::front_byte, crate::proofs::TrimmedTexts::front_none))]
 fn begins_blank(text: &[u8]) -> bool
     ensures { result ≡ begins (map written_byte text.now) }
 {
@@ -87,7 +87,7 @@ fn begins_blank(text: &[u8]) -> bool
 }
 
 // Whether a byte that is written as a space stands at the back.
-#[tactic(auto, using(crate::proofs::Trimmed::back_byte, crate::proofs::Trimmed::back_none))]
+#[tactic(auto, using(crate::proofs::TrimmedTexts::back_byte, crate::proofs::TrimmedTexts::back_none))]
 fn ends_blank(text: &[u8]) -> bool
     ensures { result ≡ begins (reverse (map written_byte text.now)) }
 {
@@ -98,7 +98,7 @@ fn ends_blank(text: &[u8]) -> bool
 }
 
 // The text without the bytes at its front that are written as spaces.
-#[tactic(auto, using(crate::proofs::Trimmed::front_less, text_lines::proofs::Trimming::front_stays))]
+#[tactic(auto, using(crate::proofs::TrimmedTexts::front_less, text_lines::proofs::Trimming::front_stays))]
 fn trim_front(text: &[u8]) -> &[u8]
     ensures { map written_byte result.now ≡ trimmed_front (map written_byte text.now) }
 {
@@ -110,7 +110,7 @@ fn trim_front(text: &[u8]) -> &[u8]
 }
 
 // The text without the bytes at its back that are written as spaces.
-#[tactic(auto, using(crate::proofs::Trimmed::back_less, text_lines::proofs::Trimming::back_stays))]
+#[tactic(auto, using(crate::proofs::TrimmedTexts::back_less, text_lines::proofs::Trimming::back_stays))]
 fn trim_back(text: &[u8]) -> &[u8]
     ensures { map written_byte result.now ≡ reverse
         (trimmed_front (reverse (map written_byte text.now))) }

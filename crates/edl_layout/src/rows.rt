@@ -14,9 +14,9 @@ use crate::columns::{
     three_digits,
 };
 use crate::labels::label_of;
+use crate::numbering::Numbering;
 use dev_io::{Out, OutBuffer};
 use edl_list::{Channel, Event, Reel, Side};
-use tick_time::Rate;
 
 // What stands in an event line before the labels, the type and the duration as columns.
 #[derive(Clone, Copy)]
@@ -88,20 +88,13 @@ fn put_row<W: Out>(buffer: &mut OutBuffer, out: &mut W, row: Row<'_>, labels: La
 
 /// Hands over the one line of a cut, or the second line of a pair, without its end.
 #[tactic(auto, using(crate::proofs::Days::below_kept))]
-pub fn put_main<W: Out>(
-    buffer: &mut OutBuffer,
-    out: &mut W,
-    event: &Event,
-    number: u32,
-    rate: Rate,
-    drop: bool,
-)
-    requires number { number ≤ most_number }
-    requires event { IsEvent (day_of rate) event.now }
-    requires labels { IsLabelled rate drop event.now }
+pub fn put_main<W: Out>(buffer: &mut OutBuffer, out: &mut W, event: &Event, numbering: Numbering)
+    requires event { IsEvent (day_of numbering.rate) event.now }
+    requires labels { IsLabelled numbering.rate numbering.drop event.now }
     ensures { HandsOver W.known W.faults out.old out.new buffer.old buffer.new
-        (main_line rate drop number event.now) }
+        (main_line numbering.rate numbering.drop numbering.number event.now) }
 {
+    let Numbering { number, rate, drop } = numbering;
     let row = Row {
         number,
         reel: &event.to.reel,
@@ -124,20 +117,18 @@ pub fn put_main<W: Out>(
 pub fn put_first<W: Out>(
     buffer: &mut OutBuffer,
     out: &mut W,
-    event: &Event,
     from: &Side,
-    number: u32,
-    rate: Rate,
-    drop: bool,
+    event: &Event,
+    numbering: Numbering,
 )
-    requires number { number ≤ most_number }
-    requires from { IsSide (day_of rate) from.now }
-    requires record { IsFrame (day_of rate) event.now.rec_in }
-    requires source_in { IsBelowDay rate drop from.now.src_in }
-    requires record_in { IsBelowDay rate drop event.now.rec_in }
+    requires from { IsSide (day_of numbering.rate) from.now }
+    requires record { IsFrame (day_of numbering.rate) event.now.rec_in }
+    requires source_in { IsBelowDay numbering.rate numbering.drop from.now.src_in }
+    requires record_in { IsBelowDay numbering.rate numbering.drop event.now.rec_in }
     ensures { HandsOver W.known W.faults out.old out.new buffer.old buffer.new
-        (first_line rate drop number event.now from.now) }
+        (first_line numbering.rate numbering.drop numbering.number event.now from.now) }
 {
+    let Numbering { number, rate, drop } = numbering;
     let row = Row {
         number,
         reel: &from.reel,

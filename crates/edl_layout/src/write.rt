@@ -11,6 +11,7 @@ ghost use Rattle.edl_list.specs.Labelled.{outgoing, IsLabelled, IsBelowDay};
 ghost use Rattle.edl_layout.specs.Spelling.{event_text, lines_from, text_of, spelling, mode_line as mode_text};
 
 use crate::notes::{put_headed, put_name};
+use crate::numbering::Numbering;
 use crate::rows::{put_first, put_main};
 use crate::speeds::{has_speed, needs_line, put_speed_if};
 use dev_io::{Out, OutBuffer, WriteFault};
@@ -24,31 +25,18 @@ const FROM_HEAD: &[u8] = b"* FROM CLIP NAME: ";
 const TO_HEAD: &[u8] = b"* TO CLIP NAME: ";
 
 // Hands over the lines of a cut.
-fn put_cut<W: Out>(
-    buffer: &mut OutBuffer,
-    out: &mut W,
-    event: &Event,
-    number: u32,
-    rate: Rate,
-    drop: bool,
-)
+fn put_cut<W: Out>(buffer: &mut OutBuffer, out: &mut W, event: &Event, numbering: Numbering)
     requires cut { outgoing event.now.cross ≡ None }
-    requires number { number ≤ most_number }
-    requires event { IsEvent (day_of rate) event.now }
-    requires labels { IsLabelled rate drop event.now }
+    requires event { IsEvent (day_of numbering.rate) event.now }
+    requires labels { IsLabelled numbering.rate numbering.drop event.now }
     ensures { HandsOver W.known W.faults out.old out.new buffer.old buffer.new
-        (event_text rate drop number event.now) }
+        (event_text numbering.rate numbering.drop numbering.number event.now) }
 {
-    put_main(buffer, out, event, number, rate, drop);
+    let Numbering { rate, drop, .. } = numbering;
+    let has_line = has_speed(&event.to, rate);
+    put_main(buffer, out, event, numbering);
     buffer.put(out, b"\n");
-    put_speed_if(
-        buffer,
-        out,
-        has_speed(&event.to, rate),
-        &event.to,
-        rate,
-        drop,
-    );
+    put_speed_if(buffer, out, has_line, &event.to, rate, drop);
     put_name(buffer, out, FROM_HEAD, &event.to.name);
 }
 
@@ -58,22 +46,19 @@ fn put_pair<W: Out>(
     out: &mut W,
     event: &Event,
     from: &Side,
-    number: u32,
-    rate: Rate,
-    drop: bool,
+    numbering: Numbering,
 )
     requires pair { outgoing event.now.cross ≡ Some from.now }
-    requires number { number ≤ most_number }
-    requires event { IsEvent (day_of rate) event.now }
-    requires labels { IsLabelled rate drop event.now }
+    requires event { IsEvent (day_of numbering.rate) event.now }
+    requires labels { IsLabelled numbering.rate numbering.drop event.now }
     ensures { HandsOver W.known W.faults out.old out.new buffer.old buffer.new
-        (event_text rate drop number event.now) }
+        (event_text numbering.rate numbering.drop numbering.number event.now) }
 {
-    put_first(buffer, out, event, from, number, rate, drop);
+    put_first(buffer, out, from, event, numbering);
     buffer.put(out, b"\n");
-    put_main(buffer, out, event, number, rate, drop);
+    put_main(buffer, out, event, numbering);
     buffer.put(out, b"\n");
-    put_speeds(buffer, out, from, &event.to, rate, drop);
+    put_speeds(buffer, out, from, &event.to, numbering.rate, numbering.drop);
     put_name(buffer, out, FROM_HEAD, &from.name);
     put_name(buffer, out, TO_HEAD, &event.to.name);
 }
@@ -99,24 +84,16 @@ fn put_speeds<W: Out>(
 }
 
 // Hands over the lines of an event.
-fn put_event<W: Out>(
-    buffer: &mut OutBuffer,
-    out: &mut W,
-    event: &Event,
-    number: u32,
-    rate: Rate,
-    drop: bool,
-)
-    requires number { number ≤ most_number }
-    requires event { IsEvent (day_of rate) event.now }
-    requires labels { IsLabelled rate drop event.now }
+fn put_event<W: Out>(buffer: &mut OutBuffer, out: &mut W, event: &Event, numbering: Numbering)
+    requires event { IsEvent (day_of numbering.rate) event.now }
+    requires labels { IsLabelled numbering.rate numbering.drop event.now }
     ensures { HandsOver W.known W.faults out.old out.new buffer.old buffer.new
-        (event_text rate drop number event.now) }
+        (event_text numbering.rate numbering.drop numbering.number event.now) }
 {
     match &event.cross {
-        Cross::Cut => put_cut(buffer, out, event, number, rate, drop),
-        Cross::Dissolve { from, .. } => put_pair(buffer, out, event, from, number, rate, drop),
-        Cross::Wipe { from, .. } => put_pair(buffer, out, event, from, number, rate, drop),
+        Cross::Cut => put_cut(buffer, out, event, numbering),
+        Cross::Dissolve { from, .. } => put_pair(buffer, out, event, from, numbering),
+        Cross::Wipe { from, .. } => put_pair(buffer, out, event, from, numbering),
     }
 }
 
@@ -130,7 +107,8 @@ fn put_events<W: Out>(buffer: &mut OutBuffer, out: &mut W, events: &[Event], rat
 {
     let mut number = 1;
     for event in events {
-        put_event(buffer, out, event, number, rate, drop);
+        let numbering = Numbering { number, rate, drop };
+        put_event(buffer, out, event, numbering);
         number += 1;
     }
 }
@@ -166,7 +144,8 @@ pub fn write_event<W: Out>(
     ensures cause { HasCause (W.faults out.old) (W.faults out.new) result }
 {
     let mut buffer = OutBuffer::new();
-    put_event(&mut buffer, out, event, number, rate, drop);
+    let numbering = Numbering { number, rate, drop };
+    put_event(&mut buffer, out, event, numbering);
     buffer.flush(out)
 }
 

@@ -1,25 +1,13 @@
 -- Numbers and reels, each of one field.
-use Rattle.std.proofs.Common.{◌≡◌, ◌+◌, ◌-◌, ◌*◌, ◌^◌, ◌<◌, ◌≤◌, ℕ, List, [], ◌∷◌, ◌++◌, All, take, length, get_or, refl, sym, ap, ◌∙◌, arith}
+use Rattle.std.proofs.Common.{◌≡◌, ◌+◌, ◌-◌, ◌*◌, ◌^◌, ◌<◌, ◌≤◌, ℕ, List, [], ◌∷◌, ◌++◌, take, length, get_or, refl, sym, ap, ◌∙◌, arith}
 use Rattle.std.specs.Str.Parse.{AllDigits, IsNumeral, digits_value}
 use Rattle.std.proofs.lemmas.List.{take_more}
-use Rattle.std.proofs.lemmas.List.Elements.{All-nil, All-cons, All-head, All-tail}
 use Rattle.std.proofs.lemmas.Str.{digit_value_digit}
-use Rattle.std.proofs.lemmas.Str.Parse.{digit_from_value, digit_at, digits_value-take-le}
+use Rattle.std.proofs.lemmas.Str.Parse.{digit_at, digits_value-take-le}
 use Rattle.std.proofs.lemmas.Int.Digits.{digits_value-lt, digits_value_push}
 use Rattle.std.proofs.Math.Nat.{pow-le-pow_right}
 use Rattle.edl_line.specs.Statements.{Reel, Black, Named}
 use Rattle.edl_line.specs.Numbers.{IsNumber, IsReel}
-
--- bytes from `0` to `9` are digits
-pub digits_of : (bytes : List ℕ) → All (λ b. (48 ≤ b) × (b ≤ 57)) bytes → AllDigits 10 bytes
-digits_of [] h = tt
-digits_of (b ∷ bytes) h =
-    let range = All-head (λ x. (48 ≤ x) × (x ≤ 57)) b bytes h in
-    (omega (arith, digit_value_digit b range), digits_of bytes (All-tail (λ x. (48 ≤ x) × (x ≤ 57)) b bytes h))
-
-pub of_digits : (bytes : List ℕ) → AllDigits 10 bytes → All (λ b. (48 ≤ b) × (b ≤ 57)) bytes
-of_digits [] h = All-nil (λ x. (48 ≤ x) × (x ≤ 57))
-of_digits (b ∷ bytes) h = All-cons (λ x. (48 ≤ x) × (x ≤ 57)) b bytes (digit_from_value b h.0) (of_digits bytes h.1)
 
 -- a number of at most so many digits is below that power of ten
 pub below : (digits : List ℕ) (most : ℕ) → AllDigits 10 digits → length digits ≤ most → digits_value 10 digits < 10 ^ most
@@ -36,13 +24,6 @@ one_more digits i all few within =
     let push = digits_value_push 10 (take i digits) (get_or digits i 0) in
     let more : digits_value 10 (take (i + 1) digits) ≡ digits_value 10 (take i digits ++ get_or digits i 0 ∷ []) = ap (digits_value 10) (take_more digits i 0 within) in
     omega (arith, range, digit_value_digit (get_or digits i 0) range, push, more, digits_value-take-le 10 digits (i + 1) (omega arith), below digits 4 all few)
-
-pub pushed : (digits : List ℕ) (i : ℕ) → AllDigits 10 digits → i < length digits → digits_value 10 (take i digits) * 10 + (get_or digits i 0 - 48) ≡ digits_value 10 (take (i + 1) digits)
-pushed digits i all within =
-    let range = digit_at digits i all within in
-    let push = digits_value_push 10 (take i digits) (get_or digits i 0) in
-    let more : digits_value 10 (take (i + 1) digits) ≡ digits_value 10 (take i digits ++ get_or digits i 0 ∷ []) = ap (digits_value 10) (take_more digits i 0 within) in
-    omega (arith, digit_value_digit (get_or digits i 0) range, push, more)
 
 -- a field writes one number
 pub number_unique : (most : ℕ) (field : List ℕ) (a b : ℕ) → IsNumber most field a → IsNumber most field b → a ≡ b

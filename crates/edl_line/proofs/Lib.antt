@@ -1,8 +1,8 @@
-pub mod Determined
+pub mod OneStatement
 pub mod EventParts
 pub mod Figures
 pub mod Heads
 pub mod Lists
-pub mod Noted
-pub mod Refused
+pub mod NoteTexts
+pub mod RefusedLines
 pub mod SpeedParts

@@ -49,7 +49,7 @@ fn tight_statement(line: &[u8]) -> Result<Statement<'_>, LineFault>
 }
 
 // The statement of a line that begins with a digit.
-#[tactic(auto, using(crate::proofs::Refused::event_form))]
+#[tactic(auto, using(crate::proofs::RefusedLines::event_form))]
 fn event_statement(line: &[u8]) -> Result<Statement<'_>, LineFault>
     requires tight { begins_with_blank line.now ≡ false }
     requires digit { saying.begins_with_digit line.now ≡ true }
@@ -90,7 +90,7 @@ fn word_statement(line: &[u8]) -> Result<Statement<'_>, LineFault>
 }
 
 // The statement of a note for `FROM`.
-#[tactic(auto, using(crate::proofs::Refused::from_form))]
+#[tactic(auto, using(crate::proofs::RefusedLines::from_form))]
 fn from_statement<'a>(line: &'a [u8], text: &'a [u8]) -> Result<Statement<'a>, LineFault>
     requires tight { begins_with_blank line.now ≡ false }
     requires note { IsNote (codes "FROM") line.now text.now }
@@ -105,7 +105,7 @@ fn from_statement<'a>(line: &'a [u8], text: &'a [u8]) -> Result<Statement<'a>, L
 }
 
 // The statement of a note for `TO`.
-#[tactic(auto, using(crate::proofs::Refused::to_form))]
+#[tactic(auto, using(crate::proofs::RefusedLines::to_form))]
 fn to_statement<'a>(line: &'a [u8], text: &'a [u8]) -> Result<Statement<'a>, LineFault>
     requires tight { begins_with_blank line.now ≡ false }
     requires note { IsNote (codes "TO") line.now text.now }
@@ -120,7 +120,7 @@ fn to_statement<'a>(line: &'a [u8], text: &'a [u8]) -> Result<Statement<'a>, Lin
 }
 
 // The statement of a line whose first field is `M2`.
-#[tactic(auto, using(crate::proofs::Refused::speed_form))]
+#[tactic(auto, using(crate::proofs::RefusedLines::speed_form))]
 fn speed_statement(line: &[u8]) -> Result<Statement<'_>, LineFault>
     requires tight { begins_with_blank line.now ≡ false }
     requires first { saying.first_of (fields_of line.now) ≡ codes "M2" }
@@ -135,7 +135,7 @@ fn speed_statement(line: &[u8]) -> Result<Statement<'_>, LineFault>
 }
 
 // The statement of a line that is ignored or refused.
-#[tactic(auto, using(crate::proofs::Refused::other_form))]
+#[tactic(auto, using(crate::proofs::RefusedLines::other_form))]
 fn remark_statement(line: &[u8]) -> Result<Statement<'_>, LineFault>
     requires tight { begins_with_blank line.now ≡ false }
     requires wordy { IsWordy line.now }

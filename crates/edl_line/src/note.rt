@@ -18,7 +18,7 @@ pub(crate) fn note_of<'a>(line: &'a [u8], side: &[u8]) -> Option<&'a [u8]>
 }
 
 // What stands behind a word at the front and the blanks behind it.
-#[tactic(auto, using(crate::proofs::Noted::behind_is, crate::proofs::Noted::behind_not, crate::proofs::Noted::behind_none))]
+#[tactic(auto, using(crate::proofs::NoteTexts::behind_is, crate::proofs::NoteTexts::behind_not, crate::proofs::NoteTexts::behind_none))]
 fn behind_word<'a>(line: &'a [u8], word: &[u8]) -> Option<&'a [u8]>
     ensures { MatchOption result
         ((rest : List ℕ) → IsBehind word.now line.now rest → ⊥)

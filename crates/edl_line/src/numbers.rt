@@ -37,7 +37,7 @@ pub(crate) fn number_of(field: &[u8], most: usize) -> Option<u16>
 }
 
 // Whether the field is one digit or more.
-#[tactic(auto, using(crate::proofs::Figures::digits_of, crate::proofs::Figures::of_digits))]
+#[tactic(auto, using(tick_time::proofs::DigitBytes::digits_of, tick_time::proofs::DigitBytes::of_digits))]
 fn is_numeral(field: &[u8]) -> bool
     ensures { IsTrue result ↔ IsNumeral 10 field.now }
 {

@@ -11,7 +11,7 @@ use Rattle.smpte_tc.specs.declared.modes.Mode.{Mode}
 use Rattle.smpte_tc.specs.Modes.{mode, mode_of}
 use Rattle.smpte_tc.specs.Day.{counted_of}
 use Rattle.smpte_tc.proofs.Dropping.{day_count}
-use Rattle.smpte_tc.proofs.Written.{mode_fair}
+use Rattle.smpte_tc.proofs.WrittenLabels.{mode_fair}
 use Rattle.edl_list.specs.declared.list.Side.{Side}
 use Rattle.edl_list.specs.Formed.{IsSide}
 use Rattle.edl_list.specs.Laws.{IsTimed, IsCount}

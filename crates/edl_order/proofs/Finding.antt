@@ -10,7 +10,7 @@ use Rattle.edl_list.specs.declared.list.Event.{Event}
 use Rattle.edl_list.specs.Formed.{AreApart as AreApartEvents}
 use Rattle.edl_order.specs.Overlaps.{Meet, IsOverlap, WasReadBefore, AreRead}
 use Rattle.edl_order.specs.StateSpans.{Meets, AreApartOn, Keeps, IsOverlapOn, IsFirstOn}
-use Rattle.edl_order.proofs.Whole.{below_or_not}
+use Rattle.edl_order.proofs.WholeNumbers.{below_or_not}
 
 -- below, equal or above
 order_of : (i j : ℕ) → (i < j) ⊎ ((i ≡ j) ⊎ (j < i))

@@ -10,7 +10,7 @@ use Rattle.edl_list.specs.declared.list.Event.{Event}
 use Rattle.edl_order.specs.Overlaps.{AreRead}
 use Rattle.edl_order.specs.StateSpans.{AreApartOn, Follow}
 use Rattle.edl_order.proofs.SpanSteps.{front_more}
-use Rattle.edl_order.proofs.Whole.{below_or_not}
+use Rattle.edl_order.proofs.WholeNumbers.{below_or_not}
 
 pub follow_none : (end : ℤ) (channel : Channel) → Follow end channel []
 follow_none end channel = record {

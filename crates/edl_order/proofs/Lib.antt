@@ -1,7 +1,7 @@
 pub mod Finding
 pub mod FollowSteps
-pub mod Least
+pub mod LeastLine
 pub mod Sorting
 pub mod SpanSteps
-pub mod Strict
-pub mod Whole
+pub mod StrictOrder
+pub mod WholeNumbers

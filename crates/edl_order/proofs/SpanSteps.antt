@@ -16,7 +16,7 @@ use Rattle.edl_list.specs.declared.list.Channel.{Channel}
 use Rattle.edl_list.specs.declared.list.Event.{Event}
 use Rattle.edl_order.specs.Overlaps.{AreRead}
 use Rattle.edl_order.specs.StateSpans.{Has, AreSpansApart, Meets, AreApartOn, Keeps}
-use Rattle.edl_order.proofs.Whole.{which, below_or_not, is_below, not_below}
+use Rattle.edl_order.proofs.WholeNumbers.{which, below_or_not, is_below, not_below}
 
 one_end : (spans : BTreeMap ℤ ℤ) (start a b : ℤ) → Has spans start a → Has spans start b → a ≡ b
 one_end spans start a b p q = let e : Some a ≡ Some b = sym p ∙ q in cc

@@ -16,7 +16,7 @@ use std::collections::BTreeMap;
 /// So it is of events as a list is read, where they come in the order of their lines, those of one
 /// line on different channels, and each takes a frame of the record at least. An error comes where
 /// memory runs out.
-#[tactic(auto, using(crate::proofs::Least::first_of_three, crate::proofs::Least::apart_in_three))]
+#[tactic(auto, using(crate::proofs::LeastLine::first_of_three, crate::proofs::LeastLine::apart_in_three))]
 pub fn first_overlap(alloc: Global, events: &[Event]) -> Result<Option<u32>, AllocError>
     ensures overlap { AreRead events.now → IfOk result
         (λ found. MatchOption found ((line : ℕ) → IsOverlap events.now line → ⊥)

@@ -18,11 +18,11 @@ use Rattle.edl_text.specs.declared.pending.Pending.{Pending}
 use Rattle.edl_text.specs.declared.said.Said.{Said}
 use Rattle.smpte_tc.specs.Frames.{label_frame}
 use Rattle.edl_text.specs.Past.{Block, line_behind, mode_in, first_mode_in, block_behind, blocks_in}
-use Rattle.edl_text.specs.Sides.{reel_of, duration, is_cut, has_labels, source_in, source_out, record_in, record_out, speeds_of, latest, outgoing_speed, reel_at, is_pair, incoming, outgoing, from_side, begun, is_one_reel}
+use Rattle.edl_text.specs.Sides.{duration, is_cut, has_labels, source_in, source_out, record_in, record_out, speeds_of, latest, outgoing_speed, reel_at, is_pair, incoming, outgoing, from_side, begun, is_one_reel}
 use Rattle.edl_text.specs.Events.{channels_of, events_at, events_of}
 use Rattle.edl_text.specs.Lines.{follows_cut, runs_back, misses, first_of, fault_behind, are_same_channels}
 use Rattle.edl_text.specs.StateSides.{side_of}
-use Rattle.edl_text.specs.StateSaid.{are_labels, AreFrames, run_back, is_first_line, misses_by, from_end, closed_from, events_given, closed_events, Begins, IsPending, Hold, Stands, StandsAtNext}
+use Rattle.edl_text.specs.StateSaid.{are_labels, AreFrames, run_back, is_first_line, misses_by, from_end, closed_from, events_given, closed_events, pending_of, Begins, IsPending, Hold, Stands, StandsAtNext}
 
 -- the four frames of a block, where its labels were read
 pub record HasFrames (rate : Rate) (block : Block) (frames : Frames) : Type 0 where
@@ -160,15 +160,7 @@ from_is rate (Some p) events (a ∷ others) block n h lone =
 -- the new event line is that of its block
 begun_is : (rate : Rate) (past : List Statement) (event : EventLine) (frames : Frames) (old : Said) → StandsAtNext rate past old → HasFrames rate (block_behind past event) frames
     → not (is_cut event.kind) && not (follows_cut (block_behind past event) (blocks_in past)) ≡ false
-    → IsPending rate (record {
-      line = old.line;
-      number = event.number;
-      channels = event.channels;
-      kind = event.kind;
-      frames = frames;
-      to = side_of (reel_of event.reel) frames;
-      from = closed_from old.pending event.kind;
-    }) (block_behind past event) (blocks_in past)
+    → IsPending rate (pending_of event frames old) (block_behind past event) (blocks_in past)
 begun_is rate past event frames old h f lone = record {
   line = h.line;
   number = refl;

@@ -5,7 +5,7 @@ pub mod SpeedLines
 pub mod EventLines
 pub mod TakenLines
 pub mod Reading
-pub mod Went
+pub mod PieceProgress
 pub mod Lengths
 pub mod Lateness
 pub mod LineByLine
@@ -13,4 +13,4 @@ pub mod Listing
 pub mod Finishing
 pub mod OneList
 pub mod OneFault
-pub mod Forming
+pub mod FormedLists

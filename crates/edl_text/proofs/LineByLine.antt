@@ -92,7 +92,7 @@ forward : (a b : Bool) → a || b ≡ false → b ≡ false
 forward false b e = e
 forward true b e = cc e
 
-not_below : (n m : ℕ) → nat_lt n m ≡ false → m ≤ n
+pub not_below : (n m : ℕ) → nat_lt n m ≡ false → m ≤ n
 not_below n m e = grind (arith, nat_tests)
 
 runs_on : (rate : Rate) (past : List Statement) (event : EventLine) → fault_behind rate past (Event event) ≡ None

@@ -3,7 +3,7 @@ use Rattle.std.proofs.Common.{◌≡◌, ◌⊎◌, ℕ, ◌<◌, ◌≤◌, Lis
 use Rattle.text_lines.specs.Lines.{lines_of, ended_lines, last_line}
 use Rattle.tick_time.specs.declared.rates.Rate.{Rate}
 use Rattle.edl_line.specs.Statements.{Statement}
-use Rattle.edl_line.proofs.Determined.{says_unique, fault_unique, says_or_fault}
+use Rattle.edl_line.proofs.OneStatement.{says_unique, fault_unique, says_or_fault}
 use Rattle.edl_list.specs.declared.list.Event.{Event}
 use Rattle.edl_list.specs.declared.list.EventList.{EventList}
 use Rattle.edl_text.specs.declared.faults.EdlFault.{EdlFault}

@@ -6,7 +6,7 @@ use Rattle.std.specs.List.{Contains}
 use Rattle.tick_time.specs.declared.rates.Rate.{Rate}
 use Rattle.text_lines.specs.Lines.{lines_of}
 use Rattle.edl_line.specs.Statements.{Statement}
-use Rattle.edl_line.proofs.Determined.{says_unique}
+use Rattle.edl_line.proofs.OneStatement.{says_unique}
 use Rattle.edl_list.specs.declared.list.Event.{Event}
 use Rattle.edl_list.specs.declared.list.EventList.{EventList}
 use Rattle.edl_list.specs.Formed.{rank}

@@ -1,5 +1,5 @@
 -- The faults that show at the end of a list.
-use Rattle.std.specs.Prelude.{◌≡◌, ◌≢◌, ◌⊎◌, ℕ, ◌<◌, ◌-ℤ◌, ◌<ℤ◌, List, None}
+use Rattle.std.specs.Prelude.{◌≡◌, ◌≢◌, ◌⊎◌, ℕ, ◌<◌, ◌-ℤ◌, List, None}
 use Rattle.std.specs.List.{Contains}
 use Rattle.edl_list.specs.declared.list.Event.{Event}
 use Rattle.edl_order.specs.Overlaps.{IsOverlap}

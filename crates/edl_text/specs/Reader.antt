@@ -1,5 +1,6 @@
 -- What a reader of a list was fed.
-use Rattle.std.specs.Prelude.{◌≡◌, ◌≤◌, ℕ, List, [], length, Some, None}
+use Rattle.std.specs.Prelude.{◌≡◌, ◌≤◌, ℕ, List, [], ◌++◌, length, Some, None}
+use Rattle.limits.specs.Limits.{most_bytes}
 use Rattle.text_lines.specs.First.{HasNone}
 use Rattle.text_lines.specs.Lines.{ended_lines, last_line}
 use Rattle.tick_time.specs.declared.rates.Rate.{Rate}
@@ -7,6 +8,7 @@ use Rattle.edl_line.specs.Statements.{Statement}
 use Rattle.edl_text.specs.declared.faults.EdlFault.{EdlFault}
 use Rattle.edl_text.specs.declared.reader.EdlReader.{EdlReader}
 use Rattle.edl_text.specs.Lines.{AreSound}
+use Rattle.edl_text.specs.Lists.{IsEarlyFault}
 use Rattle.edl_text.specs.StateSaid.{Stands}
 
 -- The reader was fed these bytes of a list at that rate, in whatever pieces, and met no fault.
@@ -19,6 +21,17 @@ pub record HasRead (rate : Rate) (bytes : List ℕ) (reader : EdlReader) : Type 
   pub unended : HasNone 10 reader.held.items
   pub sound : reader.fault ≡ None
   pub taken : length bytes ≡ reader.taken
+
+-- The reader goes on: fed these bytes before, it was fed the piece behind them after.
+abbrev pub GoesOn : List ℕ → EdlReader → EdlReader → Type 0
+GoesOn piece old new =
+    (rate : Rate) (bytes : List ℕ) → HasRead rate bytes old → HasRead rate (bytes ++ piece) new
+
+-- With the piece the bytes are few enough for a list, and none of them shows a fault.
+abbrev pub StaysLive : List ℕ → EdlReader → Type 0
+StaysLive piece old = (rate : Rate) (bytes : List ℕ) → HasRead rate bytes old
+    → (length (bytes ++ piece) ≤ most_bytes)
+    × ((fault : EdlFault) → IsEarlyFault rate (bytes ++ piece) fault → ⊥)
 
 -- The reader met this fault.
 abbrev pub HasFailed : EdlFault → EdlReader → Type 0

@@ -157,6 +157,18 @@ pub record IsSameButLines (old new : Said) : Type 0 where
   pub drop : new.drop ≡ old.drop
   pub first : new.first_drop ≡ old.first_drop
 
+-- what is kept of an event line
+abbrev pub pending_of : EventLine → Frames → Said → Pending
+pending_of event frames said = record {
+  line = said.line;
+  number = event.number;
+  channels = event.channels;
+  kind = event.kind;
+  frames = frames;
+  to = side_of (reel_of event.reel) frames;
+  from = closed_from said.pending event.kind;
+}
+
 -- the event line in hand becomes the latest
 pub record Begins (event : EventLine) (frames : Frames) (old new : Said) : Type 0 where
   pub counted : new.rate ≡ old.rate
@@ -165,15 +177,7 @@ pub record Begins (event : EventLine) (frames : Frames) (old new : Said) : Type 
   pub drop : new.drop ≡ old.drop
   pub first : new.first_drop ≡ Some (unwrap_or old.first_drop old.drop)
   pub events : new.events.items ≡ old.events.items ++ closed_events old.pending
-  pub pending : new.pending ≡ Some (record {
-    line = old.line;
-    number = event.number;
-    channels = event.channels;
-    kind = event.kind;
-    frames = frames;
-    to = side_of (reel_of event.reel) frames;
-    from = closed_from old.pending event.kind;
-  })
+  pub pending : new.pending ≡ Some (pending_of event frames old)
 
 -- the latest line is the event line of that block
 pub record IsPending (rate : Rate) (pending : Pending) (block : Block)

@@ -37,7 +37,7 @@ impl EdlReader {
     ghost use Rattle.edl_list.specs.Formed.{IsWellFormed};
     ghost use Rattle.edl_text.specs.Lines.{HasFirstFault};
     ghost use Rattle.edl_text.specs.Lists.{IsList, IsEarlyFault, IsFault};
-    ghost use Rattle.edl_text.specs.Reader.{HasRead, HasFailed};
+    ghost use Rattle.edl_text.specs.Reader.{HasRead, HasFailed, GoesOn, StaysLive};
 
     /// A reader of a list at that rate that was fed nothing. It takes no memory.
     pub fn new(alloc: Global, rate: Rate) -> EdlReader
@@ -75,11 +75,8 @@ impl EdlReader {
             return Err(fault);
         }
         match self.take(piece) {
+            Err(fault) => Err(self.failed(fault)),
             Ok(()) => Ok(()),
-            Err(fault) => {
-                self.fault = Some(fault);
-                Err(fault)
-            }
         }
     }
 
@@ -118,14 +115,19 @@ impl EdlReader {
         }
     }
 
+    /// Keeps a fault, which every later call then answers.
+    fn failed(&mut self, fault: EdlFault) -> EdlFault
+        ensures fault { result ≡ fault }
+        ensures failed { HasFailed result self.new }
+    {
+        self.fault = Some(fault);
+        fault
+    }
+
     /// Reads the next bytes where no fault came before.
     fn take(&mut self, piece: &[u8]) -> Result<(), EdlFault>
-        ensures read { OnOk result ((rate : RateSaid) (bytes : List ℕ)
-            → HasRead rate bytes self.old → HasRead rate (bytes ++ piece.now) self.new) }
-        ensures live { OnOk result ((rate : RateSaid) (bytes : List ℕ)
-            → HasRead rate bytes self.old
-            → (length (bytes ++ piece.now) ≤ most_bytes)
-            × ((fault : EdlFault) → IsEarlyFault rate (bytes ++ piece.now) fault → ⊥)) }
+        ensures read { OnOk result (GoesOn piece.now self.old self.new) }
+        ensures live { OnOk result (StaysLive piece.now self.old) }
         ensures fault { IfErr result (λ fault. (rate : RateSaid) (bytes : List ℕ)
             → HasRead rate bytes self.old → (fault ≡ EdlFault.Memory)
             ⊎ IsEarlyFault rate (bytes ++ piece.now) fault) }
@@ -144,8 +146,7 @@ impl EdlReader {
     /// Reads bytes that there is room for.
     fn take_within(&mut self, piece: &[u8]) -> Result<(), EdlFault>
         requires { self.old.taken + length piece.now ≤ most_bytes }
-        ensures read { OnOk result ((rate : RateSaid) (bytes : List ℕ)
-            → HasRead rate bytes self.old → HasRead rate (bytes ++ piece.now) self.new) }
+        ensures read { OnOk result (GoesOn piece.now self.old self.new) }
         ensures fault { IfErr result (λ fault. (rate : RateSaid) (bytes : List ℕ)
             → HasRead rate bytes self.old → (fault ≡ EdlFault.Memory)
             ⊎ HasFirstFault rate [] (ended_lines (bytes ++ piece.now)) fault) }
@@ -167,8 +168,7 @@ impl EdlReader {
     fn hold(&mut self, piece: &[u8]) -> Result<(), EdlFault>
         requires none { HasNone 10 piece.now }
         requires room { self.old.taken + length piece.now ≤ most_bytes }
-        ensures read { OnOk result ((rate : RateSaid) (bytes : List ℕ)
-            → HasRead rate bytes self.old → HasRead rate (bytes ++ piece.now) self.new) }
+        ensures read { OnOk result (GoesOn piece.now self.old self.new) }
         ensures taken { OnOk result (self.new.taken ≡ self.old.taken + length piece.now) }
         ensures fault { IfErr result (λ fault. fault ≡ EdlFault.Memory) }
     {

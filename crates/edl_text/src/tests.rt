@@ -182,23 +182,14 @@ fn faults(rt: HostRuntime) -> Result<(), Fail> {
 #[test]
 fn faults_of_order(rt: HostRuntime) -> Result<(), Fail> {
     let rate = rate_of("24")?;
-    let table = [
-        (
-            "1 T1 V C 00:00:01:00 00:00:00:00 00:00:00:00 00:00:01:00",
-            EdlFault::Order(1),
-        ),
-        (
-            "1 T1 V C 00:00:00:00 00:00:01:00 00:00:00:00 00:00:01:00\n1 T1 V D 024 00:00:00:00 00:00:01:00 00:00:01:01 00:00:02:01",
-            EdlFault::Order(2),
-        ),
-        (
-            "1 T1 V C 00:00:00:00 00:00:01:00 00:00:00:00 00:00:01:00\n2 T1 B C 00:00:00:00 00:00:01:00 00:00:00:23 00:00:01:23",
-            EdlFault::Overlap(2),
-        ),
-    ];
-    for (text, fault) in table {
-        assert!(rt; fault_of(rt.alloc(), rate, text) == Some(fault), "{text}");
-    }
+    let back = "1 T1 V C 00:00:01:00 00:00:00:00 00:00:00:00 00:00:01:00";
+    assert!(rt; fault_of(rt.alloc(), rate, back) == Some(EdlFault::Order(1)));
+    let apart =
+        "1 T1 V C 00:00:00:00 00:00:01:00 00:00:00:00 00:00:01:00\n1 T1 V D 024 00:00:00:00 00:00:01:00 00:00:01:01 00:00:02:01";
+    assert!(rt; fault_of(rt.alloc(), rate, apart) == Some(EdlFault::Order(2)));
+    let over =
+        "1 T1 V C 00:00:00:00 00:00:01:00 00:00:00:00 00:00:01:00\n2 T1 B C 00:00:00:00 00:00:01:00 00:00:00:23 00:00:01:23";
+    assert!(rt; fault_of(rt.alloc(), rate, over) == Some(EdlFault::Overlap(2)));
     Ok(())
 }
 

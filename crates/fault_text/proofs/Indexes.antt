@@ -1,6 +1,6 @@
 -- A place by its indexes.
 use Rattle.std.proofs.Common.{◌≡◌, ◌≤◌, ◌+◌, ℕ, zero, suc, List, [], ◌∷◌, ◌++◌, Some, drop, length, slice_get, decimal, codes, ap, ◌∙◌, arith}
-use Rattle.dev_io.proofs.Parted.{drop_past}
+use Rattle.dev_io.proofs.PartLemmas.{drop_past}
 use Rattle.fault_text.specs.Places.{more_indexes, place_text}
 
 split_at : (place : List ℕ) (at x : ℕ) → slice_get place at ≡ Some x

@@ -9,7 +9,7 @@ use Rattle.schema_rows.specs.declared.faults.SchemaFault.{SchemaFault}
 use Rattle.schema_rows.specs.declared.faults.SchemaFault.TheVariants as schema
 use Rattle.coord.specs.declared.faults.CoordFault.{CoordFault}
 use Rattle.coord.specs.declared.faults.CoordFault.TheVariants as coord
-use Rattle.fault_text.specs.Reasons.{refusal, number_text, item_text, member_text}
+use Rattle.fault_text.specs.Reasons.{refusal, number_text, item_text, field_text}
 
 -- bytes that are no JSON text
 abbrev pub json_fault_text : JsonFault → List ℕ
@@ -39,7 +39,7 @@ fault_text (schema.UnknownChild place) =
     refusal (codes "S2") (codes "UnknownChild") (item_text place)
 fault_text (schema.Newer place) = refusal (codes "S3") (codes "Newer") (item_text place)
 fault_text (schema.Field place member) =
-    refusal (codes "S4") (codes "Field") (member_text place member)
+    refusal (codes "S4") (codes "Field") (field_text place member)
 fault_text (schema.Rate place) = refusal (codes "S5") (codes "Rate") (item_text place)
 fault_text (schema.Range place) = refusal (codes "S6") (codes "Range") (item_text place)
 fault_text (schema.Transitions place) = refusal (codes "S7") (codes "Transitions") (item_text place)

@@ -14,8 +14,8 @@ abbrev pub item_text : List ℕ → List ℕ
 item_text place = codes " at " ++ place_text place
 
 -- the place of an item, and the name of its member
-abbrev pub member_text : List ℕ → List ℕ → List ℕ
-member_text place member = codes " at " ++ (place_text place ++ (codes " " ++ member))
+abbrev pub field_text : List ℕ → List ℕ → List ℕ
+field_text place member = codes " at " ++ (place_text place ++ (codes " " ++ member))
 
 -- where the fault lies
 abbrev pub detail_text : Detail → List ℕ
@@ -23,7 +23,7 @@ detail_text Nothing = []
 detail_text Root = codes " at ."
 detail_text (Number number) = number_text number
 detail_text (At place) = item_text place
-detail_text (Member place member) = member_text place member
+detail_text (Member place member) = field_text place member
 
 -- a code, the word of the fault and where it lies, up to the end of the line
 abbrev pub refusal : List ℕ → List ℕ → List ℕ → List ℕ

@@ -1,7 +1,7 @@
 //! The reason of each fault.
 
 ghost use Rattle.std.specs.Prelude.{◌≡◌, ◌≢◌, [], MatchOption};
-ghost use Rattle.fault_text.specs.Reasons.{reason_text, refusal, number_text, item_text, member_text};
+ghost use Rattle.fault_text.specs.Reasons.{reason_text, refusal, number_text, item_text, field_text};
 ghost use Rattle.fault_text.specs.Faults.{json_fault_text, list_fault_text, fault_text, coord_fault_text, no_timecode_text, events_text, day_text, not_timeline_text, range_text};
 
 use crate::reasons::{Detail, Reason};
@@ -170,7 +170,7 @@ fn item_reason(code: &'static str, word: &'static str, place: Place) -> Reason
 
 // A fault of a member of the item at a place.
 fn member_reason(code: &'static str, word: &'static str, place: Place, member: Text) -> Reason
-    ensures { reason_text result ≡ refusal code.now word.now (member_text place member) }
+    ensures { reason_text result ≡ refusal code.now word.now (field_text place member) }
 {
     Reason {
         code,

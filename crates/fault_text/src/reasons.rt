@@ -2,7 +2,7 @@
 
 ghost use Rattle.std.specs.Prelude.{◌≡◌};
 ghost use Rattle.dev_io.specs.Buffer.{HandsOver};
-ghost use Rattle.fault_text.specs.Reasons.{detail_text, number_text, item_text, member_text, reason_text};
+ghost use Rattle.fault_text.specs.Reasons.{detail_text, number_text, item_text, field_text, reason_text};
 
 use crate::places::{put_number, put_place};
 use dev_io::{Out, OutBuffer};
@@ -84,7 +84,7 @@ fn put_item<W: Out>(buffer: &mut OutBuffer, out: &mut W, place: &Place)
 // Hands over the place of an item and the name of a member.
 fn put_member<W: Out>(buffer: &mut OutBuffer, out: &mut W, place: &Place, member: &str)
     ensures { HandsOver W.known W.faults out.old out.new buffer.old buffer.new
-        (member_text place.now member.now) }
+        (field_text place.now member.now) }
 {
     buffer.put(out, b" at ");
     put_place(buffer, out, place);

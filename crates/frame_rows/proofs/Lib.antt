@@ -1,6 +1,6 @@
-pub mod Spare
+pub mod SpareLemmas
 pub mod Starts
-pub mod Counted
+pub mod FrameCounts
 pub mod Pieces
-pub mod Sent
+pub mod SentLines
 pub mod Pairs

@@ -3,7 +3,7 @@ use Rattle.std.proofs.Common.{◌≡◌, ℕ, zero, suc, ◌+◌, ◌-◌, ◌<�
 use Rattle.std.specs.List.{flat_map, range_with_len}
 use Rattle.std.proofs.lemmas.List.Concat.{flat_map-cons}
 use Rattle.dev_io.specs.Buffer.{Standing, Puts}
-use Rattle.dev_io.proofs.Buffered.{puts_then, puts_as, puts_none}
+use Rattle.dev_io.proofs.BufferLemmas.{puts_then, puts_as, puts_none}
 use Rattle.frame_rows.specs.Handing.{PutsFront}
 
 -- so many pieces from one on

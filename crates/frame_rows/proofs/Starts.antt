@@ -3,6 +3,7 @@ use Rattle.std.proofs.Common.{◌≡◌, ℕ, ◌+◌, ◌*◌, ◌/◌, ◌%◌
 use Rattle.std.specs.Int.{int_div_euclid}
 use Rattle.std.proofs.lemmas.Int.{ints, fits_signed_from_abs}
 use Rattle.std.proofs.Math.Nat.{mul-le-mul_left}
+use Rattle.limits.specs.Limits.{most_ticks}
 use Rattle.tick_time.specs.declared.times.Time.{Time}
 use Rattle.tick_time.specs.Rates.{frame}
 use Rattle.tick_time.proofs.Units.{unit_positive}
@@ -15,10 +16,10 @@ pub record IsNear (z : ℤ) : Type 0 where
   pub low : (pos 0 -ℤ pos 705600000000000001) ≤ℤ z
   pub high : z ≤ℤ pos 705600000000000001
 
-near_in : (n d q r : ℕ) → 1000000 ≤ d → n ≤ 705600000000000000000000 → d * q + r ≡ n → q ≤ 705600000000000000
+near_in : (n d q r : ℕ) → 1000000 ≤ d → n ≤ most_ticks → d * q + r ≡ n → q ≤ 705600000000000000
 near_in n d q r some small e = grind (arith, mul-le-mul_left)
 
-near_quotient : (z : ℤ) (d : ℕ) → 1000000 ≤ d → (pos 0 -ℤ pos 705600000000000000000000) ≤ℤ z → z ≤ℤ pos 705600000000000000000000 → IsNear (int_div_euclid z (pos d))
+near_quotient : (z : ℤ) (d : ℕ) → 1000000 ≤ d → (pos 0 -ℤ pos most_ticks) ≤ℤ z → z ≤ℤ pos most_ticks → IsNear (int_div_euclid z (pos d))
 near_quotient (pos n) d some low high =
     let small = near_in n d (n / d) (n % d) some (omega (arith, ints)) (omega arith) in
     record { low = omega (arith, ints); high = omega (arith, ints) }

@@ -28,12 +28,12 @@ abbrev pub frames_between : ℤ → ℤ → ℕ
 frames_between from end = cond (int_le end from) 0 (unsigned_abs (end -ℤ from))
 
 -- so many frames are listed at most where no count is given
-abbrev pub most_frames : ℕ
-most_frames = 100000
+abbrev pub most_listed : ℕ
+most_listed = 100000
 
 -- how many frames are listed from one on where no count is given
 abbrev pub frames_left : Timeline → ℤ → ℕ
-frames_left t from = min most_frames (frames_between from (end_frame t))
+frames_left t from = min most_listed (frames_between from (end_frame t))
 
 -- the first frame that is listed: that of a point at the record rate, none where it is a label that
 -- is none at that rate; else the first of the timeline

@@ -10,7 +10,7 @@ ghost use Rattle.coord.specs.Soundness.{IsFaultless};
 ghost use Rattle.show_prog.specs.Clocks.{IsClockOf};
 ghost use Rattle.frame_rows.specs.Rows.{line, lines_at, rows, children_listed as listed, listing_text};
 ghost use Rattle.frame_rows.specs.Faults.{HasRowCause};
-ghost use Rattle.frame_rows.specs.Handing.{PutsAll, indexes};
+ghost use Rattle.frame_rows.specs.Handing.{PutsAll, indexes, IsSelection};
 
 use crate::listing::{Listing, RowFault};
 use dev_io::{Out, OutBuffer};
@@ -29,6 +29,15 @@ pub(crate) struct Indexes {
     first: usize,
     /// The index behind the last.
     past: usize,
+}
+
+/// What is listed of a timeline at each frame, and how its frames are counted.
+#[derive(Clone, Copy)]
+pub(crate) struct Selection {
+    /// The timeline's own clock.
+    clock: Clock,
+    /// The root children that are listed.
+    children: Indexes,
 }
 
 // The children that are listed, of so many.
@@ -123,21 +132,18 @@ fn put_lines<W: Out>(
     buffer: &mut OutBuffer,
     out: &mut W,
     timeline: &Timeline,
-    clock: Clock,
-    children: Indexes,
+    selection: Selection,
     frame: i128,
 ) -> Result<(), AllocError>
     requires few { count_all timeline.now.tracks.children < 2 ^ 32 }
     requires sound { IsFaultless timeline.now }
-    requires clock { IsClockOf timeline.now clock }
-    requires ordered { children.first ≤ children.past }
-    requires within { children.past ≤ length (items_of timeline.now.tracks.children) }
+    requires selection { IsSelection timeline.now selection }
     ensures { PutsAll (standing W.known W.faults out.old buffer.old)
         (standing W.known W.faults out.new buffer.new)
-        (lines_at timeline.now (indexes children) frame) result }
+        (lines_at timeline.now (indexes selection.children) frame) result }
 {
-    'children: for child in children.first..children.past {
-        match put_line(alloc, buffer, out, timeline, clock, frame, child) {
+    'children: for child in selection.children.first..selection.children.past {
+        match put_line(alloc, buffer, out, timeline, selection.clock, frame, child) {
             Ok(()) => {}
             Err(error) => return Err(error),
         }
@@ -151,21 +157,18 @@ fn put_rows<W: Out>(
     buffer: &mut OutBuffer,
     out: &mut W,
     timeline: &Timeline,
-    clock: Clock,
-    children: Indexes,
+    selection: Selection,
     from: i128,
     count: u32,
 ) -> Result<(), AllocError>
     requires few { count_all timeline.now.tracks.children < 2 ^ 32 }
     requires sound { IsFaultless timeline.now }
-    requires clock { IsClockOf timeline.now clock }
-    requires ordered { children.first ≤ children.past }
-    requires within { children.past ≤ length (items_of timeline.now.tracks.children) }
+    requires selection { IsSelection timeline.now selection }
     requires low { (pos 0 -ℤ pos (2 ^ 64)) ≤ℤ from }
     requires high { from ≤ℤ pos (2 ^ 64) }
     ensures { PutsAll (standing W.known W.faults out.old buffer.old)
         (standing W.known W.faults out.new buffer.new)
-        (rows timeline.now (indexes children) from count) result }
+        (rows timeline.now (indexes selection.children) from count) result }
 {
     'frames: for index in 0..count {
         match put_lines(
@@ -173,8 +176,7 @@ fn put_rows<W: Out>(
             buffer,
             out,
             timeline,
-            clock,
-            children,
+            selection,
             frame_after(from, index),
         ) {
             Ok(()) => {}
@@ -188,34 +190,23 @@ fn put_rows<W: Out>(
 fn send_rows<W: Out>(
     alloc: Global,
     timeline: &Timeline,
-    clock: Clock,
-    children: Indexes,
+    selection: Selection,
     from: i128,
     count: u32,
     out: &mut W,
 ) -> Result<(), RowFault>
     requires few { count_all timeline.now.tracks.children < 2 ^ 32 }
     requires sound { IsFaultless timeline.now }
-    requires clock { IsClockOf timeline.now clock }
-    requires ordered { children.first ≤ children.past }
-    requires within { children.past ≤ length (items_of timeline.now.tracks.children) }
+    requires selection { IsSelection timeline.now selection }
     requires low { (pos 0 -ℤ pos (2 ^ 64)) ≤ℤ from }
     requires high { from ≤ℤ pos (2 ^ 64) }
-    ensures told { Tells (SendsAll (rows timeline.now (indexes children) from count) result)
+    ensures told { Tells (SendsAll
+        (rows timeline.now (indexes selection.children) from count) result)
         (W.known out.old) (W.known out.new) }
     ensures cause { HasRowCause (W.faults out.old) (W.faults out.new) result }
 {
     let mut buffer = OutBuffer::new();
-    match put_rows(
-        alloc,
-        &mut buffer,
-        out,
-        timeline,
-        clock,
-        children,
-        from,
-        count,
-    ) {
+    match put_rows(alloc, &mut buffer, out, timeline, selection, from, count) {
         Ok(()) => {}
         Err(_) => return Err(RowFault::Memory),
     }
@@ -245,6 +236,7 @@ pub fn write_rows<W: Out>(
 {
     let clock = clock_of(timeline);
     let children = children_listed(listing.child, timeline.tracks.children.len());
+    let selection = Selection { clock, children };
     let from = i128::from(listing.from);
     let mut sent: u32 = 0;
     'parts: while sent < listing.count {
@@ -252,8 +244,7 @@ pub fn write_rows<W: Out>(
         match send_rows(
             alloc,
             timeline,
-            clock,
-            children,
+            selection,
             frame_after(from, sent),
             count,
             out,

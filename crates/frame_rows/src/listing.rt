@@ -11,7 +11,7 @@ use otio_model::Timeline;
 use record_points::{RecordPoint, frame_at};
 
 /// How many record frames are listed at most where no count is given.
-const MOST_FRAMES: i128 = 100_000;
+const MOST_LISTED: i128 = 100_000;
 
 /// What is listed of a timeline.
 #[derive(Clone, Copy, Debug, PartialEq, Eq)]
@@ -76,13 +76,13 @@ fn end_frame(timeline: &Timeline) -> i128
 fn frames_between(from: i64, end: i128) -> u32
     requires low { (pos 0 -ℤ pos (2 ^ 63)) ≤ℤ end }
     requires high { end ≤ℤ pos (2 ^ 111) }
-    ensures { result ≡ min rows.most_frames (rows.frames_between from end) }
+    ensures { result ≡ min rows.most_listed (rows.frames_between from end) }
 {
     let from = i128::from(from);
     if end <= from {
         return 0;
     }
-    (end - from).min(MOST_FRAMES) as u32
+    (end - from).min(MOST_LISTED) as u32
 }
 
 // How many frames are listed from one on where no count is given.

@@ -8,6 +8,7 @@ use coord::sound;
 use dev_io::MemOut;
 use otio_model::{
     Children, Clip, Effects, Gap, Item, ItemOf, Items, Markers, MediaMap, Stack, StackOf, Timeline,
+    TrackOf,
 };
 use record_points::RecordPoint;
 use sequences::{NamedValues, Text};
@@ -17,18 +18,18 @@ use tick_time::{Decimal, Rate, Span, Time};
 
 fn rate_24() -> Option<Rate> {
     let decimal = Decimal {
-        neg: false,
-        digits: 24,
         exp: 0,
+        digits: 24,
+        neg: false,
     };
     Rate::of(&decimal).ok()
 }
 
 fn rate_25() -> Option<Rate> {
     let decimal = Decimal {
-        neg: false,
-        digits: 25,
         exp: 0,
+        digits: 25,
+        neg: false,
     };
     Rate::of(&decimal).ok()
 }
@@ -37,9 +38,9 @@ fn frames(count: i64, rate: Option<Rate>) -> Option<Time> {
     Time::frames(count, rate?).ok()
 }
 
-/// So many frames at 24 frames a second, from 0 on.
-fn span(len: i64) -> Option<Span> {
-    let start = frames(0, rate_24())?;
+/// So many frames at 24 frames a second, from one on.
+fn span(start: i64, len: i64) -> Option<Span> {
+    let start = frames(start, rate_24())?;
     let len = frames(len, rate_24())?;
     if len.ticks < 0 {
         return None;
@@ -56,13 +57,13 @@ fn clip(alloc: Global, name: Text, source_range: Option<Span>) -> Item
     ensures { count_of result ≡ 1 }
 {
     ItemOf::Clip(Clip {
-        metadata: NamedValues::new(alloc),
         name,
         source_range,
-        effects: Effects::new(alloc),
-        markers: Markers::new(alloc),
         enabled: true,
         media_references: MediaMap::new(alloc),
+        effects: Effects::new(alloc),
+        markers: Markers::new(alloc),
+        metadata: NamedValues::new(alloc),
         active_media_reference_key: nameless(alloc),
         rest: NamedValues::new(alloc),
     })
@@ -72,13 +73,13 @@ fn gap(alloc: Global, source_range: Option<Span>) -> Item
     ensures { count_of result ≡ 1 }
 {
     ItemOf::Gap(Gap {
-        metadata: NamedValues::new(alloc),
-        name: nameless(alloc),
         source_range,
-        effects: Effects::new(alloc),
-        markers: Markers::new(alloc),
+        name: nameless(alloc),
         enabled: true,
+        markers: Markers::new(alloc),
+        effects: Effects::new(alloc),
         rest: NamedValues::new(alloc),
+        metadata: NamedValues::new(alloc),
     })
 }
 
@@ -96,14 +97,14 @@ fn root(alloc: Global, children: Children) -> Stack
     ensures { result.children ≡ children }
 {
     StackOf {
-        metadata: NamedValues::new(alloc),
-        name: nameless(alloc),
         source_range: None,
+        children,
+        metadata: NamedValues::new(alloc),
+        rest: NamedValues::new(alloc),
+        name: nameless(alloc),
+        enabled: true,
         effects: Effects::new(alloc),
         markers: Markers::new(alloc),
-        enabled: true,
-        children,
-        rest: NamedValues::new(alloc),
     }
 }
 
@@ -112,7 +113,11 @@ fn timeline(alloc: Global, start: Option<Time>, len: i64) -> Result<Timeline, Al
     ensures { IfOk result (λ timeline. count timeline.tracks.children ≡ 2) }
 {
     let name = Text::of(alloc, "c")?;
-    let children = two(alloc, gap(alloc, span(1)), clip(alloc, name, span(len)))?;
+    let children = two(
+        alloc,
+        gap(alloc, span(0, 1)),
+        clip(alloc, name, span(0, len)),
+    )?;
     Ok(Timeline::of(
         alloc,
         NamedValues::new(alloc),
@@ -133,18 +138,76 @@ fn listed(
     Ok(listing_of(&timeline, Some(1), start, count))
 }
 
-/// Sends what is listed of a clip of two frames at 24 frames a second. `None` where that isn't
-/// sound.
+/// Sends what is listed of a timeline, once that is made. `None` where it has too many items or
+/// isn't sound.
+fn sent_of(
+    alloc: Global,
+    made: Result<Timeline, AllocError>,
+    listing: &Listing,
+    out: &mut MemOut,
+) -> Result<Option<Result<(), RowFault>>, AllocError> {
+    let timeline = made?;
+    if 4_294_967_296 <= timeline.tracks.children.items_below() {
+        return Ok(None);
+    }
+    match sound(alloc, &timeline) {
+        Ok(()) => Ok(Some(write_rows(alloc, &timeline, listing, out))),
+        Err(_) => Ok(None),
+    }
+}
+
+/// Sends what is listed of a clip of two frames at 24 frames a second.
 fn written(
     alloc: Global,
     listing: &Listing,
     out: &mut MemOut,
 ) -> Result<Option<Result<(), RowFault>>, AllocError> {
-    let timeline = timeline(alloc, None, 2)?;
-    match sound(alloc, &timeline) {
-        Ok(()) => Ok(Some(write_rows(alloc, &timeline, listing, out))),
-        Err(_) => Ok(None),
+    sent_of(alloc, timeline(alloc, None, 2), listing, out)
+}
+
+/// So many clips of one frame, each of the frame of its media that has its index.
+fn clips(alloc: Global, count: i64) -> Result<Items, AllocError> {
+    let mut list = Vec::new(alloc);
+    'clips: for index in 0..count {
+        let name = Text::of(alloc, "c")?;
+        list.push(clip(alloc, name, span(index, 1)))?;
     }
+    Ok(Items::of(list))
+}
+
+fn track(alloc: Global, children: Children) -> Item {
+    ItemOf::Track(TrackOf {
+        kind: nameless(alloc),
+        name: nameless(alloc),
+        source_range: None,
+        children,
+        rest: NamedValues::new(alloc),
+        metadata: NamedValues::new(alloc),
+        enabled: true,
+        markers: Markers::new(alloc),
+        effects: Effects::new(alloc),
+    })
+}
+
+/// A timeline of one track of so many clips of one frame.
+fn long_timeline(alloc: Global, count: i64) -> Result<Timeline, AllocError> {
+    let children = Children::of(alloc, clips(alloc, count)?)?;
+    let mut items = Items::new(alloc);
+    items.push(track(alloc, children))?;
+    let tracks = root(alloc, Children::of(alloc, items)?);
+    let metadata = NamedValues::new(alloc);
+    let rest = NamedValues::new(alloc);
+    Ok(Timeline::of(alloc, metadata, nameless(alloc), None, tracks, rest))
+}
+
+/// Sends what is listed of a track of so many clips of one frame.
+fn written_long(
+    alloc: Global,
+    count: i64,
+    listing: &Listing,
+    out: &mut MemOut,
+) -> Result<Option<Result<(), RowFault>>, AllocError> {
+    sent_of(alloc, long_timeline(alloc, count), listing, out)
 }
 
 #[test]
@@ -222,5 +285,30 @@ fn a_stream_that_fails_ends_the_lines(rt: HostRuntime) -> Result<(), Fail> {
     // the lines of frames 0 to 255, of which the first 10, 90 and 156 have one, two and three
     // digits
     assert_eq!(rt; out.sent().len(), 10 * 6 + 90 * 7 + 156 * 8);
+    Ok(())
+}
+
+/// The lines of so many clips of one frame: frame i shows the frame of number i of its media.
+fn lines_of_clips(alloc: Global, count: i64) -> Result<String, AllocError> {
+    let mut lines = String::new(alloc);
+    'lines: for index in 0..count {
+        let line = format!(in alloc; "{index} 0 name:\"c\"@{index}\n")?;
+        lines.push_str(line.as_str())?;
+    }
+    Ok(lines)
+}
+
+#[test]
+fn each_frame_of_99_000_clips_is_shown(rt: HostRuntime) -> Result<(), Fail> {
+    let mut out = MemOut::new(rt.alloc(), 3_000_000)?;
+    let listing = Listing {
+        child: Some(0),
+        from: 0,
+        count: 99_000,
+    };
+    let shown = written_long(rt.alloc(), 99_000, &listing, &mut out)?;
+    assert_eq!(rt; shown, Some(Ok(())));
+    let lines = lines_of_clips(rt.alloc(), 99_000)?;
+    assert!(rt; out.sent() == lines.as_bytes());
     Ok(())
 }

@@ -3,7 +3,7 @@ use Rattle.std.proofs.Common.{◌≡◌, ℕ, suc, ◌+◌, Bool, true, false, L
 use Rattle.std.specs.Str.{IsUtf8}
 use Rattle.sequences.specs.Pairs.{names_of, AreDistinct}
 use Rattle.json_value.specs.declared.Json.{Json, Null, Bool as JsonOfBool, Num, Str, List as JsonOfList, Map as JsonOfMap}
-use Rattle.json_text.specs.Numeral.{IsNumeral}
+use Rattle.json_text.specs.Numeral.{IsJsonNumeral}
 use Rattle.json_text.specs.Grammar.{Value, blank as value_blank, null as value_null, yes, no, number as value_number, string as value_string, list as value_list, map as value_map, Items, Pairs, Pair, pair_named, colon_here}
 use Rattle.json_layout.specs.Strings.{escaped, quoted}
 use Rattle.json_layout.specs.Layout.{text_at, newline, item_lines, member_lines, member_text, list_text, object_text}
@@ -18,7 +18,7 @@ pub bool_at : (room n : ℕ) (b : Bool) (rest : List ℕ) → Value room (text_a
 bool_at room n true rest = rw (text_at-Bool true n) (yes _ _ _ _ refl refl)
 bool_at room n false rest = rw (text_at-Bool false n) (no _ _ _ _ refl refl)
 
-pub number_at : (room n : ℕ) (numeral rest : List ℕ) → IsNumeral numeral → Value room (text_at (Num numeral) n ++ rest) (Num numeral) rest
+pub number_at : (room n : ℕ) (numeral rest : List ℕ) → IsJsonNumeral numeral → Value room (text_at (Num numeral) n ++ rest) (Num numeral) rest
 number_at room n numeral rest h = rw (text_at-Num numeral n) (value_number _ _ _ _ numeral refl refl h)
 
 -- a string, and what follows it

@@ -1,15 +1,15 @@
 -- What a text stands for is a JSON value.
-use Rattle.std.proofs.Common.{◌≡◌, ◌≢◌, ◌<◌, ◌≤◌, ℕ, Bool, true, false, List, [], ◌∷◌, Some, refl, sym, subst, arith, cond, ◌&&◌}
+use Rattle.std.proofs.Common.{◌≡◌, ◌<◌, ℕ, Bool, true, false, List, [], ◌∷◌, Some, refl, sym, subst, arith}
 use Rattle.std.proofs.lemmas.Bool.Decides.{nat_tests}
 use Rattle.std.specs.Char.{IsScalar, encode_utf8}
 use Rattle.std.specs.Str.{IsUtf8, bytes_eq}
 use Rattle.std.proofs.lemmas.Str.{encode_ascii, IsUtf8-append, IsUtf8-encode, IsUtf8-nil}
-use Rattle.std.proofs.lemmas.Slice.Eq.{bytes_eq-Decides}
 use lib.Utf8.{low_scalar}
-use lib.Dec.{ltb, leb}
-use Rattle.sequences.specs.Pairs.{names_of, IsNew, AreDistinct, put, put_all, merged}
+use Rattle.sequences.specs.Pairs.{names_of, AreDistinct, put, put_all, merged}
 use Rattle.json_value.specs.declared.Json.{Json}
 use Rattle.json_text.specs.Grammar.{Chars, close, plain, short, code, pair, escaped, joined, IsHigh, IsLow, Value, blank, null, yes, no, number, string, list, map, Items, items_blank, items_none, items_some, MoreItems, more_items_blank, more_items_done, more_items_next, Pairs, pairs_blank, pairs_none, pairs_some, MorePairs, more_pairs_blank, more_pairs_done, more_pairs_next, Pair, pair_blank, pair_named}
+use Rattle.json_text.proofs.Utf8Lemmas.{high_scalar}
+use Rattle.sequences.proofs.PairLemmas.{AreDistinct-put}
 use Rattle.json_law.specs.Written as W
 
 -- a short escape stands for an ASCII character
@@ -18,13 +18,6 @@ escaped_ascii b c e = grind (arith, nat_tests)
 
 IsUtf8-ascii : (c : ℕ) → c < 128 → IsUtf8 (c ∷ [])
 IsUtf8-ascii c h = subst IsUtf8 (encode_ascii c h) (IsUtf8-encode c (low_scalar c (omega arith)))
-
-in_second : (t x y : Bool) → x ≡ true → y ≡ true → cond t true (x && y) ≡ true
-in_second true x y ex ey = refl
-in_second false x y ex ey = rw (ex, ey) refl
-
-high_scalar : (c : ℕ) → 57344 ≤ c → c < 1114112 → IsScalar c
-high_scalar c above below = in_second (ltb c 55296) (leb 57344 c) (ltb c 1114112) (grind (arith, nat_tests)) (grind (arith, nat_tests))
 
 joined_scalar : (high low : ℕ) → IsHigh high → IsLow low → IsScalar (joined high low)
 joined_scalar high low h l = high_scalar (joined high low) (omega (arith, h.0, h.1, l.0, l.1)) (omega (arith, h.0, h.1, l.0, l.1))
@@ -39,26 +32,6 @@ chars_utf8 bytes text rest (pair _ _ _ high low more mid next end after e d hi g
     subst IsUtf8 (sym f) (IsUtf8-append (encode_utf8 (joined high low)) after (IsUtf8-encode (joined high low) (joined_scalar high low hi lo)) (chars_utf8 end after rest h))
 
 -- merged pairs have distinct names
-IsNew-put : {X : Type 0} (m n : List ℕ) (x : X) (ps : List (List ℕ × X)) → m ≢ n → IsNew m (names_of ps) → IsNew m (names_of (put n x ps))
-IsNew-put m n x [] e h = (e, tt)
-IsNew-put m n x (p ∷ ps) e h = by (bytes_eq n p.0) refl (IsNew-put m n x ps e h.1) where
-  by : (t : Bool) → bytes_eq n p.0 ≡ t → IsNew m (names_of (put n x ps)) → IsNew m (names_of (put n x (p ∷ ps)))
-  by true q below = rw q (e, h.1)
-  by false q below = rw q (h.0, below)
-
-same_name : (m n : List ℕ) → bytes_eq m n ≡ true → m ≡ n
-same_name m n h = grind (arith, bytes_eq-Decides m n)
-
-other_name : (m n : List ℕ) → bytes_eq m n ≡ false → n ≢ m
-other_name m n h e = grind (arith, bytes_eq-Decides m n)
-
-AreDistinct-put : {X : Type 0} (n : List ℕ) (x : X) (ps : List (List ℕ × X)) → AreDistinct (names_of ps) → AreDistinct (names_of (put n x ps))
-AreDistinct-put n x [] h = (tt, tt)
-AreDistinct-put n x (p ∷ ps) h = by (bytes_eq n p.0) refl (AreDistinct-put n x ps h.1) where
-  by : (t : Bool) → bytes_eq n p.0 ≡ t → AreDistinct (names_of (put n x ps)) → AreDistinct (names_of (put n x (p ∷ ps)))
-  by true q below = rw q (subst (λ k. IsNew k (names_of ps)) (sym (same_name n p.0 q)) h.0, h.1)
-  by false q below = rw q (IsNew-put p.0 n x ps (other_name n p.0 q) h.0, below)
-
 AreDistinct-put_all : {X : Type 0} (ks ps : List (List ℕ × X)) → AreDistinct (names_of ks) → AreDistinct (names_of (put_all ks ps))
 AreDistinct-put_all ks [] h = h
 AreDistinct-put_all ks (p ∷ ps) h = AreDistinct-put_all (put p.0 p.1 ks) ps (AreDistinct-put p.0 p.1 ks h)

@@ -4,7 +4,7 @@ use Rattle.std.specs.Str.{IsUtf8}
 use Rattle.sequences.specs.Pairs.{names_of, AreDistinct}
 use Rattle.json_value.specs.declared.Json.{Json}
 use Rattle.json_value.specs.declared.Json.TheVariants.{Null, Bool as JsonOfBool, Num, Str, List as JsonOfList, Map as JsonOfMap}
-use Rattle.json_text.specs.Numeral.{IsNumeral}
+use Rattle.json_text.specs.Numeral.{IsJsonNumeral}
 use Rattle.json_text.specs.Grammar.{text_of}
 use Rattle.json_layout.specs.Layout.{layout}
 
@@ -14,8 +14,8 @@ mutual
   pub data IsJson : ℕ → Json → Type 0 where
     null : (room : ℕ) (value : Json) → value ≡ Null → IsJson room value
     truth : (room : ℕ) (value : Json) (b : Bool) → value ≡ JsonOfBool b → IsJson room value
-    number : (room : ℕ) (value : Json) (numeral : List ℕ) → value ≡ Num numeral → IsNumeral numeral
-        → IsJson room value
+    number : (room : ℕ) (value : Json) (numeral : List ℕ) → value ≡ Num numeral
+        → IsJsonNumeral numeral → IsJson room value
     string : (room : ℕ) (value : Json) (text : List ℕ) → value ≡ Str text → IsUtf8 text
         → IsJson room value
     list : (room : ℕ) (value : Json) (inner : ℕ) (items : List Json) → room ≡ suc inner

@@ -6,7 +6,7 @@ use Rattle.sequences.specs.Pairs.{merged}
 use Rattle.json_value.specs.declared.Json.{Json}
 use Rattle.json_value.specs.declared.Json.TheVariants.{Num, Str, List as JsonOfList, Map as JsonOfMap}
 use Rattle.json_text.specs.Grammar.{AreBlank, joined, IsHigh, IsLow, IsDigit16, FourDigits, Chars, Colon, Value, Items, MoreItems, Pairs, MorePairs, Pair}
-use Rattle.json_text.specs.State.Machine.{Part, plain, escape, code, high, slash, low, tail, Hand, value, first_item, first_name, next_name, colon, behind, done, word, number, text, State, next_place, ends}
+use Rattle.json_text.specs.State.Machine.{StringPlace, plain, escape, code, high, slash, low, tail, Hand, value, first_item, first_name, next_name, colon, behind, done, word, number, text, MachineState, next_place, ends}
 use Rattle.json_text.specs.declared.state.Stop.{Stop}
 use Rattle.json_text.specs.declared.state.Digits.{Digits}
 use Rattle.json_text.specs.declared.state.Digits.TheVariants.{Zero as NoDigit, One, Two, Three}
@@ -101,7 +101,7 @@ raw (Two a b) = a ∷ b ∷ []
 raw (Three a b c) = a ∷ b ∷ c ∷ []
 
 -- the bytes are the rest of a string's characters, from a place in it
-abbrev pub In : Part → List ℕ → List ℕ → List ℕ → Type 0
+abbrev pub In : StringPlace → List ℕ → List ℕ → List ℕ → Type 0
 In plain bytes more rest = Chars bytes more rest
 In escape bytes more rest = Chars (92 ∷ bytes) more rest
 In (code digits) bytes more rest = Chars (92 ∷ 117 ∷ (raw digits ++ bytes)) more rest
@@ -118,7 +118,7 @@ Ends limit [] Name t rest v = ⊥
 Ends limit (LevelOfList xs ∷ ls) Name t rest v = ⊥
 Ends limit (LevelOfMap ps old ∷ ls) Name t rest v = OfColon limit (LevelOfMap ps t ∷ ls) rest v
 
-abbrev pub OfText : ℕ → List Level → Role → List ℕ → Part → List ℕ → Json → Type 0
+abbrev pub OfText : ℕ → List Level → Role → List ℕ → StringPlace → List ℕ → Json → Type 0
 OfText limit levels role t part bytes v = (more : List ℕ) × (rest : List ℕ) × In part bytes more rest × Ends limit levels role (t ++ more) rest v
 
 -- the bytes finish what the machine has begun, to the value v
@@ -135,7 +135,7 @@ Finishes limit levels (number t place) bytes v = OfNumber limit levels t place b
 Finishes limit levels (text role t part) bytes v = OfText limit levels role t part bytes v
 
 -- what a step comes to
-abbrev pub Goes : ℕ → Result State Stop → List ℕ → Json → Type 0
+abbrev pub Goes : ℕ → Result MachineState Stop → List ℕ → Json → Type 0
 Goes limit (Ok s) bytes v = Finishes limit s.levels s.hand bytes v
 Goes limit (Err stop) bytes v = ⊥
 
@@ -157,7 +157,7 @@ abbrev pub AreRanges : List (ℕ × ℕ) → Type 0
 AreRanges [] = Unit {0}
 AreRanges (r ∷ rs) = ((128 ≤ r.0) × (r.0 ≤ r.1)) × AreRanges rs
 
-abbrev pub IsPart : Part → List ℕ → Type 0
+abbrev pub IsPart : StringPlace → List ℕ → Type 0
 IsPart plain t = IsUtf8 t
 IsPart escape t = IsUtf8 t
 IsPart (code digits) t = IsUtf8 t × IsCode digits

@@ -3,7 +3,7 @@ use Rattle.std.proofs.Common.{◌≡◌, ℕ, ◌≤◌, List, [], ◌∷◌, �
 use Rattle.std.proofs.lemmas.Bool.Decides.{nat_tests}
 use Rattle.std.specs.Prelude.{◌==◌}
 use Rattle.std.specs.Char.{is_ascii_digit}
-use Rattle.json_text.specs.Numeral.{AreDigits, SomeDigits, IsWhole, IsFraction, IsSigned, IsExponent, IsMinus, IsNumeral}
+use Rattle.json_text.specs.Numeral.{AreDigits, SomeDigits, IsWhole, IsFraction, IsSigned, IsExponent, IsMinus, IsJsonNumeral}
 use Rattle.json_text.specs.State.Machine.{next_place, behind_whole, ends}
 use Rattle.json_text.specs.declared.state.Place.{Place}
 use Rattle.json_text.specs.declared.state.Place.TheVariants.{Minus, Nought, Whole, Point, Fraction, Exponent, Sign, Power}
@@ -98,7 +98,7 @@ numeral_parts ms (b ∷ ws) fs es (inl m) w f e =
 numeral_parts ms (b ∷ ws) fs es (inr m) w f e =
     subst (λ x. Completed (x ++ ((b ∷ ws) ++ (fs ++ es)))) (sym m) (whole_to (next_place Minus) refl minus_whole b ws fs es w f e)
 
-pub numeral_to : (bs : List ℕ) → IsNumeral bs → Completed bs
+pub numeral_to : (bs : List ℕ) → IsJsonNumeral bs → Completed bs
 numeral_to bs h = subst Completed (sym h.8) (numeral_parts h.0 h.1 h.2 h.3 h.4 h.5 h.6 h.7)
 
 -- ---- what completes the machine is a numeral
@@ -223,17 +223,17 @@ unsigned_from b bs h =
       | inr g ↦ elim (either (is_ascii_digit b) (Some Whole) None bs g.1) as (λ _. IsUnsigned (b ∷ bs)) [ inl k ↦ unsigned_whole b bs (digit_range b k.0 g.0) k.1 | inr k ↦ absurd k.1 ]
     ]
 
-minus_from : (b : ℕ) (bs : List ℕ) → b ≡ 45 → Completes (Some Minus) bs → IsNumeral (b ∷ bs)
+minus_from : (b : ℕ) (bs : List ℕ) → b ≡ 45 → Completes (Some Minus) bs → IsJsonNumeral (b ∷ bs)
 minus_from b [] e h = cc h
 minus_from b (d ∷ bs) e h = let r = unsigned_from d bs h in (b ∷ [], r.whole, r.fraction, r.exponent, inr (ap (λ x. x ∷ []) e), r.begins, r.has, r.ends_so, ap (λ l. b ∷ l) r.is)
 
-plain_from : (b : ℕ) (bs : List ℕ) → Completes (cond (b == 48) (Some Nought) (cond (is_ascii_digit b) (Some Whole) None)) bs → IsNumeral (b ∷ bs)
+plain_from : (b : ℕ) (bs : List ℕ) → Completes (cond (b == 48) (Some Nought) (cond (is_ascii_digit b) (Some Whole) None)) bs → IsJsonNumeral (b ∷ bs)
 plain_from b bs h = let r = unsigned_from b bs h in ([], r.whole, r.fraction, r.exponent, inl refl, r.begins, r.has, r.ends_so, r.is)
 
-pub numeral_from : (bs : List ℕ) → Completed bs → IsNumeral bs
+pub numeral_from : (bs : List ℕ) → Completed bs → IsJsonNumeral bs
 numeral_from [] h = absurd h
 numeral_from (b ∷ bs) h =
-    elim (either (b == 45) (Some Minus) (cond (b == 48) (Some Nought) (cond (is_ascii_digit b) (Some Whole) None)) bs h) as (λ _. IsNumeral (b ∷ bs)) [
+    elim (either (b == 45) (Some Minus) (cond (b == 48) (Some Nought) (cond (is_ascii_digit b) (Some Whole) None)) bs h) as (λ _. IsJsonNumeral (b ∷ bs)) [
       | inl g ↦ minus_from b bs (is_byte b 45 g.0) g.1
       | inr g ↦ plain_from b bs g.1
     ]

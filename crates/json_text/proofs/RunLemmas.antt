@@ -4,7 +4,7 @@ use Rattle.std.proofs.lemmas.Bool.Decides.{nat_tests}
 use Rattle.std.proofs.lemmas.List.{take_more, take_all}
 use lib.Seq.{take-add}
 use Rattle.std.specs.Prelude.{◌==◌, nat_lt, true, false, drop}
-use Rattle.json_text.specs.Grammar.{is_blank, AreBlank}
+use Rattle.json_text.specs.Grammar.{is_whitespace, AreBlank}
 use Rattle.json_text.specs.State.Runs.{is_plain, ArePlain}
 use Rattle.json_text.specs.Numeral.{AreDigits}
 use Rattle.std.specs.Char.{is_ascii_digit}
@@ -14,33 +14,33 @@ use Rattle.json_text.specs.declared.state.Role.{Role}
 use Rattle.json_text.specs.declared.state.Level.{Level}
 use Rattle.json_text.proofs.Steps.{begin_blank, at_blank}
 use Rattle.json_text.specs.declared.state.Stop.{Stop}
-use Rattle.json_text.specs.State.Machine.{State, state, value, next_name, number, text, plain, name_next, next_place, number_goes, run, run_on, step}
+use Rattle.json_text.specs.State.Machine.{MachineState, state, value, next_name, number, text, plain, name_next, next_place, number_goes, run, run_on, step}
 
-pub run_on-append : (limit : ℕ) (r : Result State Stop) (xs ys : List ℕ) → run_on limit r (xs ++ ys) ≡ run_on limit (run_on limit r xs) ys
+pub run_on-append : (limit : ℕ) (r : Result MachineState Stop) (xs ys : List ℕ) → run_on limit r (xs ++ ys) ≡ run_on limit (run_on limit r xs) ys
 run_on-append limit (Err stop) xs ys = refl
 run_on-append limit (Ok s) [] ys = refl
 run_on-append limit (Ok s) (b ∷ xs) ys = run_on-append limit (step limit s.levels s.hand b) xs ys
 
-pub run_on-nil : (limit : ℕ) (r : Result State Stop) → run_on limit r [] ≡ r
+pub run_on-nil : (limit : ℕ) (r : Result MachineState Stop) → run_on limit r [] ≡ r
 run_on-nil limit (Err stop) = refl
 run_on-nil limit (Ok s) = refl
 
 -- one byte more
-pub run_more : (limit : ℕ) (s t : State) (bytes : List ℕ) (i : ℕ) → i < length bytes → run limit s (take i bytes) ≡ Ok t → run limit s (take (i + 1) bytes) ≡ step limit t.levels t.hand (get_or bytes i 0)
+pub run_more : (limit : ℕ) (s t : MachineState) (bytes : List ℕ) (i : ℕ) → i < length bytes → run limit s (take i bytes) ≡ Ok t → run limit s (take (i + 1) bytes) ≡ step limit t.levels t.hand (get_or bytes i 0)
 run_more limit s t bytes i h e =
     ap (run limit s) (take_more bytes i 0 h) ∙ run_on-append limit (Ok s) (take i bytes) (get_or bytes i 0 ∷ []) ∙ ap (λ r. run_on limit r (get_or bytes i 0 ∷ [])) e
     ∙ run_on-nil limit (step limit t.levels t.hand (get_or bytes i 0))
 
 -- all bytes
-pub run_whole : (limit : ℕ) (s t : State) (bytes : List ℕ) (i : ℕ) → length bytes ≤ i → run limit s (take i bytes) ≡ Ok t → run limit s bytes ≡ Ok t
+pub run_whole : (limit : ℕ) (s t : MachineState) (bytes : List ℕ) (i : ℕ) → length bytes ≤ i → run limit s (take i bytes) ≡ Ok t → run limit s bytes ≡ Ok t
 run_whole limit s t bytes i h e = sym (ap (run limit s) (take_all i bytes h)) ∙ e
 
 -- one list and then another
-pub run_then : (limit : ℕ) (s t : State) (xs ys : List ℕ) → run limit s xs ≡ Ok t → run limit s (xs ++ ys) ≡ run limit t ys
+pub run_then : (limit : ℕ) (s t : MachineState) (xs ys : List ℕ) → run limit s xs ≡ Ok t → run limit s (xs ++ ys) ≡ run limit t ys
 run_then limit s t xs ys e = run_on-append limit (Ok s) xs ys ∙ ap (λ r. run_on limit r ys) e
 
 -- a byte and then some more of the bytes
-pub run_skim : (limit : ℕ) (s t u : State) (bytes : List ℕ) (i n : ℕ) → run limit s (take i bytes) ≡ Ok t → run limit t (take n (drop i bytes)) ≡ Ok u → run limit s (take (i + n) bytes) ≡ Ok u
+pub run_skim : (limit : ℕ) (s t u : MachineState) (bytes : List ℕ) (i n : ℕ) → run limit s (take i bytes) ≡ Ok t → run limit t (take n (drop i bytes)) ≡ Ok u → run limit s (take (i + n) bytes) ≡ Ok u
 run_skim limit s t u bytes i n e f = ap (run limit s) (take-add i n bytes) ∙ run_then limit s t (take i bytes) (take n (drop i bytes)) e ∙ f
 
 -- white space where a value or a name is to come
@@ -94,10 +94,10 @@ more_plain bytes i h f e = subst ArePlain (sym (take_more bytes i 0 h)) (joined 
     joined [] b f e = (e, tt)
     joined (x ∷ xs) b f e = (f.0, joined xs b f.1 e)
 
-pub more_blank : (bytes : List ℕ) (i : ℕ) → i < length bytes → AreBlank (take i bytes) → is_blank (get_or bytes i 0) ≡ true → AreBlank (take (i + 1) bytes)
+pub more_blank : (bytes : List ℕ) (i : ℕ) → i < length bytes → AreBlank (take i bytes) → is_whitespace (get_or bytes i 0) ≡ true → AreBlank (take (i + 1) bytes)
 more_blank bytes i h f e = subst AreBlank (sym (take_more bytes i 0 h)) (joined (take i bytes) (get_or bytes i 0) f e)
   where
-    joined : (xs : List ℕ) (b : ℕ) → AreBlank xs → is_blank b ≡ true → AreBlank (xs ++ (b ∷ []))
+    joined : (xs : List ℕ) (b : ℕ) → AreBlank xs → is_whitespace b ≡ true → AreBlank (xs ++ (b ∷ []))
     joined [] b f e = (e, tt)
     joined (x ∷ xs) b f e = (f.0, joined xs b f.1 e)
 

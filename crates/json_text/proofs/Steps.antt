@@ -8,8 +8,8 @@ use Rattle.std.specs.Str.{IsUtf8, is_utf8}
 use Rattle.sequences.specs.Pairs.{merged}
 use Rattle.json_value.specs.declared.Json.{Json}
 use Rattle.json_value.specs.declared.Json.TheVariants.{Null, Bool as JsonOfBool, Num, Str, List as JsonOfList, Map as JsonOfMap}
-use Rattle.json_text.specs.Grammar.{is_blank, Chars, Colon, colon_blank, colon_here, Value, blank, null, yes, no, number as number_of, string as string_of, list as list_of, map as map_of, Items, items_blank, items_none, items_some, MoreItems, more_items_blank, more_items_done, more_items_next, Pairs, pairs_blank, pairs_none, pairs_some, MorePairs, more_pairs_blank, more_pairs_done, more_pairs_next, Pair, pair_blank, pair_named}
-use Rattle.json_text.specs.State.Machine.{plain, Hand, value, first_item, first_name, next_name, colon, behind, done, word, number, text, State, state, placed, skipped, opened, begin, begin_word, begin_number, behind_in, at_end, behind_placed, item_first, name_begins, name_first, name_next, at_colon, in_word, next_place, ends, number_goes, in_number, step}
+use Rattle.json_text.specs.Grammar.{is_whitespace, Chars, Colon, colon_blank, colon_here, Value, blank, null, yes, no, number as number_of, string as string_of, list as list_of, map as map_of, Items, items_blank, items_none, items_some, MoreItems, more_items_blank, more_items_done, more_items_next, Pairs, pairs_blank, pairs_none, pairs_some, MorePairs, more_pairs_blank, more_pairs_done, more_pairs_next, Pair, pair_blank, pair_named}
+use Rattle.json_text.specs.State.Machine.{plain, Hand, value, first_item, first_name, next_name, colon, behind, done, word, number, text, MachineState, state, placed, skipped, opened, begin, begin_word, begin_number, behind_in, at_end, behind_placed, item_first, name_begins, name_first, name_next, at_colon, in_word, next_place, ends, number_goes, in_number, step}
 use Rattle.json_text.specs.declared.state.Stop.{Stop}
 use Rattle.json_text.specs.declared.state.Stop.TheVariants.{Syntax, Depth}
 use Rattle.json_text.specs.declared.state.Place.{Place}
@@ -23,11 +23,11 @@ use Rattle.json_text.proofs.Finishes.{Rest, OfBehind, OfValue, OfFirstItem, OfFi
 use Rattle.json_text.proofs.TextSteps.{Same, text_same}
 
 -- a choice by the byte, at the byte itself
-moved : (limit : ℕ) (go : ℕ → Result State Stop) (c : List ℕ) (v : Json) {b d : ℕ} → b ≡ d → Goes limit (go d) c v → Goes limit (go b) c v
+moved : (limit : ℕ) (go : ℕ → Result MachineState Stop) (c : List ℕ) (v : Json) {b d : ℕ} → b ≡ d → Goes limit (go d) c v → Goes limit (go b) c v
 moved limit go c v e h = subst (λ x. Goes limit (go x) c v) (sym e) h
 
 -- ---- white space
-pub blank_cases : (b : ℕ) → is_blank b ≡ true → (b ≡ 32) ⊎ ((b ≡ 10) ⊎ ((b ≡ 13) ⊎ (b ≡ 9)))
+pub blank_cases : (b : ℕ) → is_whitespace b ≡ true → (b ≡ 32) ⊎ ((b ≡ 10) ⊎ ((b ≡ 13) ⊎ (b ≡ 9)))
 blank_cases b = by (b == 32) (b == 10) (b == 13) (b == 9) refl refl refl refl
   where
     by : (p q r s : Bool) → (b == 32) ≡ p → (b == 10) ≡ q → (b == 13) ≡ r → (b == 9) ≡ s → (p || q || r || s) ≡ true → (b ≡ 32) ⊎ ((b ≡ 10) ⊎ ((b ≡ 13) ⊎ (b ≡ 9)))
@@ -38,7 +38,7 @@ blank_cases b = by (b == 32) (b == 10) (b == 13) (b == 9) refl refl refl refl
     by false false false false e f g h k = cc k
 
 -- what holds at each byte of white space
-pub at_blank : (P : ℕ → Type 0) (b : ℕ) → is_blank b ≡ true → P 32 → P 10 → P 13 → P 9 → P b
+pub at_blank : (P : ℕ → Type 0) (b : ℕ) → is_whitespace b ≡ true → P 32 → P 10 → P 13 → P 9 → P b
 at_blank P b e h₁ h₂ h₃ h₄ = by (blank_cases b e)
   where
     by : (b ≡ 32) ⊎ ((b ≡ 10) ⊎ ((b ≡ 13) ⊎ (b ≡ 9))) → P b
@@ -48,16 +48,16 @@ at_blank P b e h₁ h₂ h₃ h₄ = by (blank_cases b e)
     by (inr (inr (inr e))) = subst P (sym e) h₄
 
 -- a byte that is white space is none that isn't
-blank_not : (b d : ℕ) → is_blank b ≡ true → is_blank d ≡ false → (b == d) ≡ false
-blank_not b d e f = other_is b d (λ k. let g : true ≡ false = sym e ∙ ap is_blank k ∙ f in cc g)
+blank_not : (b d : ℕ) → is_whitespace b ≡ true → is_whitespace d ≡ false → (b == d) ≡ false
+blank_not b d e f = other_is b d (λ k. let g : true ≡ false = sym e ∙ ap is_whitespace k ∙ f in cc g)
 
-skipped_to : (limit : ℕ) (levels : List Level) (stay : Hand) (b : ℕ) (c : List ℕ) (v : Json) → is_blank b ≡ true → Finishes limit levels stay c v → Goes limit (skipped levels stay b) c v
+skipped_to : (limit : ℕ) (levels : List Level) (stay : Hand) (b : ℕ) (c : List ℕ) (v : Json) → is_whitespace b ≡ true → Finishes limit levels stay c v → Goes limit (skipped levels stay b) c v
 skipped_to limit levels stay b c v e h = rw e h
 
-skipped_from : (limit : ℕ) (levels : List Level) (stay : Hand) (b : ℕ) (c : List ℕ) (v : Json) → Goes limit (skipped levels stay b) c v → (is_blank b ≡ true) × Finishes limit levels stay c v
-skipped_from limit levels stay b c v = by (is_blank b) refl
+skipped_from : (limit : ℕ) (levels : List Level) (stay : Hand) (b : ℕ) (c : List ℕ) (v : Json) → Goes limit (skipped levels stay b) c v → (is_whitespace b ≡ true) × Finishes limit levels stay c v
+skipped_from limit levels stay b c v = by (is_whitespace b) refl
   where
-    by : (p : Bool) → is_blank b ≡ p → Goes limit (cond p (Ok (state levels stay)) (Err Syntax)) c v → (is_blank b ≡ true) × Finishes limit levels stay c v
+    by : (p : Bool) → is_whitespace b ≡ p → Goes limit (cond p (Ok (state levels stay)) (Err Syntax)) c v → (is_whitespace b ≡ true) × Finishes limit levels stay c v
     by true e h = (e, h)
     by false e h = absurd h
 
@@ -82,7 +82,7 @@ more_pair ps p others = sym (append_assoc ps (p ∷ []) others)
 item_to : (limit : ℕ) (xs : List Json) (ls : List Level) (b : ℕ) (c : List ℕ) (v : Json) (others : List Json) (rest : List ℕ)
     → MoreItems (limit - suc (length ls)) (b ∷ c) others rest → Rest limit ls (JsonOfList (xs ++ others)) rest v → Goes limit (behind_in (LevelOfList xs ∷ ls) b) c v
 item_to limit xs ls b c v others rest (more_items_blank r bytes items rest' d m e f k) h =
-    let is = ap is_blank (head_same e) ∙ f in
+    let is = ap is_whitespace (head_same e) ∙ f in
     let p = blank_not b 44 is refl in
     let q = blank_not b 93 is refl in
     rw (p, q, is) (others, rest, subst (λ x. MoreItems (limit - suc (length ls)) x others rest) (sym (tail_same e)) k, h)
@@ -98,7 +98,7 @@ item_to limit xs ls b c v others rest (more_items_next r bytes items rest' m mid
     )
 
 item_from : (limit : ℕ) (xs : List Json) (ls : List Level) (b : ℕ) (c : List ℕ) (v : Json) → Goes limit (behind_in (LevelOfList xs ∷ ls) b) c v → OfBehind limit (LevelOfList xs ∷ ls) (b ∷ c) v
-item_from limit xs ls b c v = by (b == 44) (b == 93) (is_blank b) refl refl refl
+item_from limit xs ls b c v = by (b == 44) (b == 93) (is_whitespace b) refl refl refl
   where
     comma : b ≡ 44 → OfValue limit (LevelOfList xs ∷ ls) c v → OfBehind limit (LevelOfList xs ∷ ls) (b ∷ c) v
     comma e (first, mid, is, (others, rest, are, h)) = (
@@ -108,7 +108,7 @@ item_from limit xs ls b c v = by (b == 44) (b == 93) (is_blank b) refl refl refl
       subst (λ x. Rest limit ls (JsonOfList x) rest v) (sym (more_one xs first others)) h,
     )
 
-    by : (p q r : Bool) → (b == 44) ≡ p → (b == 93) ≡ q → is_blank b ≡ r
+    by : (p q r : Bool) → (b == 44) ≡ p → (b == 93) ≡ q → is_whitespace b ≡ r
         → Goes limit (cond p (Ok (state (LevelOfList xs ∷ ls) value)) (cond q (Ok (placed ls (JsonOfList xs))) (cond r (Ok (state (LevelOfList xs ∷ ls) behind)) (Err Syntax)))) c v
         → OfBehind limit (LevelOfList xs ∷ ls) (b ∷ c) v
     by true q r e f g h = comma (is_byte b 44 e) h
@@ -124,7 +124,7 @@ item_from limit xs ls b c v = by (b == 44) (b == 93) (is_blank b) refl refl refl
 pair_to : (limit : ℕ) (ps : List (List ℕ × Json)) (name : List ℕ) (ls : List Level) (b : ℕ) (c : List ℕ) (v : Json) (others : List (List ℕ × Json)) (rest : List ℕ)
     → MorePairs (limit - suc (length ls)) (b ∷ c) others rest → Rest limit ls (JsonOfMap (merged (ps ++ others))) rest v → Goes limit (behind_in (LevelOfMap ps name ∷ ls) b) c v
 pair_to limit ps name ls b c v others rest (more_pairs_blank r bytes pairs rest' d m e f k) h =
-    let is = ap is_blank (head_same e) ∙ f in
+    let is = ap is_whitespace (head_same e) ∙ f in
     let p = blank_not b 44 is refl in
     let q = blank_not b 125 is refl in
     rw (p, q, is) (others, rest, subst (λ x. MorePairs (limit - suc (length ls)) x others rest) (sym (tail_same e)) k, h)
@@ -142,7 +142,7 @@ pair_to limit ps name ls b c v others rest (more_pairs_next r bytes pairs rest' 
     )
 
 pair_from : (limit : ℕ) (ps : List (List ℕ × Json)) (name : List ℕ) (ls : List Level) (b : ℕ) (c : List ℕ) (v : Json) → Goes limit (behind_in (LevelOfMap ps name ∷ ls) b) c v → OfBehind limit (LevelOfMap ps name ∷ ls) (b ∷ c) v
-pair_from limit ps name ls b c v = by (b == 44) (b == 125) (is_blank b) refl refl refl
+pair_from limit ps name ls b c v = by (b == 44) (b == 125) (is_whitespace b) refl refl refl
   where
     comma : b ≡ 44 → OfNextName limit (LevelOfMap ps name ∷ ls) c v → OfBehind limit (LevelOfMap ps name ∷ ls) (b ∷ c) v
     comma e (n, x, mid, is, (others, rest, are, h)) = (
@@ -152,7 +152,7 @@ pair_from limit ps name ls b c v = by (b == 44) (b == 125) (is_blank b) refl ref
       subst (λ y. Rest limit ls (JsonOfMap (merged y)) rest v) (sym (more_pair ps (n, x) others)) h,
     )
 
-    by : (p q r : Bool) → (b == 44) ≡ p → (b == 125) ≡ q → is_blank b ≡ r
+    by : (p q r : Bool) → (b == 44) ≡ p → (b == 125) ≡ q → is_whitespace b ≡ r
         → Goes limit (cond p (Ok (state (LevelOfMap ps name ∷ ls) next_name)) (cond q (Ok (placed ls (JsonOfMap (merged ps)))) (cond r (Ok (state (LevelOfMap ps name ∷ ls) behind)) (Err Syntax)))) c v
         → OfBehind limit (LevelOfMap ps name ∷ ls) (b ∷ c) v
     by true q r e f g h = comma (is_byte b 44 e) h
@@ -205,13 +205,13 @@ word_same limit levels x (w ∷ left) b c v = (λ h. word_to limit levels x w le
 -- ---- in a numeral
 after_more : (limit : ℕ) (ls : List Level) (xs : List Json) (b : ℕ) (c : List ℕ) (others : List Json) (rest : List ℕ) → MoreItems limit (b ∷ c) others rest → NotNumber b
 after_more limit ls xs b c others rest (more_items_blank r bytes items rest' d m e f k) =
-    at_blank NotNumber b (ap is_blank (head_same e) ∙ f) (refl, refl, refl, refl, refl) (refl, refl, refl, refl, refl) (refl, refl, refl, refl, refl) (refl, refl, refl, refl, refl)
+    at_blank NotNumber b (ap is_whitespace (head_same e) ∙ f) (refl, refl, refl, refl, refl) (refl, refl, refl, refl, refl) (refl, refl, refl, refl, refl) (refl, refl, refl, refl, refl)
 after_more limit ls xs b c others rest (more_items_done r bytes items rest' e f) = not_number b 93 (refl, refl, refl, refl, refl) (head_same e)
 after_more limit ls xs b c others rest (more_items_next r bytes items rest' m mid first others' e f k l) = not_number b 44 (refl, refl, refl, refl, refl) (head_same e)
 
 after_pairs : (room : ℕ) (b : ℕ) (c : List ℕ) (others : List (List ℕ × Json)) (rest : List ℕ) → MorePairs room (b ∷ c) others rest → NotNumber b
 after_pairs room b c others rest (more_pairs_blank r bytes items rest' d m e f k) =
-    at_blank NotNumber b (ap is_blank (head_same e) ∙ f) (refl, refl, refl, refl, refl) (refl, refl, refl, refl, refl) (refl, refl, refl, refl, refl) (refl, refl, refl, refl, refl)
+    at_blank NotNumber b (ap is_whitespace (head_same e) ∙ f) (refl, refl, refl, refl, refl) (refl, refl, refl, refl, refl) (refl, refl, refl, refl, refl) (refl, refl, refl, refl, refl)
 after_pairs room b c others rest (more_pairs_done r bytes items rest' e f) = not_number b 125 (refl, refl, refl, refl, refl) (head_same e)
 after_pairs room b c others rest (more_pairs_next r bytes items rest' m mid n x others' e f k l) = not_number b 44 (refl, refl, refl, refl, refl) (head_same e)
 
@@ -307,13 +307,13 @@ first_number limit levels stay b c v more rest k e h = by (either (b == 45) (Som
     by (inl p) = let n = is_byte b 45 p.0 in moved limit (begin limit levels stay) c v n (more, rest, e, p.1, subst (λ y. Rest limit levels (Num (y ∷ more)) rest v) n h)
     by (inr p) = by₁ p.0 (either (b == 48) (Some Nought) (cond (is_ascii_digit b) (Some Whole) None) more p.1)
 
-pub begin_blank : (limit : ℕ) (levels : List Level) (stay : Hand) (b : ℕ) → is_blank b ≡ true → begin limit levels stay b ≡ Ok (state levels stay)
+pub begin_blank : (limit : ℕ) (levels : List Level) (stay : Hand) (b : ℕ) → is_whitespace b ≡ true → begin limit levels stay b ≡ Ok (state levels stay)
 begin_blank limit levels stay b e = at_blank (λ x. begin limit levels stay x ≡ Ok (state levels stay)) b e refl refl refl refl
 
 begin_to : (limit : ℕ) (levels : List Level) (stay : Hand) (b : ℕ) (c : List ℕ) (v : Json) (x : Json) (rest : List ℕ) → Value (limit - length levels) (b ∷ c) x rest → Rest limit levels x rest v
     → (Value (limit - length levels) c x rest → Finishes limit levels stay c v) → Goes limit (begin limit levels stay b) c v
 begin_to limit levels stay b c v x rest (blank r bytes y rest' d m e f k) h keeps =
-    let is = ap is_blank (head_same e) ∙ f in
+    let is = ap is_whitespace (head_same e) ∙ f in
     subst (λ z. Goes limit z c v) (sym (begin_blank limit levels stay b is)) (keeps (subst (λ z. Value (limit - length levels) z x rest) (sym (tail_same e)) k))
 begin_to limit levels stay b c v x rest (null r bytes y rest' e f) h keeps = moved limit (begin limit levels stay) c v (head_same e) (rest, tail_same e, subst (λ z. Rest limit levels z rest v) f h)
 begin_to limit levels stay b c v x rest (yes r bytes y rest' e f) h keeps = moved limit (begin limit levels stay) c v (head_same e) (rest, tail_same e, subst (λ z. Rest limit levels z rest v) f h)
@@ -354,34 +354,34 @@ module _ (limit : ℕ) (levels : List Level) (stay : Hand) (b : ℕ) (c : List �
   a_map : b ≡ 123 → length levels < limit → OfFirstName limit (LevelOfMap [] [] ∷ levels) c v → OfValue limit levels (b ∷ c) v
   a_map e l h = (JsonOfMap (merged h.0), h.1, map_of _ (b ∷ c) (JsonOfMap (merged h.0)) h.1 (limit - suc (length levels)) c h.0 (room_made limit (length levels) l) (ap (λ y. y ∷ c) e) refl h.2, h.3)
 
-  number_began : Goes limit (begin_number levels stay b) c v → OfValue limit levels (b ∷ c) v ⊎ ((is_blank b ≡ true) × Finishes limit levels stay c v)
+  number_began : Goes limit (begin_number levels stay b) c v → OfValue limit levels (b ∷ c) v ⊎ ((is_whitespace b ≡ true) × Finishes limit levels stay c v)
   number_began = by (b == 45) (b == 48) (is_ascii_digit b) refl refl refl
     where
       by : (p q r : Bool) → (b == 45) ≡ p → (b == 48) ≡ q → is_ascii_digit b ≡ r
           → Goes limit (cond p (Ok (state levels (number (b ∷ []) Minus))) (cond q (Ok (state levels (number (b ∷ []) Nought))) (cond r (Ok (state levels (number (b ∷ []) Whole))) (skipped levels stay b)))) c v
-          → OfValue limit levels (b ∷ c) v ⊎ ((is_blank b ≡ true) × Finishes limit levels stay c v)
+          → OfValue limit levels (b ∷ c) v ⊎ ((is_whitespace b ≡ true) × Finishes limit levels stay c v)
       by true q r e f g h = inl (a_number Minus (rw e refl) h)
       by false true r e f g h = inl (a_number Nought (rw (e, f) refl) h)
       by false false true e f g h = inl (a_number Whole (rw (e, f, g) refl) h)
       by false false false e f g h = inr (skipped_from limit levels stay b c v h)
 
-  word_began : Goes limit (begin_word levels stay b) c v → OfValue limit levels (b ∷ c) v ⊎ ((is_blank b ≡ true) × Finishes limit levels stay c v)
+  word_began : Goes limit (begin_word levels stay b) c v → OfValue limit levels (b ∷ c) v ⊎ ((is_whitespace b ≡ true) × Finishes limit levels stay c v)
   word_began = by (b == 110) (b == 116) (b == 102) refl refl refl
     where
       by : (p q r : Bool) → (b == 110) ≡ p → (b == 116) ≡ q → (b == 102) ≡ r
           → Goes limit (cond p (Ok (state levels (word Null (117 ∷ 108 ∷ 108 ∷ [])))) (cond q (Ok (state levels (word (JsonOfBool true) (114 ∷ 117 ∷ 101 ∷ [])))) (cond r (Ok (state levels (word (JsonOfBool false) (97 ∷ 108 ∷ 115 ∷ 101 ∷ [])))) (begin_number levels stay b)))) c v
-          → OfValue limit levels (b ∷ c) v ⊎ ((is_blank b ≡ true) × Finishes limit levels stay c v)
+          → OfValue limit levels (b ∷ c) v ⊎ ((is_whitespace b ≡ true) × Finishes limit levels stay c v)
       by true q r e f g h = inl (Null, h.0, null _ (b ∷ c) Null h.0 (ap (λ y. y ∷ c) (is_byte b 110 e) ∙ ap (λ y. 110 ∷ y) h.1) refl, h.2)
       by false true r e f g h = inl (JsonOfBool true, h.0, yes _ (b ∷ c) (JsonOfBool true) h.0 (ap (λ y. y ∷ c) (is_byte b 116 f) ∙ ap (λ y. 116 ∷ y) h.1) refl, h.2)
       by false false true e f g h = inl (JsonOfBool false, h.0, no _ (b ∷ c) (JsonOfBool false) h.0 (ap (λ y. y ∷ c) (is_byte b 102 g) ∙ ap (λ y. 102 ∷ y) h.1) refl, h.2)
       by false false false e f g h = number_began h
 
-  began : Goes limit (begin limit levels stay b) c v → OfValue limit levels (b ∷ c) v ⊎ ((is_blank b ≡ true) × Finishes limit levels stay c v)
+  began : Goes limit (begin limit levels stay b) c v → OfValue limit levels (b ∷ c) v ⊎ ((is_whitespace b ≡ true) × Finishes limit levels stay c v)
   began = by (b == 34) (b == 91) (b == 123) refl refl refl
     where
       by : (p q r : Bool) → (b == 34) ≡ p → (b == 91) ≡ q → (b == 123) ≡ r
           → Goes limit (cond p (Ok (state levels (text Content [] plain))) (cond q (opened limit levels (LevelOfList []) first_item) (cond r (opened limit levels (LevelOfMap [] []) first_name) (begin_word levels stay b)))) c v
-          → OfValue limit levels (b ∷ c) v ⊎ ((is_blank b ≡ true) × Finishes limit levels stay c v)
+          → OfValue limit levels (b ∷ c) v ⊎ ((is_whitespace b ≡ true) × Finishes limit levels stay c v)
       by true q r e f g h = inl (Str h.0, h.1, string_of _ (b ∷ c) (Str h.0) h.1 c h.0 (ap (λ y. y ∷ c) (is_byte b 34 e)) refl h.2, h.3)
       by false true r e f g h = let o = opened_from limit levels (LevelOfList []) first_item c v h in inl (a_list (is_byte b 91 f) o.0 o.1)
       by false false true e f g h = let o = opened_from limit levels (LevelOfMap [] []) first_name c v h in inl (a_map (is_byte b 123 g) o.0 o.1)
@@ -390,13 +390,13 @@ module _ (limit : ℕ) (levels : List Level) (stay : Hand) (b : ℕ) (c : List �
 value_same : (limit : ℕ) (levels : List Level) (b : ℕ) (c : List ℕ) (v : Json) → Same (OfValue limit levels (b ∷ c) v) (Goes limit (begin limit levels value b) c v)
 value_same limit levels b c v = (λ h. begin_to limit levels value b c v h.0 h.1 h.2 h.3 (λ k. (h.0, h.1, k, h.3)), λ g. from (began limit levels value b c v g))
   where
-    from : OfValue limit levels (b ∷ c) v ⊎ ((is_blank b ≡ true) × OfValue limit levels c v) → OfValue limit levels (b ∷ c) v
+    from : OfValue limit levels (b ∷ c) v ⊎ ((is_whitespace b ≡ true) × OfValue limit levels c v) → OfValue limit levels (b ∷ c) v
     from (inl h) = h
     from (inr h) = (h.1.0, h.1.1, blank _ (b ∷ c) h.1.0 h.1.1 b c refl h.0 h.1.2, h.1.3)
 
 -- ---- behind the bracket of a list
 not_bracket : (room : ℕ) (b : ℕ) (c : List ℕ) (x : Json) (rest : List ℕ) → Value room (b ∷ c) x rest → (b == 93) ≡ false
-not_bracket room b c x rest (blank r bytes y rest' d m e f k) = blank_not b 93 (ap is_blank (head_same e) ∙ f) refl
+not_bracket room b c x rest (blank r bytes y rest' d m e f k) = blank_not b 93 (ap is_whitespace (head_same e) ∙ f) refl
 not_bracket room b c x rest (null r bytes y rest' e f) = ap (λ z. z == 93) (head_same e)
 not_bracket room b c x rest (yes r bytes y rest' e f) = ap (λ z. z == 93) (head_same e)
 not_bracket room b c x rest (no r bytes y rest' e f) = ap (λ z. z == 93) (head_same e)
@@ -412,7 +412,7 @@ not_bracket room b c x rest (map_of r bytes y rest' inner m pairs n e f k) = ap 
 first_item_to : (limit : ℕ) (xs : List Json) (ls : List Level) (b : ℕ) (c : List ℕ) (v : Json) (items : List Json) (rest : List ℕ)
     → Items (limit - suc (length ls)) (b ∷ c) items rest → Rest limit ls (JsonOfList (xs ++ items)) rest v → Goes limit (item_first limit (LevelOfList xs ∷ ls) b) c v
 first_item_to limit xs ls b c v items rest (items_blank r bytes is rest' d m e f k) h =
-    let i = ap is_blank (head_same e) ∙ f in
+    let i = ap is_whitespace (head_same e) ∙ f in
     let p = blank_not b 93 i refl in
     rw p (subst (λ z. Goes limit z c v) (sym (begin_blank limit (LevelOfList xs ∷ ls) first_item b i)) (items, rest, subst (λ z. Items (limit - suc (length ls)) z items rest) (sym (tail_same e)) k, h))
 first_item_to limit xs ls b c v items rest (items_none r bytes is rest' e f) h =
@@ -427,7 +427,7 @@ first_item_to limit xs ls b c v items rest (items_some r bytes is rest' mid firs
 first_item_from : (limit : ℕ) (xs : List Json) (ls : List Level) (b : ℕ) (c : List ℕ) (v : Json) → Goes limit (item_first limit (LevelOfList xs ∷ ls) b) c v → OfFirstItem limit (LevelOfList xs ∷ ls) (b ∷ c) v
 first_item_from limit xs ls b c v = by (b == 93) refl
   where
-    from : OfValue limit (LevelOfList xs ∷ ls) (b ∷ c) v ⊎ ((is_blank b ≡ true) × OfFirstItem limit (LevelOfList xs ∷ ls) c v) → OfFirstItem limit (LevelOfList xs ∷ ls) (b ∷ c) v
+    from : OfValue limit (LevelOfList xs ∷ ls) (b ∷ c) v ⊎ ((is_whitespace b ≡ true) × OfFirstItem limit (LevelOfList xs ∷ ls) c v) → OfFirstItem limit (LevelOfList xs ∷ ls) (b ∷ c) v
     from (inl (x, mid, k, (others, rest, l, h))) = (x ∷ others, rest, items_some _ (b ∷ c) (x ∷ others) rest mid x others refl k l, subst (λ y. Rest limit ls (JsonOfList y) rest v) (sym (more_one xs x others)) h)
     from (inr (e, (items, rest, k, h))) = (items, rest, items_blank _ (b ∷ c) items rest b c refl e k, h)
 
@@ -450,34 +450,34 @@ named_to : (limit : ℕ) (ps : List (List ℕ × Json)) (old : List ℕ) (ls : L
     → Pair (limit - suc (length ls)) (b ∷ c) name x mid → Rest limit (LevelOfMap ps name ∷ ls) x mid v → (Pair (limit - suc (length ls)) c name x mid → Finishes limit (LevelOfMap ps old ∷ ls) stay c v)
     → Goes limit (name_begins (LevelOfMap ps old ∷ ls) stay b) c v
 named_to limit ps old ls stay b c v name x mid (pair_blank r bytes n y rest d m e f k) h keeps =
-    let is = ap is_blank (head_same e) ∙ f in
+    let is = ap is_whitespace (head_same e) ∙ f in
     let p = blank_not b 34 is refl in
     rw p (skipped_to limit (LevelOfMap ps old ∷ ls) stay b c v is (keeps (subst (λ z. Pair (limit - suc (length ls)) z name x mid) (sym (tail_same e)) k)))
 named_to limit ps old ls stay b c v name x mid (pair_named r bytes n y rest m behind_name after e chars at val) h keeps =
     moved limit (name_begins (LevelOfMap ps old ∷ ls) stay) c v (head_same e) (name, behind_name, subst (λ z. Chars z name behind_name) (sym (tail_same e)) chars, (after, x, mid, at, val, h))
 
 named_from : (limit : ℕ) (ps : List (List ℕ × Json)) (old : List ℕ) (ls : List Level) (stay : Hand) (b : ℕ) (c : List ℕ) (v : Json) → Goes limit (name_begins (LevelOfMap ps old ∷ ls) stay b) c v
-    → OfNextName limit (LevelOfMap ps old ∷ ls) (b ∷ c) v ⊎ ((is_blank b ≡ true) × Finishes limit (LevelOfMap ps old ∷ ls) stay c v)
+    → OfNextName limit (LevelOfMap ps old ∷ ls) (b ∷ c) v ⊎ ((is_whitespace b ≡ true) × Finishes limit (LevelOfMap ps old ∷ ls) stay c v)
 named_from limit ps old ls stay b c v = by (b == 34) refl
   where
     by : (p : Bool) → (b == 34) ≡ p → Goes limit (cond p (Ok (state (LevelOfMap ps old ∷ ls) (text Name [] plain))) (skipped (LevelOfMap ps old ∷ ls) stay b)) c v
-        → OfNextName limit (LevelOfMap ps old ∷ ls) (b ∷ c) v ⊎ ((is_blank b ≡ true) × Finishes limit (LevelOfMap ps old ∷ ls) stay c v)
+        → OfNextName limit (LevelOfMap ps old ∷ ls) (b ∷ c) v ⊎ ((is_whitespace b ≡ true) × Finishes limit (LevelOfMap ps old ∷ ls) stay c v)
     by true e (name, mid, chars, (after, x, rest, at, val, h)) = inl (name, x, rest, pair_named _ (b ∷ c) name x rest c mid after (ap (λ z. z ∷ c) (is_byte b 34 e)) chars at val, h)
     by false e h = inr (skipped_from limit (LevelOfMap ps old ∷ ls) stay b c v h)
 
 next_name_from : (limit : ℕ) (ps : List (List ℕ × Json)) (old : List ℕ) (ls : List Level) (b : ℕ) (c : List ℕ) (v : Json)
-    → OfNextName limit (LevelOfMap ps old ∷ ls) (b ∷ c) v ⊎ ((is_blank b ≡ true) × OfNextName limit (LevelOfMap ps old ∷ ls) c v) → OfNextName limit (LevelOfMap ps old ∷ ls) (b ∷ c) v
+    → OfNextName limit (LevelOfMap ps old ∷ ls) (b ∷ c) v ⊎ ((is_whitespace b ≡ true) × OfNextName limit (LevelOfMap ps old ∷ ls) c v) → OfNextName limit (LevelOfMap ps old ∷ ls) (b ∷ c) v
 next_name_from limit ps old ls b c v (inl h) = h
 next_name_from limit ps old ls b c v (inr (e, (name, x, rest, k, h))) = (name, x, rest, pair_blank _ (b ∷ c) name x rest b c refl e k, h)
 
 next_name_same : (limit : ℕ) (levels : List Level) (b : ℕ) (c : List ℕ) (v : Json) → Same (OfNextName limit levels (b ∷ c) v) (Goes limit (name_next levels b) c v)
-next_name_same limit [] b c v = (λ h. absurd h, by (b == 34) (is_blank b))
+next_name_same limit [] b c v = (λ h. absurd h, by (b == 34) (is_whitespace b))
   where
     by : (p q : Bool) → Goes limit (cond p (Ok (state [] (text Name [] plain))) (cond q (Ok (state [] next_name)) (Err Syntax))) c v → ⊥
     by true q h = h.3
     by false true h = h
     by false false h = h
-next_name_same limit (LevelOfList xs ∷ ls) b c v = (λ h. absurd h, by (b == 34) (is_blank b))
+next_name_same limit (LevelOfList xs ∷ ls) b c v = (λ h. absurd h, by (b == 34) (is_whitespace b))
   where
     by : (p q : Bool) → Goes limit (cond p (Ok (state (LevelOfList xs ∷ ls) (text Name [] plain))) (cond q (Ok (state (LevelOfList xs ∷ ls) next_name)) (Err Syntax))) c v → ⊥
     by true q h = h.3
@@ -491,7 +491,7 @@ next_name_same limit (LevelOfMap ps old ∷ ls) b c v = (
 first_name_to : (limit : ℕ) (ps : List (List ℕ × Json)) (old : List ℕ) (ls : List Level) (b : ℕ) (c : List ℕ) (v : Json) (pairs : List (List ℕ × Json)) (rest : List ℕ)
     → Pairs (limit - suc (length ls)) (b ∷ c) pairs rest → Rest limit ls (JsonOfMap (merged (ps ++ pairs))) rest v → Goes limit (name_first (LevelOfMap ps old ∷ ls) b) c v
 first_name_to limit ps old ls b c v pairs rest (pairs_blank r bytes is rest' d m e f k) h =
-    let i = ap is_blank (head_same e) ∙ f in
+    let i = ap is_whitespace (head_same e) ∙ f in
     let p = blank_not b 125 i refl in
     let q = blank_not b 34 i refl in
     rw (p, q) (skipped_to limit (LevelOfMap ps old ∷ ls) first_name b c v i (pairs, rest, subst (λ z. Pairs (limit - suc (length ls)) z pairs rest) (sym (tail_same e)) k, h))
@@ -505,13 +505,13 @@ first_name_to limit ps old ls b c v pairs rest (pairs_some r bytes is rest' mid 
     (λ k'. (pairs, rest, pairs_some _ c pairs rest mid name x others f k' l, h)))
   where
     no_brace : (room : ℕ) → Pair room (b ∷ c) name x mid → (b == 125) ≡ false
-    no_brace room (pair_blank r' bytes' n y rest₂ d m e f' k') = blank_not b 125 (ap is_blank (head_same e) ∙ f') refl
+    no_brace room (pair_blank r' bytes' n y rest₂ d m e f' k') = blank_not b 125 (ap is_whitespace (head_same e) ∙ f') refl
     no_brace room (pair_named r' bytes' n y rest₂ m bn after e chars at val) = ap (λ z. z == 125) (head_same e)
 
 first_name_from : (limit : ℕ) (ps : List (List ℕ × Json)) (old : List ℕ) (ls : List Level) (b : ℕ) (c : List ℕ) (v : Json) → Goes limit (name_first (LevelOfMap ps old ∷ ls) b) c v → OfFirstName limit (LevelOfMap ps old ∷ ls) (b ∷ c) v
 first_name_from limit ps old ls b c v = by (b == 125) refl
   where
-    from : OfNextName limit (LevelOfMap ps old ∷ ls) (b ∷ c) v ⊎ ((is_blank b ≡ true) × OfFirstName limit (LevelOfMap ps old ∷ ls) c v) → OfFirstName limit (LevelOfMap ps old ∷ ls) (b ∷ c) v
+    from : OfNextName limit (LevelOfMap ps old ∷ ls) (b ∷ c) v ⊎ ((is_whitespace b ≡ true) × OfFirstName limit (LevelOfMap ps old ∷ ls) c v) → OfFirstName limit (LevelOfMap ps old ∷ ls) (b ∷ c) v
     from (inl (name, x, mid, k, (others, rest, l, h))) =
         ((name, x) ∷ others, rest, pairs_some _ (b ∷ c) ((name, x) ∷ others) rest mid name x others refl k l, subst (λ y. Rest limit ls (JsonOfMap (merged y)) rest v) (sym (more_pair ps (name, x) others)) h)
     from (inr (e, (pairs, rest, k, h))) = (pairs, rest, pairs_blank _ (b ∷ c) pairs rest b c refl e k, h)
@@ -533,7 +533,7 @@ first_name_same limit (LevelOfMap ps old ∷ ls) b c v = (λ h. first_name_to li
 -- ---- behind a name
 colon_to : (limit : ℕ) (levels : List Level) (b : ℕ) (c : List ℕ) (v : Json) (mid : List ℕ) (x : Json) (rest : List ℕ) → Colon (b ∷ c) mid → Value (limit - length levels) mid x rest → Rest limit levels x rest v → Goes limit (at_colon levels b) c v
 colon_to limit levels b c v mid x rest (colon_blank bytes rest' d m e f k) val h =
-    let is = ap is_blank (head_same e) ∙ f in
+    let is = ap is_whitespace (head_same e) ∙ f in
     let p = blank_not b 58 is refl in
     rw p (skipped_to limit levels colon b c v is (mid, x, rest, subst (λ z. Colon z mid) (sym (tail_same e)) k, val, h))
 colon_to limit levels b c v mid x rest (colon_here bytes rest' e) val h =
@@ -542,7 +542,7 @@ colon_to limit levels b c v mid x rest (colon_here bytes rest' e) val h =
 colon_from : (limit : ℕ) (levels : List Level) (b : ℕ) (c : List ℕ) (v : Json) → Goes limit (at_colon levels b) c v → OfColon limit levels (b ∷ c) v
 colon_from limit levels b c v = by (b == 58) refl
   where
-    later : (is_blank b ≡ true) × OfColon limit levels c v → OfColon limit levels (b ∷ c) v
+    later : (is_whitespace b ≡ true) × OfColon limit levels c v → OfColon limit levels (b ∷ c) v
     later (e, (mid, x, rest, k, val, h)) = (mid, x, rest, colon_blank (b ∷ c) mid b c refl e k, val, h)
 
     by : (p : Bool) → (b == 58) ≡ p → Goes limit (cond p (Ok (state levels value)) (skipped levels colon b)) c v → OfColon limit levels (b ∷ c) v

@@ -9,7 +9,7 @@ use Rattle.std.specs.Str.{IsUtf8, is_utf8}
 use lib.Utf8.{scalar, low_scalar, scalar_cases}
 use Rattle.json_value.specs.declared.Json.{Json}
 use Rattle.json_text.specs.Grammar.{escaped, IsDigit16, of_digits16, FourDigits, IsHigh, IsLow, joined, Chars, close, plain as plain_of, short as short_of, code as code_of, pair as pair_of}
-use Rattle.json_text.specs.State.Machine.{Part, plain, escape, code, high, slash, low, tail, text, state, tails, refused, refused_by, text_ends, text_goes, wide, in_plain, wanted, escape_goes, in_escape, paired, coded, digit_of_code, in_code, digit_of_low, in_low, behind_tail, in_tail, in_text}
+use Rattle.json_text.specs.State.Machine.{StringPlace, plain, escape, code, high, slash, low, tail, text, state, tails, refused, refused_by, text_ends, text_goes, wide, in_plain, wanted, escape_goes, in_escape, paired, coded, digit_of_code, in_code, digit_of_low, in_low, behind_tail, in_tail, in_text}
 use Rattle.json_text.specs.declared.state.Stop.TheVariants.{Syntax, Utf8}
 use Rattle.json_text.specs.declared.state.Digits.{Digits}
 use Rattle.json_text.specs.declared.state.Digits.TheVariants.{Zero as NoDigit, One, Two, Three}
@@ -188,7 +188,7 @@ opens_code m more rest chars = by (opens (117 ∷ m) more rest chars)
 
 module _ (limit : ℕ) (levels : List Level) (role : Role) (t : List ℕ) (v : Json) where
   -- the byte that an escape wants
-  wanted_to : (w : ℕ) (part : Part) (b : ℕ) (c : List ℕ) → b ≡ w → OfText limit levels role t part c v → Goes limit (wanted levels w (text role t part) b) c v
+  wanted_to : (w : ℕ) (part : StringPlace) (b : ℕ) (c : List ℕ) → b ≡ w → OfText limit levels role t part c v → Goes limit (wanted levels w (text role t part) b) c v
   wanted_to w part b c e h = rw (same_is b w e) h
 
   refused-goes : (b : ℕ) (c : List ℕ) → Goes limit (refused b) c v → ⊥
@@ -199,7 +199,7 @@ module _ (limit : ℕ) (levels : List Level) (role : Role) (t : List ℕ) (v : J
       by false [] h = h
       by false (r ∷ rs) h = h
 
-  wanted_from : (w : ℕ) (part : Part) (b : ℕ) (c : List ℕ) → Goes limit (wanted levels w (text role t part) b) c v → (b ≡ w) × OfText limit levels role t part c v
+  wanted_from : (w : ℕ) (part : StringPlace) (b : ℕ) (c : List ℕ) → Goes limit (wanted levels w (text role t part) b) c v → (b ≡ w) × OfText limit levels role t part c v
   wanted_from w part b c = by (b == w) refl
     where
       by : (p : Bool) → (b == w) ≡ p → Goes limit (cond p (Ok (state levels (text role t part))) (refused b)) c v → (b ≡ w) × OfText limit levels role t part c v
@@ -429,7 +429,7 @@ module _ (limit : ℕ) (levels : List Level) (role : Role) (t : List ℕ) (v : J
   low_from : (h : ℕ) (digits : Digits) (b : ℕ) (c : List ℕ) → IsPart (low h digits) t → Goes limit (in_low levels role t h digits b) c v → OfText limit levels role t (low h digits) (b ∷ c) v
   low_from h digits b c is = by (nat_lt (digit_value b) 16) refl
     where
-      test : (p : Bool) (part : Part) → Goes limit (cond p (text_goes levels role t part) (Err Syntax)) c v → OfText limit levels role t part c v
+      test : (p : Bool) (part : StringPlace) → Goes limit (cond p (text_goes levels role t part) (Err Syntax)) c v → OfText limit levels role t part c v
       test true part g = g
       test false part g = absurd g
 
@@ -499,7 +499,7 @@ module _ (limit : ℕ) (levels : List Level) (role : Role) (t : List ℕ) (v : J
       by false e h = absurd h
 
   -- one byte of a string
-  pub text_same : (part : Part) (b : ℕ) (c : List ℕ) → IsPart part t → Same (OfText limit levels role t part (b ∷ c) v) (Goes limit (in_text levels role t part b) c v)
+  pub text_same : (part : StringPlace) (b : ℕ) (c : List ℕ) → IsPart part t → Same (OfText limit levels role t part (b ∷ c) v) (Goes limit (in_text levels role t part b) c v)
   text_same plain b c is = (λ h. plain_to limit levels role t v is b c h.0 h.1 h.2 h.3, plain_from limit levels role t v is b c)
   text_same escape b c is = (λ h. escape_to limit levels role t v b c h.0 h.1 h.2 h.3, escape_from limit levels role t v b c)
   text_same (code digits) b c is = (λ h. code_to digits b c h.0 h.1 h.2 h.3, code_from digits b c is)

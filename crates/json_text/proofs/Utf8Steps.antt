@@ -10,7 +10,7 @@ use lib.Utf8.{scalar, scalars, low_scalar}
 use Rattle.json_value.specs.declared.Json.{Json}
 use Rattle.json_value.specs.declared.Json.TheVariants.{Str}
 use Rattle.json_text.specs.Grammar.{escaped, of_digits16, joined}
-use Rattle.json_text.specs.State.Machine.{Part, plain, escape, code, high, slash, low, tail, Hand, value, first_item, first_name, next_name, colon, behind, done, word, number, text, State, state, placed, tails, refused, refused_by, text_ends, text_goes, wide, in_plain, wanted, escape_goes, in_escape, paired, coded, digit_of_code, in_code, digit_of_low, in_low, behind_tail, in_tail, in_text}
+use Rattle.json_text.specs.State.Machine.{StringPlace, plain, escape, code, high, slash, low, tail, Hand, value, first_item, first_name, next_name, colon, behind, done, word, number, text, MachineState, state, placed, tails, refused, refused_by, text_ends, text_goes, wide, in_plain, wanted, escape_goes, in_escape, paired, coded, digit_of_code, in_code, digit_of_low, in_low, behind_tail, in_tail, in_text}
 use Rattle.json_text.specs.declared.state.Stop.{Stop}
 use Rattle.json_text.specs.declared.state.Stop.TheVariants.{Syntax, Utf8, Depth}
 use Rattle.json_text.specs.declared.state.Digits.{Digits}
@@ -22,10 +22,10 @@ use Rattle.json_text.specs.declared.state.Level.TheVariants.{List as LevelOfList
 use Rattle.json_text.proofs.Basics.{head_same, tail_same, is_byte, other_is, is_below, is_least, chosen}
 use Rattle.json_text.proofs.Utf8Lemmas.{Within, wide_of, of_wide, order}
 use Rattle.json_text.proofs.TextSteps.{Same}
-use Rattle.json_text.proofs.Outside.{IsWhole}
+use Rattle.json_text.proofs.OutsideStrings.{IsWhole}
 use Rattle.json_text.proofs.Finishes.{IsPart, AreRanges}
-use Rattle.json_text.proofs.Live.{tail_lows, lows_within}
-use Rattle.json_text.proofs.Valid.{ranges_of}
+use Rattle.json_text.proofs.LiveStates.{tail_lows, lows_within}
+use Rattle.json_text.proofs.ValidStates.{ranges_of}
 
 -- the rest of a character and then UTF-8
 pub record Inside (ranges : List (ℕ × ℕ)) (more : List ℕ) : Type 0 where
@@ -36,7 +36,7 @@ pub record Inside (ranges : List (ℕ × ℕ)) (more : List ℕ) : Type 0 where
   pub utf8 : IsUtf8 rest
 
 -- the bytes go on with UTF-8
-abbrev pub PartRest : Part → List ℕ → Type 0
+abbrev pub PartRest : StringPlace → List ℕ → Type 0
 PartRest plain more = IsUtf8 more
 PartRest escape more = IsUtf8 more
 PartRest (code digits) more = IsUtf8 more
@@ -142,14 +142,14 @@ lead_begins b r rs e h =
 
 -- ---- steps
 -- a step from the bytes before it: what goes on with UTF-8, and why it stops
-pub record TextStep (limit : ℕ) (before : List ℕ → Type 0) (b : ℕ) (r : Result State Stop) : Type 0 where
-  pub goes : (s : State) → r ≡ Ok s → ((more : List ℕ) → Same (before (b ∷ more)) (Utf8Rest s.hand more)) × (length s.levels ≤ limit)
+pub record TextStep (limit : ℕ) (before : List ℕ → Type 0) (b : ℕ) (r : Result MachineState Stop) : Type 0 where
+  pub goes : (s : MachineState) → r ≡ Ok s → ((more : List ℕ) → Same (before (b ∷ more)) (Utf8Rest s.hand more)) × (length s.levels ≤ limit)
   pub utf8 : r ≡ Err Utf8 → (more : List ℕ) → before (b ∷ more) → ⊥
   pub syntax : r ≡ Err Syntax → (more : List ℕ) × before (b ∷ more)
   pub depth : r ≡ Err Depth → ⊥
 
 module _ (limit : ℕ) (before : List ℕ → Type 0) (b : ℕ) where
-  on : (s : State) → ((more : List ℕ) → Same (before (b ∷ more)) (Utf8Rest s.hand more)) → length s.levels ≤ limit → TextStep limit before b (Ok s)
+  on : (s : MachineState) → ((more : List ℕ) → Same (before (b ∷ more)) (Utf8Rest s.hand more)) → length s.levels ≤ limit → TextStep limit before b (Ok s)
   on s f l = record {
     goes = λ t e. let k : s ≡ t = cc e in subst (λ x. ((more : List ℕ) → Same (before (b ∷ more)) (Utf8Rest x.hand more)) × (length x.levels ≤ limit)) k (f, l);
     utf8 = λ e. cc e;
@@ -164,7 +164,7 @@ module _ (limit : ℕ) (before : List ℕ → Type 0) (b : ℕ) where
   off_utf8 h = record { goes = λ t e. cc e; utf8 = λ e. h; syntax = λ e. cc e; depth = λ e. cc e }
 
 -- a step between characters, or in an escape
-abbrev Between : ℕ → ℕ → Result State Stop → Type 0
+abbrev Between : ℕ → ℕ → Result MachineState Stop → Type 0
 Between limit b r = TextStep limit IsUtf8 b r
 
 module _ (limit b : ℕ) where
@@ -187,10 +187,10 @@ module _ (limit b : ℕ) where
       by (r ∷ rs) e h = let k = lead_begins b r rs e h in off_syntax limit IsUtf8 b k.0 k.1
 
   module _ (levels : List Level) (role : Role) (t : List ℕ) (f : length levels ≤ limit) where
-    to_part : (u : List ℕ) (part : Part) → b < 128 → IsWhole (text role u part) → TextStep limit IsUtf8 b (text_goes levels role u part)
+    to_part : (u : List ℕ) (part : StringPlace) → b < 128 → IsWhole (text role u part) → TextStep limit IsUtf8 b (text_goes levels role u part)
     to_part u part h w = plainly levels (text role u part) f h w
 
-    wanted_step : (w : ℕ) (part : Part) → w < 128 → IsWhole (text role t part) → TextStep limit IsUtf8 b (wanted levels w (text role t part) b)
+    wanted_step : (w : ℕ) (part : StringPlace) → w < 128 → IsWhole (text role t part) → TextStep limit IsUtf8 b (wanted levels w (text role t part) b)
     wanted_step w part l h = chosen (TextStep limit IsUtf8 b) (b == w) (λ e. let n = is_byte b w e in to_part t part (omega arith) h) (λ e. refused_step)
 
     wide_step : (rs : List (ℕ × ℕ)) → tails b ≡ rs → 128 ≤ b → TextStep limit IsUtf8 b (wide levels role (t ++ (b ∷ [])) rs)
@@ -286,7 +286,7 @@ module _ (limit b : ℕ) where
       by (q ∷ qs) e = on limit (Inside (r ∷ q ∷ qs)) b (state levels (text role (t ++ (b ∷ [])) (tail (q ∷ qs)))) (λ more.
           (λ i. next_to q qs more i.own i.rest i.is i.within i.utf8, λ i. record { own = b ∷ i.own; rest = i.rest; is = ap (λ x. b ∷ x) i.is; within = (e, i.within); utf8 = i.utf8 })) f
 
-  pub text_step : (levels : List Level) (role : Role) (t : List ℕ) (part : Part) → length levels ≤ limit → IsPart part t → TextStep limit (PartRest part) b (in_text levels role t part b)
+  pub text_step : (levels : List Level) (role : Role) (t : List ℕ) (part : StringPlace) → length levels ≤ limit → IsPart part t → TextStep limit (PartRest part) b (in_text levels role t part b)
   text_step levels role t plain f h = plain_step levels role t f h
   text_step levels role t escape f h = escape_step levels role t f
   text_step levels role t (code digits) f h = code_step levels role t f digits

@@ -5,16 +5,16 @@ use Rattle.std.specs.Char.{IsScalar, digit_value, encode_utf8}
 use Rattle.sequences.specs.Pairs.{merged}
 use Rattle.json_value.specs.declared.Json.{Json}
 use Rattle.json_value.specs.declared.Json.TheVariants.{Null, Bool as JsonOfBool, Num, Str, List as JsonOfList, Map as JsonOfMap}
-use Rattle.json_text.specs.Numeral.{IsNumeral}
+use Rattle.json_text.specs.Numeral.{IsJsonNumeral}
 
 -- white space (section 2): a space, a line feed, a carriage return or a tab
-abbrev pub is_blank : ℕ → Bool
-is_blank b = b == 32 || b == 10 || b == 13 || b == 9
+abbrev pub is_whitespace : ℕ → Bool
+is_whitespace b = b == 32 || b == 10 || b == 13 || b == 9
 
 -- white space alone
 abbrev pub AreBlank : List ℕ → Type 0
 AreBlank [] = Unit {0}
-AreBlank (b ∷ bs) = (is_blank b ≡ true) × AreBlank bs
+AreBlank (b ∷ bs) = (is_whitespace b ≡ true) × AreBlank bs
 
 -- the character behind a backslash, and the one that both stand for (section 7)
 abbrev pub escaped : ℕ → Option ℕ
@@ -74,8 +74,8 @@ pub data Chars : List ℕ → List ℕ → List ℕ → Type 0 where
 
 -- The bytes are a colon, perhaps behind white space, and then the rest.
 pub data Colon : List ℕ → List ℕ → Type 0 where
-  colon_blank : (bytes rest : List ℕ) (b : ℕ) (more : List ℕ) → bytes ≡ b ∷ more → is_blank b ≡ true
-      → Colon more rest → Colon bytes rest
+  colon_blank : (bytes rest : List ℕ) (b : ℕ) (more : List ℕ) → bytes ≡ b ∷ more
+      → is_whitespace b ≡ true → Colon more rest → Colon bytes rest
   colon_here : (bytes rest : List ℕ) → bytes ≡ 58 ∷ rest → Colon bytes rest
 
 -- Each relation says that the bytes are a part of a text, perhaps behind white space, and then the
@@ -84,7 +84,7 @@ mutual
   -- a value (section 3)
   pub data Value : ℕ → List ℕ → Json → List ℕ → Type 0 where
     blank : (room : ℕ) (bytes : List ℕ) (value : Json) (rest : List ℕ) (b : ℕ) (more : List ℕ)
-        → bytes ≡ b ∷ more → is_blank b ≡ true → Value room more value rest
+        → bytes ≡ b ∷ more → is_whitespace b ≡ true → Value room more value rest
         → Value room bytes value rest
     null : (room : ℕ) (bytes : List ℕ) (value : Json) (rest : List ℕ)
         → bytes ≡ 110 ∷ 117 ∷ 108 ∷ 108 ∷ rest → value ≡ Null → Value room bytes value rest
@@ -95,7 +95,7 @@ mutual
         → bytes ≡ 102 ∷ 97 ∷ 108 ∷ 115 ∷ 101 ∷ rest → value ≡ JsonOfBool false
         → Value room bytes value rest
     number : (room : ℕ) (bytes : List ℕ) (value : Json) (rest spelled : List ℕ)
-        → bytes ≡ spelled ++ rest → value ≡ Num spelled → IsNumeral spelled
+        → bytes ≡ spelled ++ rest → value ≡ Num spelled → IsJsonNumeral spelled
         → Value room bytes value rest
     string : (room : ℕ) (bytes : List ℕ) (value : Json) (rest more text : List ℕ)
         → bytes ≡ 34 ∷ more → value ≡ Str text → Chars more text rest → Value room bytes value rest
@@ -110,7 +110,7 @@ mutual
   -- the values of a list behind its bracket (section 5)
   pub data Items : ℕ → List ℕ → List Json → List ℕ → Type 0 where
     items_blank : (room : ℕ) (bytes : List ℕ) (items : List Json) (rest : List ℕ) (b : ℕ)
-        (more : List ℕ) → bytes ≡ b ∷ more → is_blank b ≡ true → Items room more items rest
+        (more : List ℕ) → bytes ≡ b ∷ more → is_whitespace b ≡ true → Items room more items rest
         → Items room bytes items rest
     items_none : (room : ℕ) (bytes : List ℕ) (items : List Json) (rest : List ℕ) → bytes ≡ 93 ∷ rest
         → items ≡ [] → Items room bytes items rest
@@ -121,7 +121,7 @@ mutual
   -- those behind one of its values
   pub data MoreItems : ℕ → List ℕ → List Json → List ℕ → Type 0 where
     more_items_blank : (room : ℕ) (bytes : List ℕ) (items : List Json) (rest : List ℕ) (b : ℕ)
-        (more : List ℕ) → bytes ≡ b ∷ more → is_blank b ≡ true → MoreItems room more items rest
+        (more : List ℕ) → bytes ≡ b ∷ more → is_whitespace b ≡ true → MoreItems room more items rest
         → MoreItems room bytes items rest
     more_items_done : (room : ℕ) (bytes : List ℕ) (items : List Json) (rest : List ℕ)
         → bytes ≡ 93 ∷ rest → items ≡ [] → MoreItems room bytes items rest
@@ -133,7 +133,7 @@ mutual
   -- the names and values of an object behind its brace (section 4)
   pub data Pairs : ℕ → List ℕ → List (List ℕ × Json) → List ℕ → Type 0 where
     pairs_blank : (room : ℕ) (bytes : List ℕ) (pairs : List (List ℕ × Json)) (rest : List ℕ) (b : ℕ)
-        (more : List ℕ) → bytes ≡ b ∷ more → is_blank b ≡ true → Pairs room more pairs rest
+        (more : List ℕ) → bytes ≡ b ∷ more → is_whitespace b ≡ true → Pairs room more pairs rest
         → Pairs room bytes pairs rest
     pairs_none : (room : ℕ) (bytes : List ℕ) (pairs : List (List ℕ × Json)) (rest : List ℕ)
         → bytes ≡ 125 ∷ rest → pairs ≡ [] → Pairs room bytes pairs rest
@@ -145,7 +145,7 @@ mutual
   -- those behind one of its values
   pub data MorePairs : ℕ → List ℕ → List (List ℕ × Json) → List ℕ → Type 0 where
     more_pairs_blank : (room : ℕ) (bytes : List ℕ) (pairs : List (List ℕ × Json)) (rest : List ℕ)
-        (b : ℕ) (more : List ℕ) → bytes ≡ b ∷ more → is_blank b ≡ true
+        (b : ℕ) (more : List ℕ) → bytes ≡ b ∷ more → is_whitespace b ≡ true
         → MorePairs room more pairs rest → MorePairs room bytes pairs rest
     more_pairs_done : (room : ℕ) (bytes : List ℕ) (pairs : List (List ℕ × Json)) (rest : List ℕ)
         → bytes ≡ 125 ∷ rest → pairs ≡ [] → MorePairs room bytes pairs rest
@@ -158,7 +158,7 @@ mutual
   -- a name, a colon and a value
   pub data Pair : ℕ → List ℕ → List ℕ → Json → List ℕ → Type 0 where
     pair_blank : (room : ℕ) (bytes name : List ℕ) (value : Json) (rest : List ℕ) (b : ℕ)
-        (more : List ℕ) → bytes ≡ b ∷ more → is_blank b ≡ true → Pair room more name value rest
+        (more : List ℕ) → bytes ≡ b ∷ more → is_whitespace b ≡ true → Pair room more name value rest
         → Pair room bytes name value rest
     pair_named : (room : ℕ) (bytes name : List ℕ) (value : Json) (rest more mid after : List ℕ)
         → bytes ≡ 34 ∷ more → Chars more name mid → Colon mid after → Value room after value rest

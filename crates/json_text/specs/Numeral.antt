@@ -37,7 +37,7 @@ abbrev pub IsMinus : List ℕ → Type 0
 IsMinus minus = (minus ≡ []) ⊎ (minus ≡ 45 ∷ [])
 
 -- a numeral: a sign, an integer part, a fraction and an exponent
-abbrev pub IsNumeral : List ℕ → Type 0
-IsNumeral spelled = (minus : List ℕ) × (whole : List ℕ) × (fraction : List ℕ) × (exponent : List ℕ)
-    × IsMinus minus × IsWhole whole × IsFraction fraction × IsExponent exponent
-    × (spelled ≡ minus ++ (whole ++ (fraction ++ exponent)))
+abbrev pub IsJsonNumeral : List ℕ → Type 0
+IsJsonNumeral spelled = (minus : List ℕ) × (whole : List ℕ) × (fraction : List ℕ)
+    × (exponent : List ℕ) × IsMinus minus × IsWhole whole × IsFraction fraction
+    × IsExponent exponent × (spelled ≡ minus ++ (whole ++ (fraction ++ exponent)))

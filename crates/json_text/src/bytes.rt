@@ -12,8 +12,8 @@ use sequences::Text;
 use std::alloc::{AllocError, Global};
 
 /// Whether the byte is white space.
-pub(crate) fn is_blank(byte: u8) -> bool
-    ensures { result ≡ grammar.is_blank byte }
+pub(crate) fn is_whitespace(byte: u8) -> bool
+    ensures { result ≡ grammar.is_whitespace byte }
 {
     byte == b' ' || byte == b'\n' || byte == b'\r' || byte == b'\t'
 }

@@ -3,7 +3,7 @@
 ghost use Rattle.std.specs.Prelude.{◌≡◌, ◌++◌, ◌∷◌, [], List, ℕ, IfOk, OnOk, Some, None, length};
 ghost use Rattle.json_text.specs.State.Machine as spec;
 
-use crate::bytes::{ends, is_blank, next_place, text_from};
+use crate::bytes::{ends, is_whitespace, next_place, text_from};
 use crate::state::{Hand, Level, Part, Place, Role, Stop, Taken, Word};
 use json_value::{Json, JsonList, Members};
 use sequences::{Sequence, Text};
@@ -166,7 +166,7 @@ impl Machine {
         ensures { IsTaken result (spec.skipped (levels_of self.old)
             (hand_of stay self.old.text.items self.old.root) byte) (state_of self.new) }
     {
-        if is_blank(byte) {
+        if is_whitespace(byte) {
             self.goes(stay)
         } else {
             Taken::Stops(Stop::Syntax)
@@ -248,10 +248,9 @@ impl Machine {
         ensures { IfOk result (λ taken. IsTaken taken (spec.name_first (levels_of self.old) byte)
             (state_of self.new)) }
     {
-        match self.inner {
-            Some(Level::Map(_, _)) => {}
-            _ => return Ok(Taken::Stops(Stop::Syntax)),
-        }
+        let Some(Level::Map(_, _)) = self.inner else {
+            return Ok(Taken::Stops(Stop::Syntax));
+        };
         if byte == b'}' {
             self.close()
         } else {

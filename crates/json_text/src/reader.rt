@@ -26,9 +26,9 @@ pub struct JsonReader {
 }
 
 impl JsonReader {
-    ghost use Rattle.json_text.specs.Grammar.{IsLive, text_of};
+    ghost use Rattle.json_text.specs.Grammar.{text_of};
     ghost use Rattle.json_text.specs.Faults.{Names};
-    ghost use Rattle.json_text.specs.Reader.{HasRead, HasFailed};
+    ghost use Rattle.json_text.specs.Reader.{HasRead, HasFailed, ReadsOn, StaysLive};
 
     /// A reader that was fed nothing. It takes no memory.
     pub fn new(alloc: Global) -> JsonReader
@@ -44,10 +44,8 @@ impl JsonReader {
     /// Reads the next bytes. The answer is the first fault that all bytes so far have, if they have
     /// one; any later call answers that fault again, want of memory included.
     pub fn feed(&mut self, piece: &[u8]) -> Result<(), JsonFault>
-        ensures read { OnOk result ((bytes : List ℕ) → HasRead bytes self.old →
-            HasRead (bytes ++ piece.now) self.new) }
-        ensures live { OnOk result ((bytes : List ℕ) → HasRead bytes self.old →
-            IsLive (bytes ++ piece.now) × (length (bytes ++ piece.now) ≤ most_bytes)) }
+        ensures read { OnOk result (ReadsOn self.old piece.now self.new) }
+        ensures live { OnOk result (StaysLive self.old piece.now) }
         ensures fault { IfErr result (λ fault. (bytes : List ℕ) → HasRead bytes self.old →
             Names fault (bytes ++ piece.now)) }
         ensures failed { IfErr result (λ fault. HasFailed fault self.new) }
@@ -56,21 +54,17 @@ impl JsonReader {
         if let Some(fault) = self.fault {
             return Err(fault);
         }
-        match self.take(piece) {
-            Ok(()) => Ok(()),
-            Err(fault) => {
-                self.fault = Some(fault);
-                Err(fault)
-            }
+        let taken = self.take(piece);
+        if let Err(fault) = taken {
+            self.fault = Some(fault);
         }
+        taken
     }
 
     /// Reads the next bytes where no fault came before.
     fn take(&mut self, piece: &[u8]) -> Result<(), JsonFault>
-        ensures read { OnOk result ((bytes : List ℕ) → HasRead bytes self.old →
-            HasRead (bytes ++ piece.now) self.new) }
-        ensures live { OnOk result ((bytes : List ℕ) → HasRead bytes self.old →
-            IsLive (bytes ++ piece.now) × (length (bytes ++ piece.now) ≤ most_bytes)) }
+        ensures read { OnOk result (ReadsOn self.old piece.now self.new) }
+        ensures live { OnOk result (StaysLive self.old piece.now) }
         ensures fault { IfErr result (λ fault. (bytes : List ℕ) → HasRead bytes self.old →
             Names fault (bytes ++ piece.now)) }
     {

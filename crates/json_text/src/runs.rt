@@ -8,7 +8,7 @@ ghost use Rattle.json_text.specs.Numeral.{AreDigits};
 ghost use Rattle.json_text.specs.State.Runs.{IsRan, Skims, ArePlain};
 ghost use Rattle.json_text.specs.State.Stands.{AddsText};
 
-use crate::bytes::{after, before, ends, is_blank, is_plain};
+use crate::bytes::{after, before, ends, is_plain, is_whitespace};
 use crate::machine::Machine;
 use crate::state::{Hand, Part, Place, Ran, Taken};
 use json_value::Json;
@@ -131,7 +131,7 @@ fn blank_count(bytes: &[u8]) -> usize
     ensures blank { AreBlank (take result bytes.now) }
 {
     for (index, byte) in bytes.iter().enumerate() {
-        if !is_blank(*byte) {
+        if !is_whitespace(*byte) {
             return index;
         }
     }

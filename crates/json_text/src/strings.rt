@@ -247,10 +247,8 @@ impl Machine {
             (state_of self.new)) }
     {
         let digit = digit_value(byte);
-        if digit >= 16 {
-            return Ok(Taken::Stops(refused(byte)));
-        }
         match digits {
+            _ if digit >= 16 => Ok(Taken::Stops(refused(byte))),
             Digits::Zero if digit != 13 => Ok(Taken::Stops(Stop::Syntax)),
             Digits::Zero => Ok(self.text_goes(role, Part::Low(high, Digits::One(byte)))),
             Digits::One(_) if digit < 12 => Ok(Taken::Stops(Stop::Syntax)),

@@ -18,7 +18,7 @@ pub fn copy_json(alloc: Global, value: &Json) -> Result<Json, AllocError>
         Json::Num(numeral) => Ok(Json::Num(Text::of(alloc, numeral.as_str())?)),
         Json::Str(text) => Ok(Json::Str(Text::of(alloc, text.as_str())?)),
         Json::List(list) => Ok(Json::List(Sequence::of(copy_items(alloc, list.as_slice())?))),
-        Json::Map(members) => Ok(Json::Map(NamedValues::of(copy_pairs(alloc, members)?))),
+        Json::Map(members) => Ok(Json::Map(copy_members(alloc, members)?)),
     }
 }
 
@@ -32,6 +32,14 @@ fn copy_items(alloc: Global, items: &[Json]) -> Result<Vec<Json>, AllocError>
         copies.push(copy_json(alloc, item)?)?;
     }
     Ok(copies)
+}
+
+/// Equal members, in memory of their own.
+#[cycle(copy)]
+pub fn copy_members(alloc: Global, members: &Members) -> Result<Members, AllocError>
+    ensures { IfOk result (λ copy. copy ≡ members.now) }
+{
+    Ok(NamedValues::of(copy_pairs(alloc, members)?))
 }
 
 /// Equal pairs, in a list with no room to spare.

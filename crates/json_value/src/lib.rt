@@ -1,18 +1,20 @@
 //! The values of JSON (RFC 8259) as a tree that contracts see as pure data.
 //!
-//! In a clause a [`Json`] is the value itself, with lists of values, lists of pairs of a name and a value, and texts as
-//! lists of their UTF-8 bytes inside it. So two equal values are equal there, whatever memory holds them.
+//! In a clause a [`Json`] is the value itself, with lists of values, lists of pairs of a name and a
+//! value, and texts as lists of their UTF-8 bytes inside it. So two equal values are equal there,
+//! whatever memory holds them.
 #![tactic(auto)]
 
 mod copies;
 
-pub use copies::copy_json;
+pub use copies::{copy_json, copy_members};
 use sequences::{NamedValues, Sequence, Text};
 
 /// The members of an array, in order.
 pub type JsonList = Sequence<Json>;
 
-/// The members of an object, in order, under distinct names. A name is its characters, with no escape left in it.
+/// The members of an object, in order, under distinct names. A name is its characters, with no
+/// escape left in it.
 pub type Members = NamedValues<Json>;
 
 /// A value of JSON (RFC 8259).

@@ -1,5 +1,5 @@
-//! The limits of the program, each named once: a constant for code, and a word of `specs/Limits.antt`
-//! for clauses, the same number.
+//! The limits of the program, each named once: a constant for code, and a word of
+//! `specs/Limits.antt` for clauses, the same number.
 #![tactic(auto)]
 
 /// The most bytes of one file that are read.

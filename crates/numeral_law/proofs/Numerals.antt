@@ -1,20 +1,14 @@
 -- From a numeral of a JSON value to a number that exact times are read from, and back.
-use Rattle.std.proofs.Common.{◌≡◌, ℕ, ◌<◌, ◌≤◌, ◌≢◌, inl, inr, Bool, true, false, List, [], ◌∷◌, ◌++◌, length, refl, ◌∙◌, ap, arith}
+use Rattle.std.proofs.Common.{◌≡◌, ℕ, ◌≤◌, ◌≢◌, inl, inr, Bool, true, false, List, [], ◌∷◌, ◌++◌, length, refl, ◌∙◌, ap, arith}
 use Rattle.std.specs.Prelude.{◌==◌}
-use Rattle.std.specs.Char.{digit_value, is_ascii_digit}
+use Rattle.std.specs.Char.{is_ascii_digit}
 use Rattle.std.specs.Str.Parse.{AllDigits}
 use Rattle.std.proofs.lemmas.Bool.Decides.{nat_tests}
-use Rattle.std.proofs.lemmas.Str.{digit_value_digit}
 use Rattle.std.proofs.lemmas.Str.Parse.{digit_from_value}
-use Rattle.json_text.specs.Numeral.{IsNumeral as IsJsonNumeral, AreDigits as JsonDigits, SomeDigits, IsWhole, IsFraction, IsSigned as IsJsonSigned, IsExponent as IsJsonExponent, IsMinus}
+use Rattle.json_text.specs.Numeral.{IsJsonNumeral, AreDigits as JsonDigits, SomeDigits, IsWhole, IsFraction, IsSigned as IsJsonSigned, IsExponent as IsJsonExponent, IsMinus}
 use Rattle.tick_time.specs.Numerals.{minus, frac, IsInt, AreDigits, IsSigned, bare, behind, IsExp, absent, plain, raised, lowered, IsExponent, IsTail, IsNumeral}
-use Rattle.tick_time.proofs.Joins.{exponent_none, signed_exponent, tail_point, numeral_joined}
-
-digit_small : (c : ℕ) → is_ascii_digit c ≡ true → digit_value c < 10
-digit_small c e = let d = digit_value_digit c (grind (arith, nat_tests)) in grind (arith, nat_tests)
-
-digit_test : (c : ℕ) → digit_value c < 10 → is_ascii_digit c ≡ true
-digit_test c small = let r = digit_from_value c small in grind (arith, nat_tests)
+use Rattle.tick_time.proofs.Scans.{digit_test}
+use Rattle.tick_time.proofs.Joins.{digit_small, exponent_none, signed_exponent, tail_point, numeral_joined}
 
 all_of : (ds : List ℕ) → JsonDigits ds → AllDigits 10 ds
 all_of [] all = tt

@@ -3,7 +3,7 @@ use Rattle.std.proofs.Common.{◌≡◌, ◌≢◌, ℕ, ℤ, pos, Bool, true, f
 use Rattle.std.specs.List.{list_any}
 use Rattle.json_value.specs.declared.Json.{Json}
 use Rattle.json_value.specs.declared.Json.TheVariants as J
-use Rattle.tick_time.specs.Times.{IsSpeed}
+use Rattle.tick_time.specs.Times.{IsSpeed, is_speed}
 use Rattle.otio_model.specs.declared.compositions.Listed.{Listed}
 use Rattle.otio_model.specs.declared.compositions.ItemOf.{ItemOf}
 use Rattle.otio_model.specs.declared.compositions.ItemOf.TheVariants as I
@@ -28,17 +28,18 @@ use Rattle.schema_rows.specs.declared.values.Value.{Value}
 use Rattle.schema_rows.specs.declared.values.Value.TheVariants as V
 use Rattle.schema_rows.specs.Schemas.{rows_of, IsForeign}
 use Rattle.schema_rows.specs.Readings.{Reading, known, kept, plain_schema, stack_fields, item_fields, object_layer, object_fields, effect_reading, marker_reading, medium_reading, missing_fields}
-use Rattle.schema_rows.specs.Defaults.{default_of, absent_value, is_speed, empty_tracks, empty_missing}
+use Rattle.schema_rows.specs.Defaults.{default_of, absent_value, empty_tracks, empty_missing}
 use Rattle.otio_model.specs.Misplaced.{side_by_side, is_negative}
+use Rattle.otio_model.proofs.SpeedLemmas.{speed_of_test}
 use Rattle.schema_rows.specs.Families.{Want, child, member, medium, others, breaks, stilled, is_freeze}
 use Rattle.schema_rows.specs.Stands as W
 use Rattle.schema_rows.specs.Stands.{Gives, Gives_row, Gives_rows, Gives_fields, Gives_reading, Gives_all, Stands}
 use Rattle.schema_write.specs.Tables.{reading_json}
 use Rattle.object_law.specs.Writable as Q
 use Rattle.object_law.specs.Writable.{AreOthers, IsEffect, AreEffects, IsMarker, AreMarkers, IsMedium, AreMedia, IsItem, IsStack, AreItems, IsObject, AreObjects}
-use Rattle.object_law.proofs.Found.{others_twice}
-use Rattle.object_law.proofs.Held.{still_speed, speed_by, no_children}
-use Rattle.object_law.proofs.Stilled.{all_still, all_break, not_null}
+use Rattle.object_law.proofs.FoundMembers.{others_twice}
+use Rattle.object_law.proofs.HeldValues.{still_speed, no_children}
+use Rattle.object_law.proofs.StillSpeeds.{all_still, all_break, not_null}
 
 -- what is known of a value that was read in a row of the kind
 abbrev Content : RowKind → Value → Type 0
@@ -225,7 +226,7 @@ empty_read = Q.stack_of empty_tracks refl tt tt (ap (list_any is_transition) no_
 
 number_content : (default : ℤ) (value : Value) (t : Bool) → is_speed default ≡ t → cond t (Some (V.Number default)) None ≡ Some value → Content (R.number default) value
 number_content default value false e h = absurd (cc h)
-number_content default value true e h = let v : V.Number default ≡ value = cc h in (default, sym v, speed_by default e)
+number_content default value true e h = let v : V.Number default ≡ value = cc h in (default, sym v, speed_of_test default e)
 
 default_content : (kind : RowKind) (value : Value) → default_of kind ≡ Some value → Content kind value
 default_content (R.text default) value h = tt

@@ -14,9 +14,9 @@ use Rattle.schema_rows.specs.Stands as W
 use Rattle.schema_rows.specs.Stands.{Gives, Gives_fields}
 use Rattle.schema_write.specs.Texts.{decimal_text, rate_text, value_text}
 use Rattle.schema_write.specs.Objects.{time_json, range_json}
-use Rattle.schema_write.proofs.Reread.{speed_reads, rate_reads, time_reads}
-use Rattle.object_law.proofs.Found.{given}
-use Rattle.object_law.proofs.Named.{written_stands}
+use Rattle.schema_write.proofs.RereadTexts.{speed_reads, rate_reads, time_reads}
+use Rattle.object_law.proofs.FoundMembers.{given}
+use Rattle.object_law.proofs.NamedSchemas.{written_stands}
 
 pub map_not_null : (members : List (List ℕ × Json)) → J.Map members ≢ J.Null
 map_not_null members e = cc

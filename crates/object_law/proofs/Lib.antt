@@ -1,8 +1,8 @@
-pub mod Found
-pub mod Named
+pub mod FoundMembers
+pub mod NamedSchemas
 pub mod Leaves
-pub mod Held
-pub mod Stilled
+pub mod HeldValues
+pub mod StillSpeeds
 pub mod Writables
 pub mod Contents
-pub mod Patched
+pub mod PatchedTimelines

@@ -38,19 +38,19 @@ use Rattle.schema_rows.specs.Readings.{known, kept, plain_schema, clip_fields, g
 use Rattle.otio_model.specs.Misplaced.{side_by_side, is_negative}
 use Rattle.schema_rows.specs.Families.{child, member, medium}
 use Rattle.schema_rows.specs.Stands as W
-use Rattle.schema_rows.specs.Stands.{Gives, Gives_fields, Gives_reading, Gives_all, Stands}
+use Rattle.schema_rows.specs.Stands.{Gives_fields, Gives_reading, Gives_all, Stands}
 use Rattle.schema_write.specs.Objects.{span_json, offset_json, range_json, time_json, effect_json, effects_json, marker_json, markers_json, medium_json, medium_pair, media_json, clip_json, gap_json, transition_json, stack_by, track_by, children_json, item_json, json_of}
 use Rattle.schema_write.specs.Tables.{fields_json}
 use Rattle.schema_write.specs.Texts.{decimal_text}
 use Rattle.schema_write.specs.Written.{written}
 use Rattle.schema_write.proofs.Values.{media_names}
-use Rattle.schema_write.proofs.Tabled.{zero_text, stack_tabled, track_tabled, item_tabled, object_tabled}
+use Rattle.schema_write.proofs.TableForms.{zero_text, stack_tabled, track_tabled, item_tabled, object_tabled}
 use Rattle.object_law.specs.Writable as Q
 use Rattle.object_law.specs.Writable.{AreOthers, IsEffect, AreEffects, IsMarker, AreMarkers, IsMedium, AreMedia, IsClip, IsGap, IsTransition, IsItem, IsStack, IsTrack, AreItems, IsTimeline, IsObject, AreObjects}
-use Rattle.object_law.proofs.Found.{Holds, left_out}
-use Rattle.object_law.proofs.Named.{written_stands}
+use Rattle.object_law.proofs.FoundMembers.{Holds, left_out}
+use Rattle.object_law.proofs.NamedSchemas.{written_stands}
 use Rattle.object_law.proofs.Leaves.{map_not_null, num_not_null, number_gives, time_gives, span_gives}
-use Rattle.object_law.proofs.Held.{list_not_null, held_as, meta_held, text_held, flag_held}
+use Rattle.object_law.proofs.HeldValues.{list_not_null, held_as, meta_held, text_held, flag_held}
 
 span_held : (row : Row) (span : Option Span) → row.kind ≡ R.span → row.need ≡ false → Holds row (span_json span) (V.Span span)
 span_held row None k n = left_out refl (rw (n, k) refl)

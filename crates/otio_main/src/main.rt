@@ -32,8 +32,8 @@ fn main(rt: HostRuntime) -> ExitCode {
 }
 
 // The null device at each of the descriptors 0 to 2 that is closed. While they are held, no file of
-// the run gets one of these, so no message lands in a file. As on a closed descriptor, reading fails
-// at 0, which is open for writing alone, and writing at 1 and 2, which are open for reading.
+// the run gets one of these, so no message lands in a file. As on a closed descriptor, reading
+// fails at 0, which is open for writing alone, and writing at 1 and 2, which are open for reading.
 fn hold_standard(rt: &HostRuntime) -> [Option<File>; 3] {
     let input = up_to(0, OpenOptions::new().write(true).open(rt, NULL_DEVICE));
     let output = up_to(2, File::open(rt, NULL_DEVICE));

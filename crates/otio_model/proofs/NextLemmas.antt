@@ -12,12 +12,12 @@ use Rattle.otio_model.specs.declared.lists.Piece.{Piece}
 use Rattle.otio_model.specs.declared.kept.Kept.{Kept}
 use Rattle.otio_model.specs.declared.seeks.Seat.{Seat}
 use Rattle.otio_model.specs.Trees.{items_of}
-use Rattle.otio_model.specs.Kept.{IsTransition, one_transition, transitions_in}
+use Rattle.otio_model.specs.Kept.{capped_count, IsTransition, one_transition, transitions_in}
 use Rattle.otio_model.specs.Pieces.{all_items, IsPiece}
-use Rattle.otio_model.specs.Seats.{IsNextTransition}
-use Rattle.otio_model.specs.Seeks.{HasNone, IsNext, lens, total}
+use Rattle.otio_model.specs.Seats.{HasNoMore, IsNextTransition}
+use Rattle.otio_model.specs.Seeks.{HasNone, IsNext, IsRead, lens, total}
 use Rattle.otio_model.proofs.Cuts.{all_items-last}
-use Rattle.otio_model.proofs.Keeping.{taken_all, transitions-append}
+use Rattle.otio_model.proofs.KeptLemmas.{taken_all, transitions-append}
 use Rattle.otio_model.proofs.SeekLemmas.{lens-append, length-lens, split-at, start-total}
 use Rattle.otio_model.proofs.SeekLemmas.{total-append, total-take_le}
 use Rattle.otio_model.proofs.Spots.{get_front, get_past}
@@ -70,6 +70,11 @@ none_kept p from k e =
         e,
       );
     }
+
+-- a list that keeps no transition has none
+pub no_more : (l : Listed) (n from : ℕ) → n ≡ capped_count (transitions_in (items_of l)) → n ≡ 0
+    → HasNoMore l from
+no_more l n from e z = omega (arith, e, z, taken_few (items_of l) from)
 
 pub none_behind : (xs : List (ItemOf Listed)) (from : ℕ) → length xs ≤ from → HasNone xs from
 none_behind xs from h = record { same = ap transitions_in (sym (taken_all xs from h)) }
@@ -129,36 +134,30 @@ next_within a p c from index start h k = record {
 }
 
 -- what is known of a search that goes on
-pub none_next : (ps : List Piece) (i : ℕ) (p : Piece) (before from less : ℕ) → i < length ps
-    → p ≡ get_or ps i p → before ≡ length (all_items (take i ps)) → less ≡ from - before
-    → HasNone (all_items (take i ps)) from → HasNone p.items.items less
-    → HasNone (all_items (take (i + 1) ps)) from
-none_next ps i p before from less h e b l n k =
+pub none_next : {ps : List Piece} {i from less : ℕ} {p : Piece} → IsRead ps i p
+    → less ≡ from - p.start.items → HasNone (all_items (take i ps)) from
+    → HasNone p.items.items less → HasNone (all_items (take (i + 1) ps)) from
+none_next {ps = ps} {i = i} {from = from} {p = p} f l n k =
     let m : all_items (take (i + 1) ps) ≡ all_items (take i ps) ++ p.items.items =
-    ap all_items (take_more ps i p h ∙ ap (λ y. take i ps ++ y ∷ []) (sym e))
+    ap all_items (take_more ps i p f.there ∙ ap (λ y. take i ps ++ y ∷ []) (sym f.read))
     ∙ all_items-last (take i ps) p in
     subst (λ xs. HasNone xs from) (sym m)
     (none_in (all_items (take i ps)) p.items.items from n
-    (subst (HasNone p.items.items) (l ∙ ap (λ n. from - n) b) k))
-
-pub none_end : (ps : List Piece) (i from : ℕ) → length ps ≤ i → HasNone (all_items (take i ps)) from
-    → HasNone (all_items ps) from
-none_end ps i from h n = subst (λ qs. HasNone (all_items qs) from) (taken_all ps i h) n
+    (subst (HasNone p.items.items) (l ∙ ap (λ n. from - n) f.before) k))
 
 -- what is found in a piece is found in all
-pub next_at : (ps : List Piece) (i : ℕ) (p : Piece) (start before from less index inner : ℕ)
-    → i < length ps → p ≡ get_or ps i p → start ≡ total (lens (all_items (take i ps)))
-    → before ≡ length (all_items (take i ps)) → less ≡ from - before
-    → HasNone (all_items (take i ps)) from → IsNext p.items.items less index inner
-    → IsNext (all_items ps) from (before + index) (start + inner)
-next_at ps i p start before from less index inner h e s b l n k =
+pub next_at : {ps : List Piece} {i from less index inner : ℕ} {p : Piece} → IsRead ps i p
+    → less ≡ from - p.start.items → HasNone (all_items (take i ps)) from
+    → IsNext p.items.items less index inner
+    → IsNext (all_items ps) from (p.start.items + index) (p.start.ticks + inner)
+next_at {ps = ps} {i = i} {from = from} {index = index} {inner = inner} {p = p} f l n k =
     let a = all_items (take i ps) in
     let c = all_items (drop (i + 1) ps) in
-    let w : all_items ps ≡ a ++ (p.items.items ++ c) = split-at ps i p h
-    ∙ ap (λ (x : Piece). a ++ (x.items.items ++ c)) (sym e) in
+    let w : all_items ps ≡ a ++ (p.items.items ++ c) = split-at ps i p f.there
+    ∙ ap (λ (x : Piece). a ++ (x.items.items ++ c)) (sym f.read) in
     let there = next_within a p.items.items c from index inner n
-    (subst (λ m. IsNext p.items.items m index inner) (l ∙ ap (λ n. from - n) b) k) in
-    rw (b, s, w) there
+    (subst (λ m. IsNext p.items.items m index inner) (l ∙ ap (λ n. from - n) f.before) k) in
+    rw (f.before, f.start, w) there
 
 -- what was found in natural numbers, as a seat
 pub next_seated : (l : Listed) (xs : List (ItemOf Listed)) (from index start : ℕ) (s : Seat)

@@ -6,7 +6,7 @@ use Rattle.std.proofs.Common.{take, drop, length, get_or, refl, ap, sym, ◌∙�
 use Rattle.std.proofs.Common.{length-append}
 use Rattle.std.specs.Prelude.{IsSomeAnd, slice_get, negsuc, int_le, int_lt, unsigned_abs}
 use Rattle.std.proofs.lemmas.Int.{ints}
-use Rattle.std.proofs.lemmas.List.{take_more, take-append-le}
+use Rattle.std.proofs.lemmas.List.{take-append-drop, take_more, take-append-le}
 use Rattle.std.proofs.Math.Seq.{take-append-add}
 use Rattle.tick_time.specs.declared.times.Time.{Time}
 use Rattle.otio_model.specs.declared.compositions.ItemOf.{ItemOf}
@@ -18,25 +18,25 @@ use Rattle.otio_model.specs.declared.kept.Kept.{Kept}
 use Rattle.otio_model.specs.declared.seeks.Seat.{Seat}
 use Rattle.otio_model.specs.Trees.{items_of}
 use Rattle.otio_model.specs.Lengths.{length_of, or_zero}
-use Rattle.otio_model.specs.Sums.{capped}
 use Rattle.otio_model.specs.Overlaps.{overlaps, offset_of, within}
 use Rattle.otio_model.specs.Kept.{capped_count, offset_reach, one_transition, reach_in}
 use Rattle.otio_model.specs.Kept.{reach_of, transitions_in}
 use Rattle.otio_model.specs.Pieces.{all_items, IsPiece}
 use Rattle.otio_model.specs.Seats.{HasNoOverlap, IsFirstOverlap, overlap_holds}
-use Rattle.otio_model.specs.Seeks.{IsOver, NoneOver, lens, total}
-use Rattle.otio_model.proofs.Cuts.{all_items-last}
-use Rattle.otio_model.proofs.Keeping.{taken_all}
-use Rattle.otio_model.proofs.SeekLemmas.{added-total, lens-append, length-lens, split-at}
+use Rattle.otio_model.specs.Seeks.{IsOver, IsRead, NoneOver, lens, total}
+use Rattle.otio_model.proofs.Cuts.{all_items-append, all_items-last}
+use Rattle.otio_model.proofs.KeptLemmas.{reach-append}
+use Rattle.otio_model.proofs.SeekLemmas.{lens-append, length-lens, split-at}
 use Rattle.otio_model.proofs.SeekLemmas.{start-total, total-append, total-take_le}
 use Rattle.otio_model.proofs.Spots.{get_front, get_past}
 use Rattle.otio_model.proofs.Ways.{get_at}
 
-below : (a b w : ℤ) → w <ℤ a → within a b w ≡ false
-below a b w h = let e : int_le a w ≡ false = grind (arith, ints) in rw e
+within_below : (a b w : ℤ) → w <ℤ a → within a b w ≡ false
+within_below a b w h = let e : int_le a w ≡ false = grind (arith, ints) in rw e
 
-above : (a b w : ℤ) → b ≤ℤ w → within a b w ≡ false
-above a b w h = let f : int_lt w b ≡ false = grind (arith, ints) in rw f (last_false (int_le a w))
+within_above : (a b w : ℤ) → b ≤ℤ w → within a b w ≡ false
+within_above a b w h =
+    let f : int_lt w b ≡ false = grind (arith, ints) in rw f (last_false (int_le a w))
   where
     last_false : (t : Bool) → (t && false) ≡ false
     last_false true = refl
@@ -51,13 +51,14 @@ offset_near : (o : Option Time) → offset_of o ≤ℤ pos (offset_reach o)
 offset_near None = omega (arith, ints)
 offset_near (Some t) = int_reach t.ticks
 
--- an overlap holds no instant that lies further than it reaches
-far_behind : (x : ItemOf Listed) (w : ℤ) → pos (reach_of x) <ℤ w → overlaps x w ≡ false
+-- an overlap holds no instant that lies as far behind its cut as it reaches, or further before it
+far_behind : (x : ItemOf Listed) (w : ℤ) → pos (reach_of x) ≤ℤ w → overlaps x w ≡ false
 far_behind (Clip c) w h = refl
 far_behind (Gap g) w h = refl
 far_behind (Transition t) w h =
     let n = offset_near t.out_offset in
-    above (pos 0 -ℤ offset_of t.in_offset) (offset_of t.out_offset) w (omega (arith, ints, h, n))
+    within_above (pos 0 -ℤ offset_of t.in_offset) (offset_of t.out_offset) w
+    (omega (arith, ints, h, n))
 far_behind (Stack s) w h = refl
 far_behind (Track t) w h = refl
 
@@ -66,11 +67,12 @@ far_ahead (Clip c) w h = refl
 far_ahead (Gap g) w h = refl
 far_ahead (Transition t) w h =
     let n = offset_near t.in_offset in
-    below (pos 0 -ℤ offset_of t.in_offset) (offset_of t.out_offset) w (omega (arith, ints, h, n))
+    within_below (pos 0 -ℤ offset_of t.in_offset) (offset_of t.out_offset) w
+    (omega (arith, ints, h, n))
 far_ahead (Stack s) w h = refl
 far_ahead (Track t) w h = refl
 
-none_behind : (xs : List (ItemOf Listed)) (w : ℤ) → pos (total (lens xs) + reach_in xs) <ℤ w
+none_behind : (xs : List (ItemOf Listed)) (w : ℤ) → pos (total (lens xs) + reach_in xs) ≤ℤ w
     → NoneOver xs w
 none_behind [] w h = tt
 none_behind (x ∷ xs) w h = (
@@ -113,11 +115,6 @@ none_append (x ∷ a) p w h k = (
 pub abs_pos : (z : ℤ) → pos 0 ≤ℤ z → pos (unsigned_abs z) ≡ z
 abs_pos (pos n) h = refl
 abs_pos (negsuc n) h = absurd (omega (arith, ints, h))
-
--- what a piece keeps of its lengths
-pub kept_ticks : (p : Piece) → IsPiece p
-    → p.kept.lengths.ticks ≡ capped (total (lens p.items.items))
-kept_ticks p k = ap (λ (x : Kept). x.lengths.ticks) k.keeps ∙ ap capped (added-total p.items.items)
 
 -- a piece that ends too early, or begins too late
 pub piece_behind : (p : Piece) (first at : ℕ) → IsPiece p
@@ -203,38 +200,62 @@ over_within a p c w index start h k =
     }
 
 -- what is found in a piece is found in all
-pub over_at : (ps : List Piece) (i : ℕ) (p : Piece) (start before at index inner : ℕ)
-    → i < length ps → p ≡ get_or ps i p
-    → start ≡ total (lens (all_items (take i ps))) → before ≡ length (all_items (take i ps))
+pub over_at : {ps : List Piece} {i at index inner : ℕ} {p : Piece} → IsRead ps i p
     → NoneOver (all_items (take i ps)) (pos at)
-    → IsOver p.items.items (pos at -ℤ pos start) index inner
-    → IsOver (all_items ps) (pos at) (before + index) (start + inner)
-over_at ps i p start before at index inner h e s b n k =
+    → IsOver p.items.items (pos at -ℤ pos p.start.ticks) index inner
+    → IsOver (all_items ps) (pos at) (p.start.items + index) (p.start.ticks + inner)
+over_at {ps = ps} {i = i} {at = at} {index = index} {inner = inner} {p = p} f n k =
     let a = all_items (take i ps) in
     let c = all_items (drop (i + 1) ps) in
-    let w : all_items ps ≡ a ++ (p.items.items ++ c) = split-at ps i p h
-    ∙ ap (λ (x : Piece). a ++ (x.items.items ++ c)) (sym e) in
+    let w : all_items ps ≡ a ++ (p.items.items ++ c) = split-at ps i p f.there
+    ∙ ap (λ (x : Piece). a ++ (x.items.items ++ c)) (sym f.read) in
     let inside : IsOver p.items.items (pos at -ℤ pos (total (lens a))) index inner
-    = subst (λ n. IsOver p.items.items (pos at -ℤ pos n) index inner) s k in
-    rw (b, s, w) (over_within a p.items.items c (pos at) index inner n inside)
+    = subst (λ n. IsOver p.items.items (pos at -ℤ pos n) index inner) f.start k in
+    rw (f.before, f.start, w) (over_within a p.items.items c (pos at) index inner n inside)
 
 -- a search that goes on
-pub over_next : (ps : List Piece) (i : ℕ) (p : Piece) (start at : ℕ) → i < length ps
-    → p ≡ get_or ps i p
-    → start ≡ total (lens (all_items (take i ps))) → NoneOver (all_items (take i ps)) (pos at)
-    → NoneOver p.items.items (pos at -ℤ pos start)
+pub over_next : {ps : List Piece} {i : ℕ} {p : Piece} (at : ℕ) → IsRead ps i p
+    → NoneOver (all_items (take i ps)) (pos at)
+    → NoneOver p.items.items (pos at -ℤ pos p.start.ticks)
     → NoneOver (all_items (take (i + 1) ps)) (pos at)
-over_next ps i p start at h e s n k =
+over_next {ps = ps} {i = i} {p = p} at f n k =
     let m : all_items (take (i + 1) ps) ≡ all_items (take i ps) ++ p.items.items
-    = ap all_items (take_more ps i p h ∙ ap (λ y. take i ps ++ y ∷ []) (sym e))
+    = ap all_items (take_more ps i p f.there ∙ ap (λ y. take i ps ++ y ∷ []) (sym f.read))
     ∙ all_items-last (take i ps) p in
     subst (λ xs. NoneOver xs (pos at)) (sym m)
     (none_append (all_items (take i ps)) p.items.items (pos at) n
-    (subst (λ n. NoneOver p.items.items (pos at -ℤ pos n)) s k))
+    (subst (λ n. NoneOver p.items.items (pos at -ℤ pos n)) f.start k))
 
-pub over_end : (ps : List Piece) (i : ℕ) (w : ℤ) → length ps ≤ i
-    → NoneOver (all_items (take i ps)) w → NoneOver (all_items ps) w
-over_end ps i w h n = subst (λ qs. NoneOver (all_items qs) w) (taken_all ps i h) n
+-- pieces as those before one of them and the others
+parted : (ps : List Piece) (i : ℕ) → all_items ps ≡ all_items (take i ps) ++ all_items (drop i ps)
+parted ps i = ap all_items (sym (take-append-drop i ps)) ∙ all_items-append (take i ps) (drop i ps)
+
+-- what stands before a piece ends too early
+pub over_before : (ps : List Piece) (i at reach : ℕ) → reach_in (all_items ps) ≤ reach
+    → total (lens (all_items (take i ps))) + reach ≤ at → NoneOver (all_items (take i ps)) (pos at)
+over_before ps i at reach r h =
+    let a = all_items (take i ps) in
+    none_behind a (pos at)
+    (omega (
+      arith,
+      ints,
+      h,
+      r,
+      ap reach_in (parted ps i),
+      reach-append a (all_items (drop i ps)),
+    ))
+
+-- a piece and what stands behind it begin too late
+pub over_behind : {ps : List Piece} {i reach : ℕ} {p : Piece} (at : ℕ) → IsRead ps i p
+    → reach_in (all_items ps) ≤ reach → at + reach < p.start.ticks
+    → NoneOver (all_items (take i ps)) (pos at) → NoneOver (all_items ps) (pos at)
+over_behind {ps = ps} {i = i} at f r h n =
+    let a = all_items (take i ps) in
+    let c = all_items (drop i ps) in
+    let late : (pos at -ℤ pos (total (lens a))) <ℤ (pos 0 -ℤ pos (reach_in c)) =
+    omega (arith, ints, f.start, h, r, ap reach_in (parted ps i), reach-append a c) in
+    subst (λ xs. NoneOver xs (pos at)) (sym (parted ps i))
+    (none_append a c (pos at) n (none_ahead c (pos at -ℤ pos (total (lens a))) late))
 
 pub over_short : {xs : List (ItemOf Listed)} {w : ℤ} {index start : ℕ} → IsOver xs w index start
     → start ≤ total (lens xs)

@@ -1,5 +1,5 @@
 -- Lengths of items in pieces.
-use Rattle.std.proofs.Common.{◌≡◌, ℕ, zero, suc, ◌+◌, ◌/◌, ◌-◌, ◌≤◌, ◌<◌, ◌^◌, List, [], ◌∷◌, ◌++◌}
+use Rattle.std.proofs.Common.{◌≡◌, ℕ, zero, suc, ◌+◌, ◌-◌, ◌≤◌, ◌<◌, ◌^◌, List, [], ◌∷◌, ◌++◌}
 use Rattle.std.proofs.Common.{Option, Some, None, map, take, drop, length, get_or, refl, ap, sym}
 use Rattle.std.proofs.Common.{◌∙◌, arith, append_assoc, length-append, subst}
 use Rattle.std.specs.Prelude.{ℤ, option_map, pos, negsuc, ◌≤ℤ◌, slice_index, unsigned_abs}
@@ -12,8 +12,10 @@ use Rattle.otio_model.specs.declared.compositions.Listed.{Listed}
 use Rattle.otio_model.specs.declared.lists.Piece.{Piece}
 use Rattle.otio_model.specs.declared.seeks.Seat.{Seat}
 use Rattle.otio_model.specs.Seats.{IsSeat}
-use Rattle.otio_model.specs.Seeks.{total, Holds, lens}
-use Rattle.otio_model.specs.Pieces.{all_items, ArePieces}
+use Rattle.otio_model.specs.declared.numbers.PieceStart.{PieceStart}
+use Rattle.otio_model.specs.Seeks.{total, Holds, IsAround, IsRead, lens}
+use Rattle.otio_model.specs.Pieces.{all_items, AllPieces, AreNumbered, ArePieces, front, IsPiece}
+use Rattle.otio_model.specs.Pieces.{start_past, start_past_all}
 use Rattle.otio_model.specs.declared.kept.Kept.{Kept}
 use Rattle.otio_model.specs.Trees.{items_of}
 use Rattle.otio_model.specs.Sums.{capped}
@@ -22,7 +24,8 @@ use Rattle.otio_model.proofs.Views.{listed-items}
 use Rattle.otio_model.proofs.Adding.{lengths-listed}
 use Rattle.otio_model.proofs.Windows.{few}
 use Rattle.otio_model.proofs.Cuts.{all_items-last}
-use Rattle.otio_model.proofs.Keeping.{piece_at}
+use Rattle.otio_model.proofs.KeptLemmas.{piece_at, taken_all}
+use Rattle.otio_model.proofs.PieceNumbers.{items_at, ticks_at}
 
 pub lens-append : (xs ys : List (ItemOf Listed)) → lens (xs ++ ys) ≡ lens xs ++ lens ys
 lens-append [] ys = refl
@@ -82,6 +85,11 @@ get_le [] i = omega arith
 get_le (x ∷ xs) zero = omega arith
 get_le (x ∷ xs) (suc i) = omega (arith, get_le xs i)
 
+-- where an item starts fits where all fit
+pub start_fits : (ns : List ℕ) (i first start : ℕ) → start ≡ total (take i ns)
+    → first + total ns < 2 ^ 127 → first + start < 2 ^ 127
+start_fits ns i first start e h = omega (arith, e, h, total-take_le ns i)
+
 get-lens : (xs : List (ItemOf Listed)) (i : ℕ) (d : ItemOf Listed) → i < length xs
     → get_or (lens xs) i 0 ≡ or_zero (length_of (get_or xs i d))
 get-lens [] i d h = absurd (omega arith)
@@ -105,24 +113,73 @@ split-at (p ∷ ps) (suc i) d h =
     ∙ sym (append_assoc p.items.items (all_items (take i ps)) ((get_or ps i d).items.items
     ++ all_items (drop (i + 1) ps))))
 
--- what is known at a piece
-pub record Here (ps : List Piece) (i : ℕ) (p : Piece) : Type 0 where
-  pub ticks : p.kept.lengths.ticks ≡ capped (total (lens p.items.items))
-  pub small : length p.items.items ≤ 64
-  pub next : total (lens (all_items (take (i + 1) ps)))
-      ≡ total (lens (all_items (take i ps))) + total (lens p.items.items)
-  pub within : total (lens (all_items (take i ps))) + total (lens p.items.items)
-      ≤ total (lens (all_items ps))
-  pub long : length (all_items (take (i + 1) ps))
-      ≡ length (all_items (take i ps)) + length p.items.items
-  pub fits : length (all_items (take i ps)) + length p.items.items ≤ length (all_items ps)
-  pub split : lens (all_items ps) ≡ lens (all_items (take i ps))
-      ++ (lens p.items.items ++ lens (all_items (drop (i + 1) ps)))
-  pub count : length ps ≤ length (all_items ps) / 32 + 1
+-- what a piece keeps of its lengths
+pub kept_ticks : (p : Piece) → IsPiece p
+    → p.kept.lengths.ticks ≡ capped (total (lens p.items.items))
+kept_ticks p k = ap (λ (x : Kept). x.lengths.ticks) k.keeps ∙ ap capped (added-total p.items.items)
 
-pub here : (ps : List Piece) (i : ℕ) (p : Piece) → i < length ps → p ≡ get_or ps i p → ArePieces ps
-    → Here ps i p
-here ps i p h e a =
+-- how long the items before a piece are together, as pieces keep it
+past_ticks : (ps : List Piece) (s : PieceStart) → AllPieces ps → s.ticks ≡ capped s.ticks
+    → (start_past_all s ps).ticks ≡ capped (s.ticks + total (lens (all_items ps)))
+past_ticks [] s a h = omega (arith, h)
+past_ticks (p ∷ ps) s a h =
+    omega (
+      arith,
+      h,
+      kept_ticks p a.0,
+      past_ticks ps (start_past s p) a.1 (omega arith),
+      ap total (lens-append p.items.items (all_items ps)),
+      total-append (lens p.items.items) (lens (all_items ps)),
+    )
+
+taken_pieces : (ps : List Piece) (i : ℕ) → AllPieces ps → AllPieces (take i ps)
+taken_pieces [] zero a = tt
+taken_pieces [] (suc i) a = tt
+taken_pieces (p ∷ ps) zero a = tt
+taken_pieces (p ∷ ps) (suc i) a = (a.0, taken_pieces ps i a.1)
+
+-- pieces from the front are no longer than all together
+pub taken_total : (ps : List Piece) (i : ℕ)
+    → total (lens (all_items (take i ps))) ≤ total (lens (all_items ps))
+taken_total [] zero = omega arith
+taken_total [] (suc i) = omega arith
+taken_total (p ∷ ps) zero = omega arith
+taken_total (p ∷ ps) (suc i) =
+    omega (
+      arith,
+      taken_total ps i,
+      ap total (lens-append p.items.items (all_items ps)),
+      total-append (lens p.items.items) (lens (all_items ps)),
+      ap total (lens-append p.items.items (all_items (take i ps))),
+      total-append (lens p.items.items) (lens (all_items (take i ps))),
+    )
+
+placed : (ps : List Piece) (i : ℕ) (p : Piece) → i < length ps → p ≡ get_or ps i p
+    → ArePieces ps → AreNumbered front ps → total (lens (all_items ps)) < 2 ^ 127
+    → p.start.ticks ≡ total (lens (all_items (take i ps)))
+placed ps i p h e a n f =
+    omega (
+      arith,
+      ticks_at ps i p h e n,
+      past_ticks (take i ps) front (taken_pieces ps i a.all) refl,
+      taken_total ps i,
+      f,
+    )
+
+-- the bounds of the last piece that starts at or before an instant, at first
+pub around_all : (ps : List Piece) (at : ℕ) → 1 ≤ length ps → IsAround ps at 0 (length ps)
+around_all [] at h = absurd (omega (arith, h))
+around_all (p ∷ ps) at h =
+    record {
+      order = omega arith;
+      within = omega arith;
+      not_before = omega arith;
+      not_behind = λ k. absurd (omega (arith, k));
+    }
+
+pub read : (ps : List Piece) (i : ℕ) (p : Piece) → i < length ps → p ≡ get_or ps i p
+    → ArePieces ps → AreNumbered front ps → total (lens (all_items ps)) < 2 ^ 127 → IsRead ps i p
+read ps i p h e a n t =
     let k = piece_at ps i p h e a.all in
     let a0 = all_items (take i ps) in
     let c0 = all_items (drop (i + 1) ps) in
@@ -137,8 +194,11 @@ here ps i p h e a =
     ap all_items (take_more ps i p h ∙ ap (λ y. take i ps ++ y ∷ []) (sym e))
     ∙ all_items-last (take i ps) p in
     record {
-      ticks = ap (λ (x : Kept). x.lengths.ticks) k.keeps ∙ ap capped (added-total p.items.items);
-      small = k.small;
+      is = k;
+      there = h;
+      read = e;
+      before = items_at ps i p h e n;
+      start = placed ps i p h e a n t;
       next = ap (λ l. total (lens l)) m ∙ ap total (lens-append a0 p.items.items)
           ∙ total-append (lens a0) (lens p.items.items);
       within = omega (
@@ -147,7 +207,6 @@ here ps i p h e a =
         total-append (lens a0) (lens p.items.items ++ lens c0),
         total-append (lens p.items.items) (lens c0),
       );
-      long = ap length m ∙ length-append a0 p.items.items;
       fits = omega (
         arith,
         ap length w,
@@ -155,7 +214,7 @@ here ps i p h e a =
         length-append p.items.items c0,
       );
       split = s;
-      count = few ps a;
+      few = few ps a;
     }
 
 get_past : (a b : List ℕ) (i : ℕ) → get_or (a ++ b) (length a + i) 0 ≡ get_or b i 0
@@ -190,22 +249,31 @@ holds_in a b c at index start low h = record {
   );
 }
 
-pub holds_at : (ps : List Piece) (i : ℕ) (p : Piece) (at start before index inner : ℕ) → Here ps i p
-    → start ≡ total (lens (all_items (take i ps))) → before ≡ length (all_items (take i ps))
-    → start ≤ at
-    → Holds (lens p.items.items) (at - start) index inner
-    → Holds (lens (all_items ps)) at (before + index) (start + inner)
-holds_at ps i p at start before index inner f e b low h =
+-- what is found in a piece is found in all
+pub holds_at : {ps : List Piece} {i : ℕ} {p : Piece} {at index inner : ℕ} → IsRead ps i p
+    → p.start.ticks ≤ at → Holds (lens p.items.items) (at - p.start.ticks) index inner
+    → Holds (lens (all_items ps)) at (p.start.items + index) (p.start.ticks + inner)
+holds_at {ps = ps} {i = i} {p = p} {at = at} {index = index} {inner = inner} f low h =
     let a = lens (all_items (take i ps)) in
     let c = lens (all_items (drop (i + 1) ps)) in
     let l = lens p.items.items in
     let inside : Holds l (at - total a) index inner =
-    subst (λ s. Holds l (at - s) index inner) e h in
+    subst (λ s. Holds l (at - s) index inner) f.start h in
     let whole : Holds (a ++ (l ++ c)) at (length a + index) (total a + inner) =
-    holds_in a l c at index inner (omega (arith, e)) inside in
+    holds_in a l c at index inner (omega (arith, f.start, low)) inside in
     let there : Holds (lens (all_items ps)) at (length a + index) (total a + inner) =
     subst (λ l. Holds l at (length a + index) (total a + inner)) (sym f.split) whole in
-    rw (b, e, ← length-lens (all_items (take i ps))) there
+    rw (f.before, f.start, ← length-lens (all_items (take i ps))) there
+
+-- where the last piece that starts at or before an instant doesn't have it, no piece has it
+pub none_at : {ps : List Piece} {i : ℕ} {p : Piece} {at : ℕ} → IsRead ps i p
+    → IsAround ps at i (i + 1) → total (lens p.items.items) ≤ at - p.start.ticks
+    → total (lens (all_items ps)) ≤ at
+none_at {ps = ps} {i = i} {at = at} f a h =
+    let next : total (lens (all_items (take (i + 1) ps))) ≤ at =
+    omega (arith, f.next, f.start, a.not_before, h) in
+    let last : length ps ≤ i + 1 = grind (arith, a.not_behind, next) in
+    subst (λ qs. total (lens (all_items qs)) ≤ at) (taken_all ps (i + 1) last) next
 
 -- what is found in natural numbers holds in whole ones
 pub seated : (l : Listed) (ticks : ℤ) (index start : ℕ) (s : Seat) → pos 0 ≤ℤ ticks

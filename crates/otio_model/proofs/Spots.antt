@@ -1,16 +1,19 @@
 -- The place of an item in pieces.
 use Rattle.std.proofs.Common.{◌≡◌, ℕ, ◌<◌, ◌+◌, zero, suc, List, [], ◌∷◌, ◌++◌, Some, refl, ap, sym}
 use Rattle.std.proofs.Common.{◌∙◌, length, take, get_or, subst, arith, length-append}
-use Rattle.std.specs.Prelude.{slice_get, slice_set}
+use Rattle.std.proofs.Common.{Vec, Global}
+use Rattle.std.specs.Prelude.{slice_get, slice_set, IsSomeAnd}
 use Rattle.otio_model.specs.declared.compositions.ItemOf.{ItemOf}
 use Rattle.otio_model.specs.declared.compositions.Listed.{Listed}
 use Rattle.otio_model.specs.declared.lists.Piece.{Piece}
 use Rattle.otio_model.specs.declared.kept.Kept.{Kept}
 use Rattle.otio_model.specs.Pieces.{all_items, AreChildren, AllPieces, IsPiece, AllFull, ArePieces}
-use Rattle.otio_model.specs.Pieces.{IsSpot}
+use Rattle.otio_model.specs.Pieces.{IsNumbered, IsSpot}
 use Rattle.otio_model.specs.Kept.{kept_of}
-use Rattle.otio_model.proofs.Numbered.{numbered_kept}
-use Rattle.otio_model.proofs.Ways.{get_at}
+use Rattle.otio_model.specs.Edits.{list_at}
+use Rattle.otio_model.specs.Trees.{listed}
+use Rattle.otio_model.proofs.KeptLemmas.{at_get}
+use Rattle.otio_model.proofs.Ways.{Way, get_at, way}
 
 pub get_front : {A : Type 0} (a b : List A) (i : ℕ) → i < length a
     → slice_get (a ++ b) i ≡ slice_get a i
@@ -108,12 +111,6 @@ length-set [] (suc i) y = refl
 length-set (x ∷ xs) zero y = refl
 length-set (x ∷ xs) (suc i) y = ap suc (length-set xs i y)
 
-at_get : (ps : List Piece) (i : ℕ) (d : Piece) → i < length ps → AllPieces ps
-    → IsPiece (get_or ps i d)
-at_get [] i d h a = absurd (omega arith)
-at_get (p ∷ ps) zero d h a = a.0
-at_get (p ∷ ps) (suc i) d h a = at_get ps i d (omega arith) a.1
-
 -- pieces with one item changed, its piece being mended
 pub pieces_set : (ps : List Piece) (index k off : ℕ) (p q : Piece) (y : ItemOf Listed)
     → IsSpot ps index k off → p ≡ get_or ps k p → q.items.items ≡ slice_set p.items.items off y
@@ -136,19 +133,50 @@ pieces_set ps index k off p q y s e f keeps a =
           (omega (arith, long, same));
     }
 
--- children with one item changed, its piece and all being mended
-pub children_set : (ps : List Piece) (index k off n : ℕ) (p q : Piece) (y : ItemOf Listed)
+pub spot_long : (ps : List Piece) (index k off : ℕ) (p q : Piece) (y : ItemOf Listed)
+    → IsSpot ps index k off → p ≡ get_or ps k p → q.items.items ≡ slice_set p.items.items off y
+    → length (all_items (slice_set ps k q)) ≡ length (all_items ps)
+spot_long ps index k off p q y s e f =
+    ap length (spot_set ps index k off p q y s e f) ∙ length-set (all_items ps) index y
+
+-- children with one item changed, its piece and all being mended and numbered anew
+pub children_set : (ps qs : List Piece) (index k off n : ℕ) (p q : Piece) (y : ItemOf Listed)
     (old new : Kept) → IsSpot ps index k off → p ≡ get_or ps k p
     → q.items.items ≡ slice_set p.items.items off y → q.kept ≡ kept_of q.items.items
-    → q.start ≡ p.start
-    → AreChildren ps n old → new ≡ kept_of (all_items (slice_set ps k q))
-    → AreChildren (slice_set ps k q) n new
-children_set ps index k off n p q y old new s e f keeps g a h = record {
-  pieces = pieces_set ps index k off p q y s e f keeps a.pieces;
-  numbered = numbered_kept ps k 0 p q s.within a.numbered (g
-      ∙ ap (λ (x : Piece). x.start) e) (ap length f ∙ length-set p.items.items off y
-      ∙ ap (λ (x : Piece). length x.items.items) e);
-  counted = a.counted ∙ sym (ap length (spot_set ps index k off p q y s e f)
-      ∙ length-set (all_items ps) index y);
+    → IsNumbered (slice_set ps k q) qs
+    → AreChildren ps n old → new ≡ kept_of (all_items qs)
+    → AreChildren qs n new
+children_set ps qs index k off n p q y old new s e f keeps r a h = record {
+  pieces = r.pieces (pieces_set ps index k off p q y s e f keeps a.pieces);
+  numbered = r.numbered;
+  counted = a.counted ∙ sym (ap length r.items ∙ spot_long ps index k off p q y s e f);
   keeps = h;
 }
+
+-- a place in pieces that were lent is one in the pieces themselves
+pub spot_lent : {ps seen : List Piece} {index k off : ℕ} → seen ≡ ps → IsSpot seen index k off
+    → IsSpot ps index k off
+spot_lent {index = index} {k = k} {off = off} e s = subst (λ l. IsSpot l index k off) e s
+
+-- the way that begins at the item of a place in pieces
+pub spot_way : {ps seen : List Piece} {all place : List ℕ} {index k off : ℕ} {view : Listed}
+    {p : Piece} {x : ItemOf Listed} {Q : Listed → Type 0} → seen ≡ ps → IsSpot seen index k off
+    → p ≡ get_or ps k p → x ≡ get_or p.items.items off x → listed (all_items ps) ≡ view
+    → all ≡ index ∷ place → IsSomeAnd (list_at all view) Q
+    → Way all index place view (all_items ps) x Q
+spot_way {ps = ps} {all = all} {place = place} {index = index} {k = k} {off = off} {view = view}
+    {p = p} {x = x} {Q = Q} e s f g is_view is h =
+    way all index place view (all_items ps) x Q is_view is h
+    (spot_get ps index k off p x (spot_lent e s) f g)
+
+-- a piece of which one item was changed, and which was mended
+pub record Mended (p q : Piece) (off : ℕ) (y : ItemOf Listed) : Type 0 where
+  pub same : q.items.items ≡ slice_set p.items.items off y
+  pub keeps : q.kept ≡ kept_of q.items.items
+
+pub mended : {q : Piece} {set : Vec (ItemOf Listed) Global} (p : Piece) (off : ℕ)
+    (y : ItemOf Listed) → set.items ≡ slice_set p.items.items off y → q.items ≡ set
+    → q.kept ≡ kept_of set.items → Mended p q off y
+mended {q = q} {set = set} p off y s e k =
+    let same : q.items.items ≡ set.items = ap (λ (v : Vec (ItemOf Listed) Global). v.items) e in
+    record { same = same ∙ s; keeps = k ∙ ap (λ l. kept_of l) (sym same) }

@@ -1,7 +1,7 @@
 -- Some pieces of many, replaced by others.
 use Rattle.std.proofs.Common.{◌≡◌, ℕ, ◌<◌, ◌+◌, ◌-◌, ◌*◌, ◌/◌, ◌≤◌, zero, suc, List, [], ◌∷◌, ◌++◌}
 use Rattle.std.proofs.Common.{◌⊎◌, inl, inr, refl, ap, sym, ◌∙◌, length, take, drop, get_or, subst}
-use Rattle.std.proofs.Common.{arith, length-append, append_assoc, append-nil}
+use Rattle.std.proofs.Common.{arith, length-append, append_assoc, append-nil, vec_len, Vec, Global}
 use Rattle.std.proofs.lemmas.List.{length-take-le, length-drop, take-append-drop, drop-append-le}
 use Rattle.std.proofs.lemmas.List.{take-append-le, reverse-reverse}
 use Rattle.std.specs.Prelude.{reverse}
@@ -14,7 +14,7 @@ use Rattle.otio_model.specs.declared.lists.Piece.{Piece}
 use Rattle.otio_model.specs.Pieces.{all_items, AllPieces, AllFull, ArePieces, AreMade, IsCut}
 use Rattle.otio_model.specs.Pieces.{IsWindow, IsStart, IsEnd, part}
 use Rattle.otio_model.proofs.Cuts.{all_items-append, length_more}
-use Rattle.otio_model.proofs.Keeping.{piece_at}
+use Rattle.otio_model.proofs.KeptLemmas.{piece_at}
 
 -- what is replaced in the middle part is replaced in the whole
 pub replaced_within : {A : Type 0} (at count : ℕ) (put a t d : List A) → length a ≤ at
@@ -187,15 +187,17 @@ pub record Works (ps all touched : List Piece) (mid : List (ItemOf Listed))
   pub short : length mid ≤ 2 * count + 384
   pub there : (at - before) + count ≤ length mid
 
-pub works : (ps seen all touched turned : List Piece) (mid : List (ItemOf Listed))
-    (at count put long first end before : ℕ) → all ≡ ps → seen ≡ ps → long ≡ put
-    → IsWindow seen at count long first end before → touched ≡ take (end - first) (drop first all)
-    → turned ≡ reverse touched → mid ≡ all_items (reverse turned)
-    → Works ps all touched mid at count put first end before
-works ps seen all touched turned mid at count put long first end before e same_seen same_long ww t r
-    m =
-    let w : IsWindow ps at count put first end before =
-    subst (λ q. IsWindow q at count put first end before) same_seen
+pub works : {ps seen all touched turned : List Piece} {mid : List (ItemOf Listed)}
+    {at count long first end before : ℕ} (put : Vec (ItemOf Listed) Global) → all ≡ ps → seen ≡ ps
+    → long ≡ vec_len put → IsWindow seen at count long first end before
+    → touched ≡ take (end - first) (drop first all) → turned ≡ reverse touched
+    → mid ≡ all_items (reverse turned)
+    → Works ps all touched mid at count (length put.items) first end before
+works {ps = ps} {seen = seen} {touched = touched} {mid = mid} {at = at} {count = count}
+    {long = long} {first = first} {end = end} {before = before} put e same_seen counted ww t r m =
+    let same_long : long ≡ length put.items = omega (arith, counted, put.ok) in
+    let w : IsWindow ps at count (length put.items) first end before =
+    subst (λ q. IsWindow q at count (length put.items) first end before) same_seen
     (subst (λ n. IsWindow seen at count n first end before) same_long ww) in
     let tt' : touched ≡ part first end ps = t ∙ ap (λ l. take (end - first) (drop first l)) e in
     let mm : mid ≡ all_items (part first end ps) = m ∙ ap (λ l. all_items (reverse l)) r
@@ -209,6 +211,11 @@ works ps seen all touched turned mid at count put long first end before e same_s
       short = omega (arith, ap length mm, w.short);
       there = omega (arith, ap length mm, w.ends, w.starts);
     }
+
+-- some were taken out, and none put in
+pub taken_out : {new out : List Piece} (ps : List Piece) (first count : ℕ)
+    → new ≡ replaced first count out ps → out ≡ [] → new ≡ replaced first count [] ps
+taken_out ps first count e f = e ∙ ap (λ l. replaced first count l ps) f
 
 -- the whole list afterwards
 pub items_after : (ps all touched new without last : List Piece)
@@ -437,12 +444,15 @@ window_after ps at count put first end before behind p s e a h k =
       enough = inr (two, omega (arith, c.long, n.more, e.counted, e.ends, n.full two, s.starts));
     }
 
-pub window_before : (ps : List Piece) (at count put first end before behind long : ℕ) (p : Piece)
-    → IsStart ps at first before → IsEnd ps at count first before end behind → ArePieces ps
+pub window_before : {ps : List Piece} {at count first end before behind long : ℕ} {p : Piece}
+    (put : ℕ) → IsStart ps at first before → IsEnd ps at count first before end behind → ArePieces ps
     → 0 < first → p ≡ get_or ps (first - 1) p
-    → long ≡ length p.items.items
+    → long ≡ vec_len (get_or ps (first - 1) p).items
     → IsWindow ps at count put (first - 1) end (before - long) × (long ≤ before)
-window_before ps at count put first end before behind long p s e a h k l =
+window_before {ps = ps} {at = at} {count = count} {first = first} {end = end} {before = before}
+    {long = long} {p = p} put s e a h k counted =
+    let l : long ≡ length p.items.items =
+    omega (arith, counted, p.items.ok, ap (λ (x : Piece). vec_len x.items) k) in
     let n = next ps (first - 1) p (omega (arith, h, s.within)) k a in
     let m : length (all_items (take first ps)) ≡ length (all_items (take (first - 1 + 1) ps)) =
     let f : first ≡ first - 1 + 1 = omega arith in ap (λ i. length (all_items (take i ps))) f in

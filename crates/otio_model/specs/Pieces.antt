@@ -6,7 +6,9 @@ use Rattle.otio_model.specs.declared.compositions.ItemOf.{ItemOf}
 use Rattle.otio_model.specs.declared.compositions.Listed.{Listed}
 use Rattle.otio_model.specs.declared.lists.Piece.{Piece}
 use Rattle.otio_model.specs.declared.kept.Kept.{Kept}
+use Rattle.otio_model.specs.declared.numbers.PieceStart.{PieceStart}
 use Rattle.otio_model.specs.Kept.{kept_of}
+use Rattle.otio_model.specs.Sums.{capped}
 
 -- the items of all pieces, in order
 abbrev pub all_items : List Piece → List (ItemOf Listed)
@@ -32,28 +34,44 @@ pub record ArePieces (ps : List Piece) : Type 0 where
   pub all : AllPieces ps
   pub full : 2 ≤ length ps → AllFull ps
 
--- each piece knows how many items stand before it
-abbrev pub AreNumbered : ℕ → List Piece → Type 0
-AreNumbered n [] = Unit {0}
-AreNumbered n (p ∷ ps) = (p.start ≡ n) × AreNumbered (n + length p.items.items) ps
+-- what stands before the first piece
+abbrev pub front : PieceStart
+front = record { items = 0; ticks = 0 }
 
--- as many pieces as that from the front, numbered anew from so many items on
-abbrev pub numbered_to : ℕ → ℕ → List Piece → List Piece
-numbered_to zero n ps = ps
-numbered_to (suc i) n [] = []
-numbered_to (suc i) n (p ∷ ps) =
-    record p { start = n } ∷ numbered_to i (n + length p.items.items) ps
+-- what stands before the piece behind another one
+abbrev pub start_past : PieceStart → Piece → PieceStart
+start_past s p = record {
+  items = s.items + length p.items.items;
+  ticks = capped (s.ticks + p.kept.lengths.ticks);
+}
+
+-- what stands behind pieces
+abbrev pub start_past_all : PieceStart → List Piece → PieceStart
+start_past_all s [] = s
+start_past_all s (p ∷ ps) = start_past_all (start_past s p) ps
+
+-- each piece knows how many items stand before it, and how long these are together
+abbrev pub AreNumbered : PieceStart → List Piece → Type 0
+AreNumbered s [] = Unit {0}
+AreNumbered s (p ∷ ps) = (p.start ≡ s) × AreNumbered (start_past s p) ps
+
+-- as many pieces as that from the front, numbered anew behind what stands before them
+abbrev pub numbered_to : ℕ → PieceStart → List Piece → List Piece
+numbered_to zero s ps = ps
+numbered_to (suc i) s [] = []
+numbered_to (suc i) s (p ∷ ps) =
+    record p { start = s } ∷ numbered_to i (start_past s p) ps
 
 -- the same pieces, numbered
 pub record IsNumbered (old new : List Piece) : Type 0 where
   pub items : all_items new ≡ all_items old
   pub pieces : ArePieces old → ArePieces new
-  pub numbered : AreNumbered 0 new
+  pub numbered : AreNumbered front new
 
 -- the pieces of children, how many items they have, and what is kept of all
 pub record AreChildren (ps : List Piece) (n : ℕ) (k : Kept) : Type 0 where
   pub pieces : ArePieces ps
-  pub numbered : AreNumbered 0 ps
+  pub numbered : AreNumbered front ps
   pub counted : n ≡ length (all_items ps)
   pub keeps : k ≡ kept_of (all_items ps)
 

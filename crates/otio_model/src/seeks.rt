@@ -1,12 +1,12 @@
 //! The child that holds an instant, found by the pieces.
 
-ghost use Rattle.std.specs.Prelude.{◌≡◌, ◌+◌, ◌/◌, ◌<◌, ◌≤◌, ◌^◌, IfNone, IfSome, length, pos};
-ghost use Rattle.std.specs.Prelude.{slice_index};
+ghost use Rattle.std.specs.Prelude.{◌≡◌, ◌+◌, ◌-◌, ◌/◌, ◌<◌, ◌≤◌, ◌^◌, IfNone, IfSome, length};
+ghost use Rattle.std.specs.Prelude.{pos, slice_index, take};
 ghost use Rattle.otio_model.specs.Counts.{count};
 ghost use Rattle.otio_model.specs.Lengths.{added, lengths};
-ghost use Rattle.otio_model.specs.Pieces.{all_items, ArePieces};
+ghost use Rattle.otio_model.specs.Pieces.{all_items, AreNumbered, ArePieces, front};
 ghost use Rattle.otio_model.specs.Seats.{IsOutside, IsSeat};
-ghost use Rattle.otio_model.specs.Seeks.{Holds, lens, total};
+ghost use Rattle.otio_model.specs.Seeks.{Holds, IsAround, IsRead, lens, total};
 ghost use Rattle.otio_model.specs.Sums.{capped};
 ghost use Rattle.otio_model.specs.Trees.{items_of};
 
@@ -24,13 +24,72 @@ pub struct Seat {
     pub start: i128,
 }
 
-/// Looks at a piece's length.
-fn piece_ticks<L: Ledger>(piece: &Piece, steps: &mut Steps<L>) -> u128
-    ensures value { result ≡ piece.now.kept.lengths.ticks }
+#[tactic(auto, using(crate::proofs::SeekLemmas::read))]
+/// The piece of this number, and what is known of it.
+pub(crate) fn read_piece(pieces: &[Piece], number: usize) -> &Piece
+    requires there { number < length pieces.now }
+    requires pieces { ArePieces pieces.now }
+    requires numbered { AreNumbered front pieces.now }
+    requires fits { total (lens (all_items pieces.now)) < 2 ^ 127 }
+    ensures { IsRead pieces.now number result.now }
+{
+    &pieces[number]
+}
+
+/// Looks at where the piece of this number starts.
+fn ticks_before<L: Ledger>(pieces: &[Piece], number: usize, steps: &mut Steps<L>) -> u128
+    requires there { number < length pieces.now }
+    requires pieces { ArePieces pieces.now }
+    requires numbered { AreNumbered front pieces.now }
+    requires fits { total (lens (all_items pieces.now)) < 2 ^ 127 }
+    ensures value { result ≡ total (lens (all_items (take number pieces.now))) }
     ensures cost { steps.new ≡ steps.old + 1 }
 {
     steps.tick();
-    piece.kept.lengths.ticks
+    read_piece(pieces, number).start.ticks
+}
+
+/// Nearer bounds of the last piece that starts at or before the instant.
+fn nearer<L: Ledger>(
+    pieces: &[Piece],
+    at: u128,
+    low: usize,
+    high: usize,
+    steps: &mut Steps<L>,
+) -> (usize, usize)
+    requires pieces { ArePieces pieces.now }
+    requires numbered { AreNumbered front pieces.now }
+    requires fits { total (lens (all_items pieces.now)) < 2 ^ 127 }
+    requires around { IsAround pieces.now at low high }
+    requires far { low + 1 < high }
+    ensures around { IsAround pieces.now at result.0 result.1 }
+    ensures nearer { result.1 - result.0 < high - low }
+    ensures cost { steps.new ≡ steps.old + 1 }
+{
+    let middle = low + (high - low) / 2;
+    if ticks_before(pieces, middle, steps) <= at {
+        return (middle, high);
+    }
+    (low, middle)
+}
+
+/// The last piece that starts at or before the instant, found by halves.
+pub(crate) fn last_piece<L: Ledger>(pieces: &[Piece], at: u128, steps: &mut Steps<L>) -> usize
+    requires pieces { ArePieces pieces.now }
+    requires numbered { AreNumbered front pieces.now }
+    requires fits { total (lens (all_items pieces.now)) < 2 ^ 127 }
+    requires some { 1 ≤ length pieces.now }
+    ensures around { IsAround pieces.now at result (result + 1) }
+    ensures cost { steps.new + 1 ≤ steps.old + length pieces.now }
+{
+    let mut low = 0;
+    let mut high = pieces.len();
+    'halves: while high - low > 1 {
+        let (nearer_low, nearer_high) = nearer(pieces, at, low, high, steps);
+        low = nearer_low;
+        high = nearer_high;
+    }
+    low
 }
 
 #[tactic(auto, using(crate::proofs::SeekLemmas::length_read))]
@@ -66,29 +125,28 @@ fn in_piece<L: Ledger>(piece: &Piece, at: u128, steps: &mut Steps<L>) -> Option<
     None
 }
 
-/// The item of all pieces that holds the instant, and where it starts.
+#[tactic(auto, using(crate::proofs::SeekLemmas::holds_at, crate::proofs::SeekLemmas::none_at))]
+/// The item of all pieces that holds the instant, and where it starts. The last piece that starts
+/// at or before the instant has it, or none.
 fn in_pieces<L: Ledger>(pieces: &[Piece], at: u128, steps: &mut Steps<L>) -> Option<(usize, u128)>
     requires pieces { ArePieces pieces.now }
+    requires numbered { AreNumbered front pieces.now }
     requires fits { total (lens (all_items pieces.now)) < 2 ^ 127 }
     requires few { length (all_items pieces.now) < 2 ^ 32 }
     ensures found { IfSome result (λ s. Holds (lens (all_items pieces.now)) at s.0 s.1) }
     ensures none { IfNone result (total (lens (all_items pieces.now)) ≤ at) }
     ensures cost { steps.new ≤ steps.old + length (all_items pieces.now) / 32 + 66 }
 {
-    let mut start = 0;
-    let mut before = 0;
-    'pieces: for piece in pieces {
-        let ticks = piece_ticks(piece, steps);
-        if at - start < ticks {
-            match in_piece(piece, at - start, steps) {
-                Some((index, inner)) => return Some((before + index, start + inner)),
-                None => return None,
-            }
-        }
-        start += ticks;
-        before += piece.items.len();
+    if pieces.len() == 0 {
+        return None;
     }
-    None
+    let number = last_piece(pieces, at, steps);
+    let piece = read_piece(pieces, number);
+    let start = piece.start;
+    match in_piece(piece, at - start.ticks, steps) {
+        Some((index, inner)) => Some((start.items + index, start.ticks + inner)),
+        None => None,
+    }
 }
 
 /// The seat of an index and a start.

@@ -10,6 +10,7 @@ ghost use Rattle.otio_model.specs.Pieces.{IsOpen, IsStart, IsWindow};
 use crate::kept::NO_ITEMS;
 use crate::lists::{Item, Piece, kept_items};
 use crate::moves;
+use crate::numbers::AT_FRONT;
 use std::alloc::{AllocError, Global};
 
 /// The items of pieces that lie in the other order.
@@ -63,10 +64,7 @@ pub(crate) fn cut(mid: &mut Vec<Item>, made: &mut Vec<Piece>, fresh: &mut Vec<Pi
         };
         moves::take_last(mid, count, &mut piece.items);
         piece.mend();
-        match made.push(piece) {
-            Ok(()) => {}
-            Err(_) => unreachable!(),
-        }
+        moves::push_in_room(made, piece);
     }
 }
 
@@ -209,7 +207,7 @@ fn fresh_pieces(alloc: Global, wanted: usize) -> Result<Vec<Piece>, AllocError>
         fresh.push(Piece {
             items,
             kept: NO_ITEMS,
-            start: 0,
+            start: AT_FRONT,
         })?;
     }
     Ok(fresh)
@@ -226,7 +224,7 @@ fn one_piece(alloc: Global, items: Vec<Item>) -> Result<Vec<Piece>, AllocError>
     pieces.push(Piece {
         items,
         kept,
-        start: 0,
+        start: AT_FRONT,
     })?;
     Ok(pieces)
 }

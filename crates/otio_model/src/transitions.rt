@@ -1,18 +1,23 @@
 //! The next transition of a list, and the first whose overlap holds an instant, found by the
-//! pieces.
+//! pieces: the search begins at the first piece that may have it.
 
 ghost use Rattle.std.specs.Prelude.{◌≡◌, ◌+◌, ◌<◌, ◌≤◌, ◌^◌, pos, ◌-ℤ◌, ◌≤ℤ◌, IfNone, IfSome};
-ghost use Rattle.std.specs.Prelude.{length, slice_index};
+ghost use Rattle.std.specs.Prelude.{length, slice_index, take};
 ghost use Rattle.limits.specs.Limits.{most_ticks};
 ghost use Rattle.otio_model.specs.Counts.{count};
 ghost use Rattle.otio_model.specs.Overlaps.{offset_of, overlaps};
-ghost use Rattle.otio_model.specs.Pieces.{ArePieces, IsPiece, all_items};
+ghost use Rattle.otio_model.specs.Kept.{reach_in};
+ghost use Rattle.otio_model.specs.Pieces.{AreNumbered, ArePieces, IsPiece, all_items, front};
 ghost use Rattle.otio_model.specs.Seats.{HasNoMore, HasNoOverlap, IsFirstOverlap, IsNextTransition};
 ghost use Rattle.otio_model.specs.Seeks.{HasNone, IsNext, IsOver, NoneOver, lens, total};
 
 use crate::compositions::ItemOf;
 use crate::lists::{Children, Item, Piece, item_ticks, transition_count};
-use crate::seeks::{Seat, starting_at};
+use crate::numbers::locate;
+use crate::seeks::{Seat, last_piece, read_piece, starting_at};
+use crate::steps::Steps;
+use std::marker::Brand;
+use std::sync::ledger::{Blank, Ledger};
 use tick_time::Time;
 
 /// The length of an item, 0 where it has none.
@@ -27,6 +32,19 @@ fn ticks_at(items: &[Item], index: usize) -> u128
     }
 }
 
+/// How long so many items from the front are together.
+fn ticks_of(items: &[Item], count: usize) -> u128
+    requires there { count ≤ length items.now }
+    requires fits { total (lens items.now) < 2 ^ 127 }
+    ensures { result ≡ total (take count (lens items.now)) }
+{
+    let mut sum = 0;
+    'items: for index in 0..count {
+        sum += ticks_at(items, index);
+    }
+    sum
+}
+
 /// The first transition from an index on, and where it starts.
 fn next_in(items: &[Item], from: usize) -> Option<(usize, u128)>
     requires there { from ≤ length items.now }
@@ -34,15 +52,10 @@ fn next_in(items: &[Item], from: usize) -> Option<(usize, u128)>
     ensures found { IfSome result (λ s. IsNext items.now from s.0 s.1) }
     ensures none { IfNone result (HasNone items.now from) }
 {
-    let mut start = 0;
-    'skipped: for index in 0..from {
-        start += ticks_at(items, index);
-    }
     'items: for index in from..items.len() {
         if transition_count(&items[index]) == 1 {
-            return Some((index, start));
+            return Some((index, ticks_of(items, index)));
         }
-        start += ticks_at(items, index);
     }
     None
 }
@@ -63,29 +76,33 @@ fn next_in_piece(piece: &Piece, from: usize) -> Option<(usize, u128)>
     next_in(&piece.items, from)
 }
 
-/// The same in all pieces.
-fn next_in_pieces(pieces: &[Piece], from: usize) -> Option<(usize, u128)>
+#[tactic(auto, using(crate::proofs::NextLemmas::next_at, crate::proofs::NextLemmas::none_next))]
+/// The same in all pieces, of so many items.
+fn next_in_pieces(pieces: &[Piece], len: usize, from: usize) -> Option<(usize, u128)>
+    requires counted { len ≡ length (all_items pieces.now) }
     requires pieces { ArePieces pieces.now }
+    requires numbered { AreNumbered front pieces.now }
     requires fits { total (lens (all_items pieces.now)) < 2 ^ 127 }
     requires few { length (all_items pieces.now) < 2 ^ 32 }
     ensures found { IfSome result (λ s. IsNext (all_items pieces.now) from s.0 s.1) }
     ensures none { IfNone result (HasNone (all_items pieces.now) from) }
 {
-    let mut start = 0;
-    let mut before = 0;
-    'pieces: for piece in pieces {
-        match next_in_piece(piece, from.saturating_sub(before)) {
-            Some((index, inner)) => return Some((before + index, start + inner)),
-            None => {}
+    if from >= len {
+        return None;
+    }
+    let (first, _) = locate(pieces, from);
+    'pieces: for number in first..pieces.len() {
+        let piece = read_piece(pieces, number);
+        let start = piece.start;
+        if let Some((index, inner)) = next_in_piece(piece, from.saturating_sub(start.items)) {
+            return Some((start.items + index, start.ticks + inner));
         }
-        start += piece.kept.lengths.ticks;
-        before += piece.items.len();
     }
     None
 }
 
 /// An offset that isn't given is 0.
-fn offset_ticks(offset: Option<Time>) -> i128
+pub fn offset_ticks(offset: Option<Time>) -> i128
     ensures value { result ≡ offset_of offset }
     ensures low { (pos 0 -ℤ pos most_ticks) ≤ℤ result }
     ensures high { result ≤ℤ pos most_ticks }
@@ -154,24 +171,50 @@ fn over_in_piece(piece: &Piece, first: u128, at: u128) -> Option<(usize, u128)>
     over_in(&piece.items, first, at)
 }
 
-/// The same in all pieces.
-fn over_in_pieces(pieces: &[Piece], at: u128) -> Option<(usize, u128)>
+/// A piece before which all overlaps end too early, where none reaches further than `reach`.
+fn first_within<L: Ledger>(pieces: &[Piece], at: u128, reach: u128, blank: Blank) -> usize
+    requires some { 1 ≤ length pieces.now }
     requires pieces { ArePieces pieces.now }
+    requires numbered { AreNumbered front pieces.now }
+    requires fits { total (lens (all_items pieces.now)) < 2 ^ 127 }
+    requires reach { reach_in (all_items pieces.now) ≤ reach }
+    requires name { blank.name ≡ L.name }
+    requires parts { blank.parts ≡ L.parts }
+    requires part { 0 < blank.parts }
+    ensures { NoneOver (all_items (take result pieces.now)) (pos at) }
+{
+    if at < reach {
+        return 0;
+    }
+    let mut steps = Steps::<L>::of(blank);
+    last_piece(pieces, at - reach, &mut steps)
+}
+
+#[tactic(auto, using(crate::proofs::OverLemmas::over_at, crate::proofs::OverLemmas::over_next))]
+/// The same in all pieces, up to the first that starts too late.
+fn over_in_pieces(pieces: &[Piece], at: u128, reach: u128) -> Option<(usize, u128)>
+    requires pieces { ArePieces pieces.now }
+    requires numbered { AreNumbered front pieces.now }
+    requires reach { reach_in (all_items pieces.now) ≤ reach }
     requires fits { total (lens (all_items pieces.now)) < 2 ^ 127 }
     requires few { length (all_items pieces.now) < 2 ^ 32 }
     requires short { at < 2 ^ 127 }
     ensures found { IfSome result (λ s. IsOver (all_items pieces.now) (pos at) s.0 s.1) }
     ensures none { IfNone result (NoneOver (all_items pieces.now) (pos at)) }
 {
-    let mut start = 0;
-    let mut before = 0;
-    'pieces: for piece in pieces {
-        match over_in_piece(piece, start, at) {
-            Some((index, inner)) => return Some((before + index, start + inner)),
-            None => {}
+    if pieces.len() == 0 {
+        return None;
+    }
+    let first = first_within::<Brand>(pieces, at, reach, Blank::new(1));
+    'pieces: for number in first..pieces.len() {
+        let piece = read_piece(pieces, number);
+        let start = piece.start;
+        if at.saturating_add(reach) < start.ticks {
+            return None;
         }
-        start += piece.kept.lengths.ticks;
-        before += piece.items.len();
+        if let Some((index, inner)) = over_in_piece(piece, start.ticks, at) {
+            return Some((start.items + index, start.ticks + inner));
+        }
     }
     None
 }
@@ -185,7 +228,10 @@ impl Children {
         ensures found { IfSome result (λ seat. IsNextTransition self.now index seat) }
         ensures none { IfNone result (HasNoMore self.now index) }
     {
-        match next_in_pieces(self.pieces.as_slice(), index) {
+        if self.kept.transitions == 0 {
+            return None;
+        }
+        match next_in_pieces(self.pieces.as_slice(), self.len, index) {
             Some((number, start)) => Some(starting_at(number, start)),
             None => None,
         }
@@ -194,8 +240,8 @@ impl Children {
     /// The first child that is a transition whose overlap holds the instant, in ticks, and its cut:
     /// where it starts. An overlap runs from the in_offset before the cut up to, not including, the
     /// out_offset behind it. A child without a length counts as one of length 0. `None` exactly
-    /// where no overlap holds the instant. It takes no memory, and passes over each piece whose
-    /// overlaps don't reach the instant.
+    /// where no overlap holds the instant. It takes no memory, and looks only at pieces that stand
+    /// no further from the instant than the longest overlap reaches.
     pub fn first_overlap(&self, ticks: i128) -> Option<Seat>
         requires few { count self.now < 2 ^ 32 }
         requires low { pos 0 ≤ℤ ticks }
@@ -205,7 +251,8 @@ impl Children {
         if self.kept.transitions == 0 {
             return None;
         }
-        match over_in_pieces(self.pieces.as_slice(), ticks.unsigned_abs()) {
+        let at = ticks.unsigned_abs();
+        match over_in_pieces(self.pieces.as_slice(), at, self.kept.reach) {
             Some((number, start)) => Some(starting_at(number, start)),
             None => None,
         }

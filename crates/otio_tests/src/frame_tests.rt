@@ -1,9 +1,8 @@
-use crate::run_tests::words_of;
+use crate::runs::{Case, check_case, check_cut_off, check_refused, check_usage, status_of};
 use dev_io::{MemFiles, MemOut};
 use itoa::Buffer;
-use otio_tools::{Status, run};
+use otio_tools::Status;
 use std::alloc::{AllocError, Global};
-use std::process::Abort;
 use std::test::Fail;
 
 const CLIP: &[u8] = b"{\"OTIO_SCHEMA\":\"Clip.1\",\"name\":\"s\",\"media_reference\":null}";
@@ -106,9 +105,6 @@ fn some_files(alloc: Global) -> Result<MemFiles, AllocError> {
     Ok(files)
 }
 
-// A command line, its status, its output and its message.
-type Case = (&'static str, Status, &'static [u8], &'static [u8]);
-
 // Rows, and the refusals in their order.
 const FRAMES: [Case; 13] = [
     (
@@ -186,27 +182,10 @@ const FRAMES: [Case; 13] = [
     ),
 ];
 
-fn check(rt: &impl Abort, alloc: Global, case: &Case) -> Result<(), Fail> {
-    let (line, status, output, message) = *case;
-    let mut files = some_files(alloc)?;
-    let mut out = MemOut::new(alloc, 1000)?;
-    let mut err = MemOut::new(alloc, 1000)?;
-    let words = words_of(alloc, line)?;
-    assert_eq!(rt;
-        run(alloc, &words, &mut files, &mut out, &mut err),
-        status,
-        "{line}"
-    );
-    assert_eq!(rt; out.sent(), output, "{line}");
-    assert_eq!(rt; err.sent(), message, "{line}");
-    assert!(rt; out.target().is_none());
-    Ok(())
-}
-
 #[test]
 fn frames_are_answered(rt: HostRuntime) -> Result<(), Fail> {
     for case in &FRAMES {
-        check(&rt, rt.alloc(), case)?;
+        check_case(&rt, rt.alloc(), &mut some_files(rt.alloc())?, case)?;
     }
     Ok(())
 }
@@ -219,14 +198,12 @@ fn has_line(text: &[u8], wanted: &[u8]) -> bool {
 #[test]
 fn all_frames_are_listed(rt: HostRuntime) -> Result<(), Fail> {
     let alloc = rt.alloc();
-    let words = words_of(alloc, "frames -o rows.txt x.otio")?;
+    let line = "frames -o rows.txt x.otio";
     let mut files = some_files(alloc)?;
     let mut out = MemOut::new(alloc, 20000)?;
     let mut err = MemOut::new(alloc, 1000)?;
-    assert_eq!(rt;
-        run(alloc, &words, &mut files, &mut out, &mut err),
-        Status::Done
-    );
+    let ended = status_of(alloc, line, &mut files, &mut out, &mut err)?;
+    assert_eq!(rt; ended, Status::Done);
     assert_eq!(rt; out.target(), Some("rows.txt"));
     assert_eq!(rt; out.sent().iter().filter(|b| **b == b'\n').count(), 288);
     for line in [
@@ -246,20 +223,10 @@ fn all_frames_are_listed(rt: HostRuntime) -> Result<(), Fail> {
 #[test]
 fn rows_that_fail_leave_a_prefix(rt: HostRuntime) -> Result<(), Fail> {
     let alloc = rt.alloc();
-    let words = words_of(alloc, "frames --start 86442 --count 1 x.otio")?;
     for call in 1..6u64 {
         let mut files = some_files(alloc)?;
-        let mut out = MemOut::new(alloc, 1000)?;
-        out.piece(16);
-        out.fail_on(call)?;
-        let mut err = MemOut::new(alloc, 1000)?;
-        assert_eq!(rt;
-            run(alloc, &words, &mut files, &mut out, &mut err),
-            Status::Output
-        );
-        assert_eq!(rt; err.sent(), b"otio: output failed\n".as_slice());
-        assert!(rt; AT_THE_CUT.starts_with(out.sent()));
-        assert!(rt; out.sent().len() < AT_THE_CUT.len());
+        let line = "frames --start 86442 --count 1 x.otio";
+        check_cut_off(&rt, alloc, &mut files, call, line, AT_THE_CUT)?;
     }
     Ok(())
 }
@@ -272,17 +239,7 @@ fn refused_frames_leave_the_target(rt: HostRuntime) -> Result<(), Fail> {
         "frames -o rows.txt n.otio",
         "frames -o rows.txt --start 01:00:01:24 x.otio",
     ] {
-        let mut files = some_files(alloc)?;
-        let mut out = MemOut::new(alloc, 1000)?;
-        let mut err = MemOut::new(alloc, 1000)?;
-        let words = words_of(alloc, line)?;
-        assert_eq!(rt;
-            run(alloc, &words, &mut files, &mut out, &mut err),
-            Status::Refused,
-            "{line}"
-        );
-        assert!(rt; out.target().is_none());
-        assert!(rt; out.sent().is_empty());
+        check_refused(&rt, alloc, &mut some_files(alloc)?, line)?;
     }
     Ok(())
 }
@@ -301,17 +258,7 @@ fn other_words_of_frames_are_answered_by_the_usage_text(rt: HostRuntime) -> Resu
         "frames x.edl",
         "frames x.otio x.otio",
     ] {
-        let mut files = some_files(alloc)?;
-        let mut out = MemOut::new(alloc, 1000)?;
-        let mut err = MemOut::new(alloc, 1000)?;
-        let words = words_of(alloc, line)?;
-        assert_eq!(rt;
-            run(alloc, &words, &mut files, &mut out, &mut err),
-            Status::Usage,
-            "{line}"
-        );
-        assert!(rt; out.sent().is_empty());
-        assert!(rt; err.sent().starts_with(b"otio: usage\n  otio convert ["));
+        check_usage(&rt, alloc, &mut some_files(alloc)?, line)?;
     }
     Ok(())
 }

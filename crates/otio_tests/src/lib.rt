@@ -13,4 +13,6 @@ mod pieces_tests;
 #[cfg(test)]
 mod run_tests;
 #[cfg(test)]
+mod runs;
+#[cfg(test)]
 mod texts;

@@ -1,9 +1,9 @@
 //! Objects that are read and written again, and texts that stand for none.
 
-use crate::run_tests::words_of;
+use crate::runs::status_of;
 use crate::texts::{REFUSED, REWRITTEN};
 use dev_io::{MemFiles, MemOut};
-use otio_tools::{Status, run};
+use otio_tools::Status;
 use std::alloc::{AllocError, Global};
 use std::process::Abort;
 use std::test::Fail;
@@ -36,12 +36,12 @@ fn check(
     written: &str,
     told: &str,
 ) -> Result<(), Fail> {
-    let words = words_of(alloc, "convert a.otio")?;
     let mut files = MemFiles::new(alloc);
     files.put("a.otio", text)?;
     let mut out = MemOut::new(alloc, 4000)?;
     let mut err = MemOut::new(alloc, 100)?;
-    assert_eq!(rt; run(alloc, &words, &mut files, &mut out, &mut err), status);
+    let ended = status_of(alloc, "convert a.otio", &mut files, &mut out, &mut err)?;
+    assert_eq!(rt; ended, status);
     assert!(rt; is_squeezed(out.sent(), written.as_bytes()));
     let message = err.sent();
     if told.is_empty() {
@@ -103,13 +103,12 @@ fn gaps(alloc: Global, count: usize) -> Result<String, AllocError> {
 
 /// The status that a timeline of so many gaps is converted with, where all output fails.
 fn status_of_gaps(alloc: Global, count: usize) -> Result<Status, AllocError> {
-    let words = words_of(alloc, "convert a.otio")?;
     let text = gaps(alloc, count)?;
     let mut files = MemFiles::new(alloc);
     files.put("a.otio", text.as_str().as_bytes())?;
     let mut out = MemOut::new(alloc, 0)?;
     let mut err = MemOut::new(alloc, 100)?;
-    Ok(run(alloc, &words, &mut files, &mut out, &mut err))
+    status_of(alloc, "convert a.otio", &mut files, &mut out, &mut err)
 }
 
 #[test]

@@ -1,8 +1,8 @@
 //! Files that are read in pieces.
 
-use crate::run_tests::words_of;
+use crate::runs::status_of;
 use dev_io::{MemFiles, MemOut};
-use otio_tools::{Status, run};
+use otio_tools::Status;
 use std::alloc::{AllocError, Global};
 use std::process::Abort;
 use std::test::Fail;
@@ -48,8 +48,8 @@ fn some_files(alloc: Global) -> Result<MemFiles, AllocError> {
     Ok(files)
 }
 
-// Runs a command line over files of which a read gives at most so many bytes, at least one, and says
-// what was sent.
+// Runs a command line over files of which a read gives at most so many bytes, at least one, and
+// says what was sent.
 fn output_in_pieces(
     rt: &impl Abort,
     alloc: Global,
@@ -62,12 +62,8 @@ fn output_in_pieces(
     files.piece(most);
     let mut out = MemOut::new(alloc, 1000)?;
     let mut err = MemOut::new(alloc, 100)?;
-    let words = words_of(alloc, line)?;
-    assert_eq!(rt;
-        run(alloc, &words, &mut files, &mut out, &mut err),
-        status,
-        "{line}"
-    );
+    let ended = status_of(alloc, line, &mut files, &mut out, &mut err)?;
+    assert_eq!(rt; ended, status, "{line}");
     assert_eq!(rt; err.sent(), message, "{line}");
     Ok(out.sent().to_vec(alloc)?)
 }
@@ -99,12 +95,8 @@ fn check_failing(
     files.fail_on(call)?;
     let mut out = MemOut::new(alloc, 100)?;
     let mut err = MemOut::new(alloc, 100)?;
-    let words = words_of(alloc, line)?;
-    assert_eq!(rt;
-        run(alloc, &words, &mut files, &mut out, &mut err),
-        status,
-        "{line}"
-    );
+    let ended = status_of(alloc, line, &mut files, &mut out, &mut err)?;
+    assert_eq!(rt; ended, status, "{line}");
     assert_eq!(rt; err.sent(), message, "{line}");
     Ok(())
 }
@@ -139,12 +131,13 @@ fn run_over(alloc: Global, text: &[u8], call: u64) -> Result<(Status, usize), Al
     files.fail_on(call)?;
     let mut out = MemOut::new(alloc, 20000)?;
     let mut err = MemOut::new(alloc, 100)?;
-    let words = words_of(alloc, "convert --to json f.json")?;
-    let status = run(alloc, &words, &mut files, &mut out, &mut err);
+    let line = "convert --to json f.json";
+    let status = status_of(alloc, line, &mut files, &mut out, &mut err)?;
     Ok((status, out.sent().len()))
 }
 
-// A file of 10 000 bytes is opened and read in pieces of 4 096, 4 096 and 1 808 bytes, and then at its end.
+// A file of 10 000 bytes is opened and read in pieces of 4 096, 4 096 and 1 808 bytes, and then at
+// its end.
 #[test]
 fn a_file_is_read_in_pieces_of_4096_bytes(rt: HostRuntime) -> Result<(), Fail> {
     let alloc = rt.alloc();
@@ -203,8 +196,9 @@ fn a_list_is_written_with_999_events_at_most(rt: HostRuntime) -> Result<(), Fail
         files.put("many.edl", list_of(alloc, events)?.as_slice())?;
         let mut out = MemOut::new(alloc, 100000)?;
         let mut err = MemOut::new(alloc, 100)?;
-        let words = words_of(alloc, "convert --to edl many.edl")?;
-        assert_eq!(rt; run(alloc, &words, &mut files, &mut out, &mut err), status);
+        let line = "convert --to edl many.edl";
+        let ended = status_of(alloc, line, &mut files, &mut out, &mut err)?;
+        assert_eq!(rt; ended, status);
         assert_eq!(rt; err.sent(), message);
     }
     Ok(())

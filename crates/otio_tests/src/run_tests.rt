@@ -1,7 +1,7 @@
+use crate::runs::{Case, check_case, check_cut_off, check_refused, check_usage, status_of};
 use dev_io::{MemFiles, MemOut};
-use otio_tools::{Status, run};
+use otio_tools::Status;
 use std::alloc::{AllocError, Global};
-use std::process::Abort;
 use std::test::Fail;
 
 const ONE: &[u8] =
@@ -22,16 +22,6 @@ const SOUND_SPELLED: &[u8] = b"FCM: NON-DROP FRAME
 002  T1       A     C        00:00:00:00 00:00:01:00 00:00:00:00 00:00:01:00
 003  T1       A2    C        00:00:00:00 00:00:01:00 00:00:00:00 00:00:01:00
 ";
-
-const USAGE_LINES: usize = 8;
-
-pub fn words_of(alloc: Global, line: &str) -> Result<Vec<String>, AllocError> {
-    let mut words = Vec::new(alloc);
-    for word in line.split_whitespace() {
-        words.push(String::from_str(alloc, word)?)?;
-    }
-    Ok(words)
-}
 
 fn some_files(alloc: Global) -> Result<MemFiles, AllocError> {
     let mut files = MemFiles::new(alloc);
@@ -154,9 +144,6 @@ const FAR: &[u8] = b"{
     \"enabled\": true
 }
 ";
-
-// A command line, its status, its output and its message.
-type Case = (&'static str, Status, &'static [u8], &'static [u8]);
 
 // Lists that are written as lists.
 const LISTS: [Case; 13] = [
@@ -344,28 +331,10 @@ const OBJECTS: [Case; 10] = [
     ("convert far.otio", Status::Done, FAR, b""),
 ];
 
-fn check(rt: &impl Abort, alloc: Global, case: &Case) -> Result<(), Fail> {
-    let (line, status, output, message) = *case;
-    let mut files = some_files(alloc)?;
-    let mut out = MemOut::new(alloc, 4000)?;
-    let mut err = MemOut::new(alloc, 1000)?;
-    let words = words_of(alloc, line)?;
-    assert_eq!(rt;
-        run(alloc, &words, &mut files, &mut out, &mut err),
-        status,
-        "{line}"
-    );
-    assert_eq!(rt; out.sent(), output, "{line}");
-    assert_eq!(rt; err.sent(), message, "{line}");
-    assert!(rt; out.target().is_none());
-    assert!(rt; err.target().is_none());
-    Ok(())
-}
-
 #[test]
 fn lists_are_answered(rt: HostRuntime) -> Result<(), Fail> {
     for case in &LISTS {
-        check(&rt, rt.alloc(), case)?;
+        check_case(&rt, rt.alloc(), &mut some_files(rt.alloc())?, case)?;
     }
     Ok(())
 }
@@ -373,7 +342,7 @@ fn lists_are_answered(rt: HostRuntime) -> Result<(), Fail> {
 #[test]
 fn texts_are_answered(rt: HostRuntime) -> Result<(), Fail> {
     for case in &TEXTS {
-        check(&rt, rt.alloc(), case)?;
+        check_case(&rt, rt.alloc(), &mut some_files(rt.alloc())?, case)?;
     }
     Ok(())
 }
@@ -381,7 +350,7 @@ fn texts_are_answered(rt: HostRuntime) -> Result<(), Fail> {
 #[test]
 fn objects_are_answered(rt: HostRuntime) -> Result<(), Fail> {
     for case in &OBJECTS {
-        check(&rt, rt.alloc(), case)?;
+        check_case(&rt, rt.alloc(), &mut some_files(rt.alloc())?, case)?;
     }
     Ok(())
 }
@@ -389,14 +358,12 @@ fn objects_are_answered(rt: HostRuntime) -> Result<(), Fail> {
 #[test]
 fn the_output_goes_to_its_target(rt: HostRuntime) -> Result<(), Fail> {
     let alloc = rt.alloc();
-    let words = words_of(alloc, "convert --to otio -o o.otio c.otio")?;
+    let line = "convert --to otio -o o.otio c.otio";
     let mut files = some_files(alloc)?;
     let mut out = MemOut::new(alloc, 4000)?;
     let mut err = MemOut::new(alloc, 1000)?;
-    assert_eq!(rt;
-        run(alloc, &words, &mut files, &mut out, &mut err),
-        Status::Done
-    );
+    let ended = status_of(alloc, line, &mut files, &mut out, &mut err)?;
+    assert_eq!(rt; ended, Status::Done);
     assert_eq!(rt; out.sent(), CLIP);
     assert_eq!(rt; out.target(), Some("o.otio"));
     assert!(rt; err.sent().is_empty());
@@ -406,15 +373,13 @@ fn the_output_goes_to_its_target(rt: HostRuntime) -> Result<(), Fail> {
 #[test]
 fn a_target_that_fails_takes_nothing(rt: HostRuntime) -> Result<(), Fail> {
     let alloc = rt.alloc();
-    let words = words_of(alloc, "convert --to json -o o.json list.json")?;
+    let line = "convert --to json -o o.json list.json";
     let mut files = some_files(alloc)?;
     let mut out = MemOut::new(alloc, 1000)?;
     out.fail_on(1)?;
     let mut err = MemOut::new(alloc, 1000)?;
-    assert_eq!(rt;
-        run(alloc, &words, &mut files, &mut out, &mut err),
-        Status::Output
-    );
+    let ended = status_of(alloc, line, &mut files, &mut out, &mut err)?;
+    assert_eq!(rt; ended, Status::Output);
     assert!(rt; out.sent().is_empty());
     assert!(rt; out.target().is_none());
     assert_eq!(rt; err.sent(), b"otio: output failed\n".as_slice());
@@ -424,17 +389,8 @@ fn a_target_that_fails_takes_nothing(rt: HostRuntime) -> Result<(), Fail> {
 #[test]
 fn a_refused_object_leaves_the_target(rt: HostRuntime) -> Result<(), Fail> {
     let alloc = rt.alloc();
-    let words = words_of(alloc, "convert -o o.otio newer.otio")?;
     let mut files = some_files(alloc)?;
-    let mut out = MemOut::new(alloc, 1000)?;
-    let mut err = MemOut::new(alloc, 1000)?;
-    assert_eq!(rt;
-        run(alloc, &words, &mut files, &mut out, &mut err),
-        Status::Refused
-    );
-    assert!(rt; out.target().is_none());
-    assert!(rt; out.sent().is_empty());
-    Ok(())
+    check_refused(&rt, alloc, &mut files, "convert -o o.otio newer.otio")
 }
 
 #[test]
@@ -460,21 +416,7 @@ fn other_words_are_answered_by_the_usage_text(rt: HostRuntime) -> Result<(), Fai
         "convert --to --to edl",
         "Convert --to edl a.edl",
     ] {
-        let mut files = some_files(alloc)?;
-        let mut out = MemOut::new(alloc, 1000)?;
-        let mut err = MemOut::new(alloc, 1000)?;
-        let words = words_of(alloc, line)?;
-        assert_eq!(rt;
-            run(alloc, &words, &mut files, &mut out, &mut err),
-            Status::Usage,
-            "{line}"
-        );
-        assert!(rt; out.sent().is_empty());
-        assert!(rt; err.sent().starts_with(b"otio: usage\n  otio convert ["));
-        assert_eq!(rt;
-            err.sent().iter().filter(|b| **b == b'\n').count(),
-            USAGE_LINES
-        );
+        check_usage(&rt, alloc, &mut some_files(alloc)?, line)?;
     }
     Ok(())
 }
@@ -482,20 +424,9 @@ fn other_words_are_answered_by_the_usage_text(rt: HostRuntime) -> Result<(), Fai
 #[test]
 fn a_stream_of_output_that_fails_leaves_a_prefix(rt: HostRuntime) -> Result<(), Fail> {
     let alloc = rt.alloc();
-    let words = words_of(alloc, "convert --to edl a.edl")?;
+    let line = "convert --to edl a.edl";
     for call in 1..8u64 {
-        let mut files = some_files(alloc)?;
-        let mut out = MemOut::new(alloc, 1000)?;
-        out.piece(16);
-        out.fail_on(call)?;
-        let mut err = MemOut::new(alloc, 1000)?;
-        assert_eq!(rt;
-            run(alloc, &words, &mut files, &mut out, &mut err),
-            Status::Output
-        );
-        assert_eq!(rt; err.sent(), b"otio: output failed\n".as_slice());
-        assert!(rt; ONE_SPELLED.starts_with(out.sent()));
-        assert!(rt; out.sent().len() < ONE_SPELLED.len());
+        check_cut_off(&rt, alloc, &mut some_files(alloc)?, call, line, ONE_SPELLED)?;
     }
     Ok(())
 }
@@ -513,12 +444,8 @@ fn a_failing_stream_of_messages_changes_no_status(rt: HostRuntime) -> Result<(),
         let mut err = MemOut::new(alloc, 1000)?;
         err.piece(5);
         err.fail_on(2)?;
-        let words = words_of(alloc, line)?;
-        assert_eq!(rt;
-            run(alloc, &words, &mut files, &mut out, &mut err),
-            status,
-            "{line}"
-        );
+        let ended = status_of(alloc, line, &mut files, &mut out, &mut err)?;
+        assert_eq!(rt; ended, status, "{line}");
         assert_eq!(rt; err.sent(), b"otio:".as_slice());
         assert!(rt; out.sent().is_empty());
     }
@@ -528,17 +455,15 @@ fn a_failing_stream_of_messages_changes_no_status(rt: HostRuntime) -> Result<(),
 #[test]
 fn a_file_that_fails_is_named(rt: HostRuntime) -> Result<(), Fail> {
     let alloc = rt.alloc();
-    let words = words_of(alloc, "convert --to edl a.edl")?;
     for call in 1..5u64 {
         let mut files = some_files(alloc)?;
         files.piece(64);
         files.fail_on(call)?;
         let mut out = MemOut::new(alloc, 1000)?;
         let mut err = MemOut::new(alloc, 1000)?;
-        assert_eq!(rt;
-            run(alloc, &words, &mut files, &mut out, &mut err),
-            Status::Input
-        );
+        let line = "convert --to edl a.edl";
+        let ended = status_of(alloc, line, &mut files, &mut out, &mut err)?;
+        assert_eq!(rt; ended, Status::Input);
         assert_eq!(rt; err.sent(), b"otio: a.edl: read failed\n".as_slice());
         assert!(rt; out.sent().is_empty());
     }

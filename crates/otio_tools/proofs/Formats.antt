@@ -1,6 +1,6 @@
 -- Bytes are one thing, or are refused for one reason, and never both.
 use Rattle.std.proofs.Common.{◌≡◌, ◌⊎◌, ℕ, Option, List, [], ◌∷◌, Some, None, refl, sym, ap, subst, ◌∙◌, inl, inr}
-use Rattle.json_text.proofs.Once.{text_once, fault_once as json_fault_once, fault_or_text}
+use Rattle.json_text.proofs.OneText.{text_once, fault_once as json_fault_once, fault_or_text}
 use Rattle.json_value.specs.declared.Json.{Json}
 use Rattle.tick_time.specs.declared.rates.Rate.{Rate}
 use Rattle.edl_text.proofs.OneFault.{one_fault, list_or_fault}
@@ -15,7 +15,7 @@ use Rattle.schema_up.specs.Upgrades.{upgraded}
 use Rattle.schema_rows.specs.Stands.{Stands}
 use Rattle.schema_rows.specs.Faults.{IsFirstFault}
 use Rattle.schema_write.specs.Objects.{json_of, object_step, collection_step}
-use Rattle.schema_law.proofs.Seen.{Folded, of_object}
+use Rattle.schema_law.proofs.SeenValues.{Folded, of_object}
 use Rattle.schema_law.proofs.Verdicts.{folded_once, has_one_fault, is_never_both}
 use Rattle.fault_text.specs.Faults.{json_fault_text, list_fault_text, fault_text}
 use Rattle.source_files.specs.Formats.{IsJson, IsObject, IsTimeline, IsNoTimeline, Holds, Refuses, RefusesJson, RefusesObject, RefusesTimeline, RefusesList}

@@ -96,7 +96,7 @@ HasFormedList (content.Root object) = ⊥
 HasFormedList (content.Film timeline) = ⊥
 
 -- a list that can be written in this mode
-pub record IsWritable (list : EventList) (drop : Bool) : Type 0 where
+pub record IsWritableIn (list : EventList) (drop : Bool) : Type 0 where
   pub formed : IsWellFormed list
   pub can : CanBeWritten list drop
   pub labelled : IsFirstPast list.rate drop list.events None
@@ -108,7 +108,7 @@ pub record CanBeShown (timeline : Timeline) : Type 0 where
 
 -- what is planned can be written
 abbrev pub Fits : Planned → Type 0
-Fits (Events list drop) = IsWritable list drop
+Fits (Events list drop) = IsWritableIn list drop
 Fits (Value value) = Unit {0}
 Fits (Rows timeline listing) = CanBeShown timeline
 

@@ -7,7 +7,7 @@ ghost use Rattle.frame_rows.specs.Rows.{listing_text};
 ghost use Rattle.command_words.specs.Asked.{Ask, AskNothing};
 ghost use Rattle.otio_tools.specs.Texts.{text_at};
 ghost use Rattle.otio_tools.specs.Run.{Completes, Ends, Says, KeepsStill, no_memory, streams};
-ghost use Rattle.otio_tools.specs.Plan.{AreRows, CanBeShown, Carries, Complains, Fits, HasSendCause, IsWritable, Writes, WritesTo, text_planned, message_about, message_unsent, status_of, status_unsent};
+ghost use Rattle.otio_tools.specs.Plan.{AreRows, CanBeShown, Carries, Complains, Fits, HasSendCause, IsWritableIn, Writes, WritesTo, text_planned, message_about, message_unsent, status_of, status_unsent};
 ghost use Rattle.source_files.specs.declared.faults.ReadFault.TheVariants.{Refused as RefusedFor};
 
 use crate::Status;
@@ -212,7 +212,7 @@ fn write_planned<W: Out>(alloc: Global, planned: &Planned, out: &mut W) -> Resul
 
 // Sends a list.
 fn write_events<W: Out>(list: &EventList, drop: bool, out: &mut W) -> Result<(), RowFault>
-    requires { IsWritable list.now drop }
+    requires { IsWritableIn list.now drop }
     ensures told { Tells (SendsAll (spelling list.now drop) result) (W.known out.old)
         (W.known out.new) }
     ensures cause { HasSendCause ⊥ (W.faults out.old) (W.faults out.new) result }

@@ -1,2 +1,2 @@
-pub mod Wholes
-pub mod Single
+pub mod WholeNumbers
+pub mod OnePoint

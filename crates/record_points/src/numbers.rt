@@ -40,7 +40,7 @@ fn is_plain(bytes: &[u8]) -> bool
 }
 
 // Whether each byte is a decimal digit.
-#[tactic(auto, using(crate::proofs::Wholes::digits_of, crate::proofs::Wholes::of_digits))]
+#[tactic(auto, using(tick_time::proofs::DigitBytes::digits_of, tick_time::proofs::DigitBytes::of_digits))]
 fn are_digits(bytes: &[u8]) -> bool
     ensures { IsTrue result ↔ AllDigits 10 bytes.now }
 {

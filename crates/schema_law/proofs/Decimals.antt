@@ -9,7 +9,9 @@ use Rattle.tick_time.specs.Numerals.{Fraction, IsSame, fraction, signed}
 use Rattle.tick_time.specs.Decimals.{raised, lowered}
 use Rattle.tick_time.specs.declared.decimals.Decimal.{Decimal}
 use Rattle.tick_time.proofs.Fractions.{signed-mul}
-use Rattle.tick_time.proofs.Lowest.{same_right}
+use Rattle.tick_time.specs.Texts.{is_minus}
+use Rattle.tick_time.proofs.Halves.{abs-signed}
+use Rattle.tick_time.proofs.LowestTerms.{same_right}
 use Rattle.schema_rows.specs.Numerals.{IsSpelled, IsLong, value_of_decimal}
 use Rattle.schema_law.proofs.Spellings.{parts_once, fraction_once, long_same}
 
@@ -44,18 +46,9 @@ cross_in : (d e n db eb nb : ℕ) → 1 ≤ nb → d * nb ≡ n * db → e * nb 
 cross_in d e n db eb nb some p q =
     let both : d * eb * nb ≡ e * db * nb = omega (arith, ap (λ (x : ℕ). x * eb) p, ap (λ (x : ℕ). x * db) q) in same_right (d * eb) (e * db) nb some both
 
-abs-signed : (neg : Bool) (n : ℕ) → unsigned_abs (signed neg n) ≡ n
-abs-signed false n = refl
-abs-signed true zero = refl
-abs-signed true (suc n) = refl
-
 size_in : (neg : Bool) (d db : ℕ) (n : Fraction) → IsSame (record { top = signed neg d; bottom = db }) n → d * n.bottom ≡ unsigned_abs n.top * db
 size_in neg d db n same =
     sym (ap (λ (x : ℕ). x * n.bottom) (abs-signed neg d)) ∙ sym (unsigned_abs-mul (signed neg d) (pos n.bottom)) ∙ ap unsigned_abs same ∙ unsigned_abs-mul n.top (pos db)
-
-abbrev is_minus : ℤ → Bool
-is_minus (pos n) = false
-is_minus (negsuc n) = true
 
 sign_in : (neg : Bool) (x b : ℕ) (n : ℤ) → 1 ≤ x → signed neg x ≡ n *ℤ pos b → neg ≡ is_minus n
 sign_in false x b (pos k) some e = refl

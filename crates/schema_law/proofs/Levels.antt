@@ -12,8 +12,8 @@ use Rattle.schema_rows.specs.Readings.{Reading, known, kept, missing_fields}
 use Rattle.schema_rows.specs.Defaults.{absent_value, empty_missing}
 use Rattle.schema_rows.specs.Families.{Want, child, member, medium, others, stilled, IsAbsent, IsGiven}
 use Rattle.schema_rows.specs.Stands.{Gives, Gives_row, Gives_rows, Gives_fields, Gives_reading, Gives_all}
-use Rattle.schema_law.proofs.Seen.{Folded, View, Sight, known_as, seen, seen_fields, seen_reading}
-use Rattle.schema_law.proofs.Given.{Read, read_as, read_all_as, rows_given_as}
+use Rattle.schema_law.proofs.SeenValues.{Folded, View, Sight, known_as, seen, seen_fields, seen_reading}
+use Rattle.schema_law.proofs.GivenCases.{Read, read_as, read_all_as, rows_given_as}
 use Rattle.schema_law.proofs.Objects.{fielded, named_given, RowGiven, row_given, member_once, not_absent, not_foreign}
 use Rattle.schema_law.proofs.Lists.{both_more, stills_once}
 

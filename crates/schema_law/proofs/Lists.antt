@@ -10,7 +10,7 @@ use Rattle.schema_rows.specs.declared.values.Value.TheVariants as V
 use Rattle.otio_model.specs.declared.roots.Object.{Object}
 use Rattle.schema_rows.specs.Readings.{Reading}
 use Rattle.schema_rows.specs.Families.{breaks, stilled}
-use Rattle.schema_law.proofs.Seen.{Folded, View, whole, these, seen, Glance, seen_reading}
+use Rattle.schema_law.proofs.SeenValues.{Folded, View, whole, these, seen, Glance, seen_reading}
 
 pub both_more : {X : Type 0} (x y : X) (xs ys : List X) → x ≡ y → xs ≡ ys → x ∷ xs ≡ y ∷ ys
 both_more {X} x y xs ys e h = ap (λ (z : X). z ∷ xs) e ∙ ap (λ (zs : List X). y ∷ zs) h

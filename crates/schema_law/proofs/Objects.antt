@@ -15,7 +15,7 @@ use Rattle.schema_rows.specs.Defaults.{absent_value}
 use Rattle.schema_rows.specs.Stands as G
 use Rattle.schema_rows.specs.Stands.{Gives, Gives_row, Gives_rows, Gives_fields}
 use Rattle.schema_law.proofs.Spellings.{first_of_list, behind_first}
-use Rattle.schema_law.proofs.Given.{str_once, map_once}
+use Rattle.schema_rows.proofs.JsonParts.{str_once, map_once}
 
 abbrev NoPoint : List ℕ → Type 0
 NoPoint name = (i : ℕ) → i < length name → slice_index name i ≢ 46

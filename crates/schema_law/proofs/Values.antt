@@ -1,45 +1,21 @@
 -- A decimal, a rate, a number of millionths, a time and a span are determined by what they stand for.
-use Rattle.std.proofs.Common.{◌≡◌, ◌≤◌, ◌⊎◌, inl, inr, ℕ, zero, suc, ◌+◌, ◌*◌, ◌%◌, ℤ, pos, ◌*ℤ◌, ◌-ℤ◌, ◌≤ℤ◌, unsigned_abs, refl, sym, ap, subst, ◌∙◌, arith, IsTrue}
+use Rattle.std.proofs.Common.{◌≡◌, ◌≤◌, ◌⊎◌, inl, inr, ℕ, zero, suc, ◌+◌, ◌*◌, ◌%◌, ℤ, pos, ◌*ℤ◌, ◌-ℤ◌, ◌≤ℤ◌, unsigned_abs, refl, sym, ap, subst, ◌∙◌, arith}
 use Rattle.std.proofs.lemmas.Int.{ints, unsigned_abs-mul}
 use Rattle.std.proofs.Math.Nat.{one-le-pow}
 use Rattle.std.proofs.Props.{props}
 use borrow.Author.Differences.{up, down}
 use Rattle.tick_time.specs.Numerals.{Fraction}
 use Rattle.tick_time.specs.Decimals.{lowered, millionths, IsHalfEven, IsTooFast}
-use Rattle.tick_time.specs.Rates.{GivesRate, IsLowest, per_millionth, is_rate, unit}
+use Rattle.tick_time.specs.Rates.{GivesRate, unit}
 use Rattle.tick_time.specs.Sums.{IsTimeOf, IsBeyond}
-use Rattle.tick_time.specs.Times.{IsInRange, IsSpeed, IsWhole}
+use Rattle.tick_time.specs.Times.{IsInRange, IsSpeed}
 use Rattle.tick_time.specs.declared.decimals.Decimal.{Decimal}
 use Rattle.tick_time.specs.declared.rates.Rate.{Rate}
 use Rattle.tick_time.specs.declared.times.Time.{Time}
 use Rattle.tick_time.specs.declared.spans.Span.{Span}
-use Rattle.tick_time.proofs.Once.{gives_once, same_positive}
+use Rattle.tick_time.proofs.OneValue.{gives_once, same_positive}
+use Rattle.tick_time.proofs.SameValues.{at_least_one, same_rate, same_time}
 use Rattle.schema_rows.specs.Numerals.{value_of_decimal}
-
--- what is known of a rate besides its fraction
-abbrev RateFacts : ℤ → ℤ → Type 0
-RateFacts num den = (pos 1 ≤ℤ den) × (den ≤ℤ num) × (num ≤ℤ pos 705600000000) × (den ≤ℤ pos 1000000)
-    × (per_millionth * unsigned_abs den % unsigned_abs num ≡ 0) × IsLowest (unsigned_abs num) (unsigned_abs den) × IsTrue (is_rate (unsigned_abs num) (unsigned_abs den))
-
-abbrev built_rate : (num den : ℤ) → RateFacts num den → Rate
-built_rate num den f = record { num = num; den = den; positive = f.0; at_least_one = f.1; small_num = f.2; small_den = f.3; whole = f.4; lowest = f.5; given = f.6 }
-
-abbrev rate_facts : (r : Rate) → RateFacts r.num r.den
-rate_facts r = (r.positive, r.at_least_one, r.small_num, r.small_den, r.whole, r.lowest, r.given)
-
-RateFacts-prop : (num den : ℤ) → IsProp (RateFacts num den)
-RateFacts-prop num den = hlevel props
-
-rate_built : (n d m e : ℤ) (p : RateFacts n d) (q : RateFacts m e) → n ≡ m → d ≡ e → built_rate n d p ≡ built_rate m e q
-rate_built n d m e p q h k =
-    subst (λ x. (f : RateFacts x e) → built_rate n d p ≡ built_rate x e f) h
-    (subst (λ y. (f : RateFacts n y) → built_rate n d p ≡ built_rate n y f) k (λ f. ap (built_rate n d) (RateFacts-prop n d p f))) q
-
-same_rate : (r s : Rate) → r.num ≡ s.num → r.den ≡ s.den → r ≡ s
-same_rate r s h k = rate_built r.num r.den s.num s.den (rate_facts r) (rate_facts s) h k
-
-at_least_one : (r : Rate) → pos 1 ≤ℤ r.num
-at_least_one r = omega (arith, ints, r.positive, r.at_least_one)
 
 some_bottom : (d : Decimal) → 1 ≤ (value_of_decimal d).bottom
 some_bottom d = one-le-pow (lowered d.exp) 10 (omega arith)
@@ -82,26 +58,6 @@ pub not_too_fast : (d : Decimal) (n : ℤ) → IsHalfEven (millionths (value_of_
 not_too_fast d n p speed fast = fast.beyond (subst IsSpeed (speed_once d n fast.speed p fast.nearest) speed)
 
 -- times
-abbrev TimeFacts : ℤ → Rate → Type 0
-TimeFacts ticks rate = ((pos 0 -ℤ pos 705600000000000000000000) ≤ℤ ticks) × (ticks ≤ℤ pos 705600000000000000000000) × IsWhole ticks (unit rate.num rate.den)
-
-abbrev built_time : (ticks : ℤ) (rate : Rate) → TimeFacts ticks rate → Time
-built_time ticks rate f = record { ticks = ticks; rate = rate; low = f.0; high = f.1; whole = f.2 }
-
-abbrev time_facts : (t : Time) → TimeFacts t.ticks t.rate
-time_facts t = (t.low, t.high, t.whole)
-
-TimeFacts-prop : (ticks : ℤ) (rate : Rate) → IsProp (TimeFacts ticks rate)
-TimeFacts-prop ticks rate = hlevel props
-
-time_built : (n : ℤ) (r : Rate) (m : ℤ) (s : Rate) (p : TimeFacts n r) (q : TimeFacts m s) → n ≡ m → r ≡ s → built_time n r p ≡ built_time m s q
-time_built n r m s p q h k =
-    subst (λ x. (f : TimeFacts x s) → built_time n r p ≡ built_time x s f) h
-    (subst (λ y. (f : TimeFacts n y) → built_time n r p ≡ built_time n y f) k (λ f. ap (built_time n r) (TimeFacts-prop n r p f))) q
-
-same_time : (t u : Time) → t.ticks ≡ u.ticks → t.rate ≡ u.rate → t ≡ u
-same_time t u h k = time_built t.ticks t.rate u.ticks u.rate (time_facts t) (time_facts u) h k
-
 pub time_once : (d : Decimal) (r : Rate) (t u : Time) → IsTimeOf (value_of_decimal d) r t → IsTimeOf (value_of_decimal d) r u → t ≡ u
 time_once d r t u p q =
     let units = speed_once d p.units q.units p.nearest q.nearest in

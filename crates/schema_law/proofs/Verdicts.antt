@@ -9,11 +9,11 @@ use Rattle.schema_rows.specs.Families.{child}
 use Rattle.schema_rows.specs.Stands.{Stands, Gives_reading, as_child}
 use Rattle.schema_rows.specs.Faults.{refused, many}
 use Rattle.schema_law.specs.One.{StandsForOne, HasOneCount, HasOneFault, IsNeverBoth, spared_object, spared_collection}
-use Rattle.schema_law.proofs.Seen.{Folded, Sight, known_as, of_object, object_back, object_is}
-use Rattle.schema_law.proofs.Once.{fields_one}
-use Rattle.schema_law.proofs.Clashes.{counted}
-use Rattle.schema_law.proofs.Apart.{reading_not}
-use Rattle.schema_law.proofs.Firsts.{reading_first}
+use Rattle.schema_law.proofs.SeenValues.{Folded, Sight, known_as, of_object, object_back, object_is}
+use Rattle.schema_law.proofs.OneValue.{fields_one}
+use Rattle.schema_law.proofs.ClashLemmas.{counted}
+use Rattle.schema_law.proofs.GivenOrRefused.{reading_not}
+use Rattle.schema_law.proofs.FirstFaults.{reading_first}
 
 -- each fold that sets spare memory aside makes the same of two objects that a value stands for
 pub folded_once : (φ : Folded) (json : Json) (a b : Object) → Stands json a → Stands json b → of_object φ a ≡ of_object φ b

@@ -2,6 +2,7 @@
 use Rattle.std.proofs.Common.{◌≡◌, ◌⊎◌, ℕ, ℤ, pos, Bool, true, false, cond, List, [], ◌∷◌, map, Some, None, sym, ap, subst, inl, inr, if◌then◌else◌}
 use Rattle.std.specs.Str.{bytes_eq}
 use Rattle.json_value.specs.declared.Json.{Json}
+use Rattle.tick_time.specs.Times.{is_speed}
 use Rattle.schema_rows.specs.declared.schemas.Schema.{Schema}
 use Rattle.schema_rows.specs.declared.schemas.Schema.TheVariants as S
 use Rattle.schema_rows.specs.declared.schemas.TheConstants as C
@@ -11,7 +12,7 @@ use Rattle.schema_rows.specs.declared.values.Value.TheVariants as V
 use Rattle.schema_rows.specs.Rows as R
 use Rattle.schema_rows.specs.Rows.{Row, RowKind, stack_rows}
 use Rattle.schema_rows.specs.Schemas.{named, name_of, rows_of}
-use Rattle.schema_rows.specs.Defaults.{default_of, is_speed, empty_tracks}
+use Rattle.schema_rows.specs.Defaults.{default_of, empty_tracks}
 use Rattle.schema_rows.specs.Families.{stilled, is_freeze}
 use Rattle.schema_rows.specs.Stands.{Gives, text, flag, meta, span, time, number, rate, numeral, items, objects, effects, markers, media, stack, Gives_row, present, absent, Gives_rows, no_rows, more_rows, Gives_fields, fields}
 use Rattle.schema_parts.specs.Shapes.{IsOf, HaveKinds, IsAmong}

@@ -1,8 +1,8 @@
 pub mod Asking
-pub mod Firsts
-pub mod Kept
+pub mod FirstShapes
+pub mod KeptMembers
 pub mod KindLemmas
 pub mod Objects
 pub mod Points
 pub mod Sides
-pub mod Stilled
+pub mod StillSpeeds

@@ -1,11 +1,9 @@
 -- A text around its first point.
-use Rattle.std.proofs.Common.{◌≡◌, ◌≢◌, ◌⊎◌, inl, inr, subst, ◌<◌, ◌≤◌, ◌*◌, ◌+◌, ◌-◌, ℕ, zero, suc, List, [], ◌∷◌, ◌++◌, length, take, get_or, refl, sym, ap, ◌∙◌, arith, length-take, false}
+use Rattle.std.proofs.Common.{◌≡◌, ◌≢◌, ◌⊎◌, inl, inr, subst, ◌<◌, ◌≤◌, ℕ, zero, suc, List, [], ◌∷◌, ◌++◌, length, take, get_or, refl, sym, ap, ◌∙◌, arith, length-take, false}
 use Rattle.std.specs.Char.{is_ascii_digit}
 use Rattle.std.proofs.lemmas.Bool.Decides.{nat_tests}
 use Rattle.std.specs.Str.Parse.{AllDigits, digits_value}
-use Rattle.std.proofs.lemmas.Int.Digits.{digits_value-lt, digits_value_more}
-use Rattle.std.proofs.lemmas.Str.{digit_value_digit}
-use Rattle.std.proofs.lemmas.Str.Parse.{digit_at}
+use Rattle.std.proofs.lemmas.Int.Digits.{digits_value-lt}
 use Rattle.std.proofs.Math.Nat.{pow-le-pow_right}
 use Rattle.schema_rows.specs.Schemas.{IsSchemaText}
 
@@ -64,7 +62,3 @@ no_parts text before behind e plain w name version h =
       by (inr (inl none)) p q = omega (arith, ap length q, h.some_digits)
       by (inr (inr (inl long))) p q = omega (arith, ap length q, h.few_digits)
       by (inr (inr (inr other))) p q = other (subst (AllDigits 10) (sym q) h.all_digits)
-
--- a digit more
-pub pushed : (digits : List ℕ) (i : ℕ) → AllDigits 10 digits → i < length digits → digits_value 10 (take i digits) * 10 + (get_or digits i 0 - 48) ≡ digits_value 10 (take (i + 1) digits)
-pushed digits i all within = omega (arith, digits_value_more 10 digits i within, digit_value_digit (get_or digits i 0) (digit_at digits i all within))

@@ -1,12 +1,13 @@
 //! What stands where a member is absent.
 
 ghost use Rattle.std.specs.Prelude.{◌≡◌, ◌≢◌, IfOk, IfErr, Some, None, cond, true, false};
+ghost use Rattle.tick_time.specs.Times.{is_speed};
 ghost use Rattle.schema_rows.specs.Rows.{row_of, kind_of};
 ghost use Rattle.schema_rows.specs.Defaults as defaults;
 
 use crate::faults::field_fault;
-use otio_model::{Children, Place, Stack, StackOf};
-use schema_rows::{Field, Kind, SchemaFault, Value};
+use otio_model::{Children, Effects, Place, Stack, StackOf};
+use schema_rows::{Field, Kind, RowResult, SchemaFault, Value};
 use sequences::{NamedValues, Sequence, Text};
 use std::alloc::{AllocError, Global};
 use tick_time::Scalar;
@@ -21,7 +22,7 @@ fn empty_tracks(alloc: Global) -> Result<Stack, AllocError>
         metadata: NamedValues::new(alloc),
         name,
         source_range: None,
-        effects: Sequence::new(alloc),
+        effects: Effects::new(alloc),
         markers: Sequence::new(alloc),
         enabled: true,
         children,
@@ -31,7 +32,7 @@ fn empty_tracks(alloc: Global) -> Result<Stack, AllocError>
 
 /// A default in millionths as a speed.
 fn default_speed(number: i64) -> Option<Value>
-    ensures { result ≡ cond (defaults.is_speed number) (Some (Value.Number number)) None }
+    ensures { result ≡ cond (is_speed number) (Some (Value.Number number)) None }
 {
     if -1_000_000_000 <= number && number <= 1_000_000_000 {
         Some(Value::Number(Scalar(number)))
@@ -55,7 +56,7 @@ fn default_of(alloc: Global, kind: Kind) -> Result<Option<Value>, AllocError>
         Kind::Time => Ok(Some(Value::Time(None))),
         Kind::Number(number) => Ok(default_speed(number)),
         Kind::Items => Ok(Some(Value::Items(Sequence::new(alloc)))),
-        Kind::Effects => Ok(Some(Value::Effects(Sequence::new(alloc)))),
+        Kind::Effects => Ok(Some(Value::Effects(Effects::new(alloc)))),
         Kind::Markers => Ok(Some(Value::Markers(Sequence::new(alloc)))),
         Kind::Media => Ok(Some(Value::Media(NamedValues::new(alloc)))),
         Kind::Stack => {
@@ -69,7 +70,7 @@ fn default_of(alloc: Global, kind: Kind) -> Result<Option<Value>, AllocError>
 }
 
 /// What a row stands for where its member is absent; S4 where it is needed.
-pub fn absent(alloc: Global, row: &Field, place: &Place) -> Result<Value, SchemaFault>
+pub fn absent(alloc: Global, row: &Field, place: &Place) -> RowResult
     ensures value { IfOk result (λ value. defaults.absent_value (row_of row.now) ≡ Some value) }
     ensures fault { IfErr result (λ fault. fault ≢ SchemaFault.Memory →
         (defaults.absent_value (row_of row.now) ≡ None)

@@ -22,7 +22,7 @@ use crate::faults::{not_object_fault, unknown_fault};
 use crate::finding::found_object;
 use json_value::{Json, copy_json};
 use otio_model::{Effect, Item, ItemOf, Marker, Media, Missing, Object, Place};
-use schema_rows::{Fields, Schema, SchemaFault, Value};
+use schema_rows::{Fields, Matched, RowResult, Schema, SchemaFault, Value};
 use sequences::{NamedValues, Text};
 use std::alloc::{AllocError, Global};
 
@@ -124,7 +124,7 @@ pub fn item_of(
     alloc: Global,
     value: &Json,
     place: &Place,
-    found: Option<Fields>,
+    found: Matched,
 ) -> Result<Item, SchemaFault>
     requires found { MatchOption found (IsForeign families.ITEMS value.now)
         (Gives_fields families.ITEMS value.now) }
@@ -145,7 +145,7 @@ pub fn root_of(
     alloc: Global,
     value: &Json,
     place: &Place,
-    found: Option<Fields>,
+    found: Matched,
 ) -> Result<Object, SchemaFault>
     requires found { MatchOption found (IsForeign families.ROOTS value.now)
         (Gives_fields families.ROOTS value.now) }
@@ -162,12 +162,7 @@ pub fn root_of(
 }
 
 /// The root stack of a timeline; S1 or S2 where the value is none.
-pub fn tracks_of(
-    alloc: Global,
-    value: &Json,
-    place: &Place,
-    found: Option<Fields>,
-) -> Result<Value, SchemaFault>
+pub fn tracks_of(alloc: Global, value: &Json, place: &Place, found: Matched) -> RowResult
     requires found { MatchOption found (IsForeign families.STACKS value.now)
         (Gives_fields families.STACKS value.now) }
     ensures value { IfOk result (Gives rows.stack value.now) }
@@ -184,7 +179,7 @@ pub fn tracks_of(
 }
 
 /// An effect, or the value kept word for word.
-pub fn effect_of(alloc: Global, value: &Json, found: Option<Fields>) -> Result<Effect, SchemaFault>
+pub fn effect_of(alloc: Global, value: &Json, found: Matched) -> Result<Effect, SchemaFault>
     requires found { MatchOption found (IsForeign families.EFFECTS value.now)
         (Gives_fields families.EFFECTS value.now) }
     ensures value { IfOk result (λ effect.
@@ -201,7 +196,7 @@ pub fn effect_of(alloc: Global, value: &Json, found: Option<Fields>) -> Result<E
 }
 
 /// A marker, or the value kept word for word.
-pub fn marker_of(alloc: Global, value: &Json, found: Option<Fields>) -> Result<Marker, SchemaFault>
+pub fn marker_of(alloc: Global, value: &Json, found: Matched) -> Result<Marker, SchemaFault>
     requires found { MatchOption found (IsForeign families.MARKERS value.now)
         (Gives_fields families.MARKERS value.now) }
     ensures value { IfOk result (λ marker.
@@ -230,7 +225,7 @@ fn empty_missing(alloc: Global) -> Result<Missing, AllocError>
 }
 
 /// A media reference that is not null, or the value kept word for word.
-fn reference_of(alloc: Global, value: &Json, found: Option<Fields>) -> Result<Media, SchemaFault>
+fn reference_of(alloc: Global, value: &Json, found: Matched) -> Result<Media, SchemaFault>
     requires found { MatchOption found (IsForeign families.MEDIA value.now)
         (Gives_fields families.MEDIA value.now) }
     requires some { value.now ≢ json.Null }
@@ -248,7 +243,7 @@ fn reference_of(alloc: Global, value: &Json, found: Option<Fields>) -> Result<Me
 }
 
 /// A media reference, or the value kept word for word. Null stands for a missing reference.
-pub fn medium_of(alloc: Global, value: &Json, found: Option<Fields>) -> Result<Media, SchemaFault>
+pub fn medium_of(alloc: Global, value: &Json, found: Matched) -> Result<Media, SchemaFault>
     requires found { MatchOption found (IsForeign families.MEDIA value.now)
         (Gives_fields families.MEDIA value.now) }
     ensures value { IfOk result (λ reference.

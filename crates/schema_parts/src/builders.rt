@@ -26,41 +26,77 @@ macro_rules! made {
     }};
 }
 
-#[tactic(auto, using(crate::proofs::Firsts::first_is, crate::proofs::Firsts::have_shapes))]
+/// An item of these fields behind those that all items have.
+macro_rules! made_item {
+    ($fields:ident => $name:ident { $($field:ident: $next:ident),* }) => {
+        made!($fields => $name {
+            metadata: next_meta, name: next_text, source_range: next_span,
+            effects: next_effects, markers: next_markers, enabled: next_flag
+            $(, $field: $next)*
+        })
+    };
+}
+
+/// An item with children, of these fields behind them.
+macro_rules! made_parent {
+    ($alloc:ident, $fields:ident => $name:ident { $($field:ident: $next:ident),* }) => {{
+        let Fields { schema: _, values, rest } = $fields;
+        let mut values = values.into_vec().into_iter();
+        let metadata = next_meta(&mut values);
+        let name = next_text(&mut values);
+        let source_range = next_span(&mut values);
+        let effects = next_effects(&mut values);
+        let markers = next_markers(&mut values);
+        let enabled = next_flag(&mut values);
+        let items = next_items(&mut values);
+        $(let $field = $next(&mut values);)*
+        let children = Children::of($alloc, items)?;
+        Ok($name {
+            metadata, name, source_range, effects, markers, enabled, children, $($field,)* rest
+        })
+    }};
+}
+
+/// An effect of these fields behind those that all effects have.
+macro_rules! made_effect {
+    ($fields:ident => $name:ident { $($field:ident: $next:ident),* } $($more:ident),*) => {
+        made!($fields => $name {
+            metadata: next_meta, name: next_text, effect_name: next_text $(, $field: $next)*
+        } $($more),*)
+    };
+}
+
+/// A media reference of these fields behind those that all have.
+macro_rules! made_media {
+    ($fields:ident => $name:ident { $($field:ident: $next:ident),* }) => {
+        made!($fields => $name {
+            metadata: next_meta, name: next_text, available_range: next_span $(, $field: $next)*
+        })
+    };
+}
+
+#[tactic(auto, using(crate::proofs::FirstShapes::first_is, crate::proofs::FirstShapes::have_shapes))]
 pub(crate) fn gap_of(fields: Fields) -> Gap
     requires { HaveKinds rows.gap_rows fields.values }
     ensures values { (readings.gap_fields result).values ≡ fields.values }
     ensures rest { (readings.gap_fields result).rest ≡ fields.rest }
 {
-    made!(fields => Gap {
-        metadata: next_meta,
-        name: next_text,
-        source_range: next_span,
-        effects: next_effects,
-        markers: next_markers,
-        enabled: next_flag
-    })
+    made_item!(fields => Gap {})
 }
 
-#[tactic(auto, using(crate::proofs::Firsts::first_is, crate::proofs::Firsts::have_shapes))]
+#[tactic(auto, using(crate::proofs::FirstShapes::first_is, crate::proofs::FirstShapes::have_shapes))]
 pub(crate) fn clip_of(fields: Fields) -> Clip
     requires { HaveKinds rows.clip_rows fields.values }
     ensures values { (readings.clip_fields result).values ≡ fields.values }
     ensures rest { (readings.clip_fields result).rest ≡ fields.rest }
 {
-    made!(fields => Clip {
-        metadata: next_meta,
-        name: next_text,
-        source_range: next_span,
-        effects: next_effects,
-        markers: next_markers,
-        enabled: next_flag,
+    made_item!(fields => Clip {
         media_references: next_media,
         active_media_reference_key: next_text
     })
 }
 
-#[tactic(auto, using(crate::proofs::Firsts::first_is, crate::proofs::Firsts::have_shapes))]
+#[tactic(auto, using(crate::proofs::FirstShapes::first_is, crate::proofs::FirstShapes::have_shapes))]
 pub(crate) fn transition_of(fields: Fields) -> Transition
     requires { HaveKinds rows.transition_rows fields.values }
     ensures values { (readings.transition_fields result).values ≡ fields.values }
@@ -75,7 +111,7 @@ pub(crate) fn transition_of(fields: Fields) -> Transition
     })
 }
 
-#[tactic(auto, using(crate::proofs::Firsts::first_is, crate::proofs::Firsts::have_shapes))]
+#[tactic(auto, using(crate::proofs::FirstShapes::first_is, crate::proofs::FirstShapes::have_shapes))]
 pub(crate) fn collection_of(fields: Fields) -> Collection
     requires { HaveKinds rows.collection_rows fields.values }
     ensures values { (readings.collection_fields result).values ≡ fields.values }
@@ -88,49 +124,35 @@ pub(crate) fn collection_of(fields: Fields) -> Collection
     })
 }
 
-#[tactic(auto, using(crate::proofs::Firsts::first_is, crate::proofs::Firsts::have_shapes))]
+#[tactic(auto, using(crate::proofs::FirstShapes::first_is, crate::proofs::FirstShapes::have_shapes))]
 pub(crate) fn warp_of(fields: Fields) -> Warp
     requires { HaveKinds rows.warp_rows fields.values }
     ensures values { (readings.warp_fields result).values ≡ fields.values }
     ensures rest { (readings.warp_fields result).rest ≡ fields.rest }
 {
-    made!(fields => Warp {
-        metadata: next_meta,
-        name: next_text,
-        effect_name: next_text,
-        time_scalar: next_number
-    })
+    made_effect!(fields => Warp { time_scalar: next_number })
 }
 
-#[tactic(auto, using(crate::proofs::Firsts::first_is, crate::proofs::Firsts::have_shapes))]
+#[tactic(auto, using(crate::proofs::FirstShapes::first_is, crate::proofs::FirstShapes::have_shapes))]
 pub(crate) fn freeze_of(fields: Fields) -> Freeze
     requires { HaveKinds rows.freeze_rows fields.values }
     ensures values { (readings.freeze_fields result).values ≡ fields.values }
     ensures rest { (readings.freeze_fields result).rest ≡ fields.rest }
 {
-    made!(fields => Freeze {
-        metadata: next_meta,
-        name: next_text,
-        effect_name: next_text,
-        time_scalar: next_number
-    })
+    made_effect!(fields => Freeze { time_scalar: next_number })
 }
 
-#[tactic(auto, using(crate::proofs::Firsts::first_is, crate::proofs::Firsts::have_shapes))]
+#[tactic(auto, using(crate::proofs::FirstShapes::first_is, crate::proofs::FirstShapes::have_shapes))]
 pub(crate) fn plain_of(fields: Fields, timed: bool) -> Plain
     requires { HaveKinds rows.effect_rows fields.values }
     ensures values { (readings.plain_fields result).values ≡ fields.values }
     ensures rest { (readings.plain_fields result).rest ≡ fields.rest }
     ensures timed { result.timed ≡ timed }
 {
-    made!(fields => Plain {
-        metadata: next_meta,
-        name: next_text,
-        effect_name: next_text
-    } timed)
+    made_effect!(fields => Plain {} timed)
 }
 
-#[tactic(auto, using(crate::proofs::Firsts::first_is, crate::proofs::Firsts::have_shapes))]
+#[tactic(auto, using(crate::proofs::FirstShapes::first_is, crate::proofs::FirstShapes::have_shapes))]
 pub(crate) fn mark_of(fields: Fields) -> Mark
     requires { HaveKinds rows.marker_rows fields.values }
     ensures values { (readings.mark_fields result).values ≡ fields.values }
@@ -143,130 +165,65 @@ pub(crate) fn mark_of(fields: Fields) -> Mark
     })
 }
 
-#[tactic(auto, using(crate::proofs::Firsts::first_is, crate::proofs::Firsts::have_shapes))]
+#[tactic(auto, using(crate::proofs::FirstShapes::first_is, crate::proofs::FirstShapes::have_shapes))]
 pub(crate) fn external_of(fields: Fields) -> External
     requires { HaveKinds rows.external_rows fields.values }
     ensures values { (readings.external_fields result).values ≡ fields.values }
     ensures rest { (readings.external_fields result).rest ≡ fields.rest }
 {
-    made!(fields => External {
-        metadata: next_meta,
-        name: next_text,
-        available_range: next_span,
-        target_url: next_text
-    })
+    made_media!(fields => External { target_url: next_text })
 }
 
-#[tactic(auto, using(crate::proofs::Firsts::first_is, crate::proofs::Firsts::have_shapes))]
+#[tactic(auto, using(crate::proofs::FirstShapes::first_is, crate::proofs::FirstShapes::have_shapes))]
 pub(crate) fn missing_of(fields: Fields) -> Missing
     requires { HaveKinds rows.missing_rows fields.values }
     ensures values { (readings.missing_fields result).values ≡ fields.values }
     ensures rest { (readings.missing_fields result).rest ≡ fields.rest }
 {
-    made!(fields => Missing {
-        metadata: next_meta,
-        name: next_text,
-        available_range: next_span
-    })
+    made_media!(fields => Missing {})
 }
 
-#[tactic(auto, using(crate::proofs::Firsts::first_is, crate::proofs::Firsts::have_shapes))]
+#[tactic(auto, using(crate::proofs::FirstShapes::first_is, crate::proofs::FirstShapes::have_shapes))]
 pub(crate) fn generator_of(fields: Fields) -> Generator
     requires { HaveKinds rows.generator_rows fields.values }
     ensures values { (readings.generator_fields result).values ≡ fields.values }
     ensures rest { (readings.generator_fields result).rest ≡ fields.rest }
 {
-    made!(fields => Generator {
-        metadata: next_meta,
-        name: next_text,
-        available_range: next_span,
-        generator_kind: next_text
-    })
+    made_media!(fields => Generator { generator_kind: next_text })
 }
 
-#[tactic(auto, using(crate::proofs::Firsts::first_is, crate::proofs::Firsts::have_shapes))]
+#[tactic(auto, using(crate::proofs::FirstShapes::first_is, crate::proofs::FirstShapes::have_shapes))]
 pub(crate) fn images_of(fields: Fields) -> Sequence
     requires { HaveKinds rows.images_rows fields.values }
     ensures values { (readings.images_fields result).values ≡ fields.values }
     ensures rest { (readings.images_fields result).rest ≡ fields.rest }
 {
-    made!(fields => Sequence {
-        metadata: next_meta,
-        name: next_text,
-        available_range: next_span,
+    made_media!(fields => Sequence {
         target_url_base: next_text,
         name_prefix: next_text,
         name_suffix: next_text
     })
 }
 
-#[tactic(auto, using(crate::proofs::Firsts::first_is, crate::proofs::Firsts::have_shapes, otio_model::proofs::Views::shown))]
+#[tactic(auto, using(crate::proofs::FirstShapes::first_is, crate::proofs::FirstShapes::have_shapes, otio_model::proofs::Views::shown))]
 pub(crate) fn stack_of(alloc: Global, fields: Fields) -> Result<Stack, AllocError>
     requires { HaveKinds rows.stack_rows fields.values }
     ensures values { IfOk result (λ made. (readings.stack_fields made).values ≡ fields.values) }
     ensures rest { IfOk result (λ made. (readings.stack_fields made).rest ≡ fields.rest) }
 {
-    let Fields {
-        schema: _,
-        values,
-        rest,
-    } = fields;
-    let mut values = values.into_vec().into_iter();
-    let metadata = next_meta(&mut values);
-    let name = next_text(&mut values);
-    let source_range = next_span(&mut values);
-    let effects = next_effects(&mut values);
-    let markers = next_markers(&mut values);
-    let enabled = next_flag(&mut values);
-    let items = next_items(&mut values);
-    let children = Children::of(alloc, items)?;
-    Ok(StackOf {
-        metadata,
-        name,
-        source_range,
-        effects,
-        markers,
-        enabled,
-        children,
-        rest,
-    })
+    made_parent!(alloc, fields => StackOf {})
 }
 
-#[tactic(auto, using(crate::proofs::Firsts::first_is, crate::proofs::Firsts::have_shapes, otio_model::proofs::Views::shown))]
+#[tactic(auto, using(crate::proofs::FirstShapes::first_is, crate::proofs::FirstShapes::have_shapes, otio_model::proofs::Views::shown))]
 pub(crate) fn track_of(alloc: Global, fields: Fields) -> Result<Track, AllocError>
     requires { HaveKinds rows.track_rows fields.values }
     ensures values { IfOk result (λ made. (readings.track_fields made).values ≡ fields.values) }
     ensures rest { IfOk result (λ made. (readings.track_fields made).rest ≡ fields.rest) }
 {
-    let Fields {
-        schema: _,
-        values,
-        rest,
-    } = fields;
-    let mut values = values.into_vec().into_iter();
-    let metadata = next_meta(&mut values);
-    let name = next_text(&mut values);
-    let source_range = next_span(&mut values);
-    let effects = next_effects(&mut values);
-    let markers = next_markers(&mut values);
-    let enabled = next_flag(&mut values);
-    let items = next_items(&mut values);
-    let kind = next_text(&mut values);
-    let children = Children::of(alloc, items)?;
-    Ok(TrackOf {
-        metadata,
-        name,
-        source_range,
-        effects,
-        markers,
-        enabled,
-        children,
-        kind,
-        rest,
-    })
+    made_parent!(alloc, fields => TrackOf { kind: next_text })
 }
 
-#[tactic(auto, using(crate::proofs::Firsts::first_is, crate::proofs::Firsts::have_shapes))]
+#[tactic(auto, using(crate::proofs::FirstShapes::first_is, crate::proofs::FirstShapes::have_shapes))]
 pub(crate) fn timeline_of(alloc: Global, fields: Fields) -> Timeline
     requires { HaveKinds rows.timeline_rows fields.values }
     ensures values { (readings.timeline_fields result).values ≡ fields.values }

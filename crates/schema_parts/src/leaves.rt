@@ -22,7 +22,7 @@ ghost use Rattle.tick_time.specs.declared.times.Time.{Time};
 use crate::faults::{field_fault, range_fault, rate_fault};
 use json_value::{Json, Members, copy_json};
 use otio_model::Place;
-use schema_rows::{Field, Fields, SchemaFault, Value};
+use schema_rows::{Field, Fields, Matched, RowResult, SchemaFault, Value};
 use sequences::Text;
 use std::alloc::Global;
 use tick_time::{Decimal, Rate, Scalar, Span, Time};
@@ -63,12 +63,7 @@ fn speed_of(numeral: &Text) -> Option<Scalar>
 }
 
 /// A string.
-pub fn text_of(
-    alloc: Global,
-    row: &Field,
-    value: &Json,
-    place: &Place,
-) -> Result<Value, SchemaFault>
+pub fn text_of(alloc: Global, row: &Field, value: &Json, place: &Place) -> RowResult
     ensures value { (default : List ℕ) → kind_of row.now.kind ≡ rows.text default →
         IfOk result (Gives (kind_of row.now.kind) value.now) }
     ensures fault { (default : List ℕ) → kind_of row.now.kind ≡ rows.text default
@@ -85,12 +80,7 @@ pub fn text_of(
 }
 
 /// A truth value.
-pub fn flag_of(
-    alloc: Global,
-    row: &Field,
-    value: &Json,
-    place: &Place,
-) -> Result<Value, SchemaFault>
+pub fn flag_of(alloc: Global, row: &Field, value: &Json, place: &Place) -> RowResult
     ensures value { kind_of row.now.kind ≡ rows.flag →
         IfOk result (Gives (kind_of row.now.kind) value.now) }
     ensures fault { kind_of row.now.kind ≡ rows.flag
@@ -115,12 +105,7 @@ fn members_in(value: Json) -> Option<Members>
 }
 
 /// An object that is kept word for word.
-pub fn meta_of(
-    alloc: Global,
-    row: &Field,
-    value: &Json,
-    place: &Place,
-) -> Result<Value, SchemaFault>
+pub fn meta_of(alloc: Global, row: &Field, value: &Json, place: &Place) -> RowResult
     ensures value { kind_of row.now.kind ≡ rows.meta →
         IfOk result (Gives (kind_of row.now.kind) value.now) }
     ensures fault { kind_of row.now.kind ≡ rows.meta
@@ -137,12 +122,7 @@ pub fn meta_of(
 }
 
 /// A speed.
-pub fn number_of(
-    alloc: Global,
-    row: &Field,
-    value: &Json,
-    place: &Place,
-) -> Result<Value, SchemaFault>
+pub fn number_of(alloc: Global, row: &Field, value: &Json, place: &Place) -> RowResult
     requires numerals { HasNumerals value.now }
     ensures value { (default : ℤ) → kind_of row.now.kind ≡ rows.number default →
         IfOk result (Gives (kind_of row.now.kind) value.now) }
@@ -160,12 +140,7 @@ pub fn number_of(
 }
 
 /// Any numeral.
-pub fn numeral_of(
-    alloc: Global,
-    row: &Field,
-    value: &Json,
-    place: &Place,
-) -> Result<Value, SchemaFault>
+pub fn numeral_of(alloc: Global, row: &Field, value: &Json, place: &Place) -> RowResult
     requires numerals { HasNumerals value.now }
     ensures value { kind_of row.now.kind ≡ rows.numeral →
         IfOk result (Gives (kind_of row.now.kind) value.now) }
@@ -183,12 +158,7 @@ pub fn numeral_of(
 }
 
 /// A rate.
-pub fn rate_of(
-    alloc: Global,
-    row: &Field,
-    value: &Json,
-    place: &Place,
-) -> Result<Value, SchemaFault>
+pub fn rate_of(alloc: Global, row: &Field, value: &Json, place: &Place) -> RowResult
     requires numerals { HasNumerals value.now }
     ensures value { kind_of row.now.kind ≡ rows.rate →
         IfOk result (Gives (kind_of row.now.kind) value.now) }
@@ -231,7 +201,7 @@ fn rated_in(fields: &Fields) -> Option<(Rate, Decimal)>
 }
 
 /// A range of time, from the fields of its object.
-fn span_from(alloc: Global, fields: &Fields, place: &Place) -> Result<Value, SchemaFault>
+fn span_from(alloc: Global, fields: &Fields, place: &Place) -> RowResult
     ensures value { IfOk result (λ value. (span : Span)
         × (fields.now.values ≡ Value.Time (Some span.len) ∷ (Value.Time (Some span.start) ∷ []))
         × (value ≡ Value.Span (Some span))) }
@@ -250,13 +220,7 @@ fn span_from(alloc: Global, fields: &Fields, place: &Place) -> Result<Value, Sch
 }
 
 /// A range of time.
-pub fn span_of(
-    alloc: Global,
-    row: &Field,
-    value: &Json,
-    place: &Place,
-    found: Option<Fields>,
-) -> Result<Value, SchemaFault>
+pub fn span_of(alloc: Global, row: &Field, value: &Json, place: &Place, found: Matched) -> RowResult
     requires found { MatchOption found (IsForeign families.RANGES value.now)
         (Gives_fields families.RANGES value.now) }
     ensures value { kind_of row.now.kind ≡ rows.span →
@@ -272,7 +236,7 @@ pub fn span_of(
 }
 
 /// A time, from the fields of its object.
-fn time_from(alloc: Global, fields: &Fields, place: &Place) -> Result<Value, SchemaFault>
+fn time_from(alloc: Global, fields: &Fields, place: &Place) -> RowResult
     ensures value { IfOk result (λ value. (rate : Rate) × (decimal : Decimal) × (time : Time)
         × (fields.now.values ≡ Value.Rate rate ∷ (Value.Numeral decimal ∷ []))
         × IsTimeOf (value_of_decimal decimal) rate time × (value ≡ Value.Time (Some time))) }
@@ -289,13 +253,7 @@ fn time_from(alloc: Global, fields: &Fields, place: &Place) -> Result<Value, Sch
 }
 
 /// A time.
-pub fn time_of(
-    alloc: Global,
-    row: &Field,
-    value: &Json,
-    place: &Place,
-    found: Option<Fields>,
-) -> Result<Value, SchemaFault>
+pub fn time_of(alloc: Global, row: &Field, value: &Json, place: &Place, found: Matched) -> RowResult
     requires found { MatchOption found (IsForeign families.TIMES value.now)
         (Gives_fields families.TIMES value.now) }
     ensures value { kind_of row.now.kind ≡ rows.time →

@@ -1,5 +1,6 @@
 -- What a member that is absent stands for.
-use Rattle.std.specs.Prelude.{◌-ℤ◌, ℤ, pos, int_le, Bool, true, ◌&&◌, cond, [], Option, Some, None, codes}
+use Rattle.std.specs.Prelude.{true, cond, [], Option, Some, None, codes}
+use Rattle.tick_time.specs.Times.{is_speed}
 use Rattle.otio_model.specs.declared.compositions.Listed.{Listed}
 use Rattle.otio_model.specs.declared.compositions.StackOf.{StackOf}
 use Rattle.otio_model.specs.declared.sources.Missing.{Missing}
@@ -24,10 +25,6 @@ empty_tracks = record {
 -- the media reference that null stands for
 abbrev pub empty_missing : Missing
 empty_missing = record { metadata = []; name = []; available_range = None; rest = [] }
-
--- the millionths lie from -1000 to 1000 times
-abbrev pub is_speed : ℤ → Bool
-is_speed n = int_le (pos 0 -ℤ pos 1000000000) n && int_le n (pos 1000000000)
 
 -- the default of a kind; rates and numerals have none, nor has a number whose default is no speed
 abbrev pub default_of : R.RowKind → Option Value

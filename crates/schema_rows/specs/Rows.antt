@@ -56,160 +56,103 @@ optional name kind = record { name = name; kind = kind; need = false }
 abbrev pub needed : List ℕ → RowKind → Row
 needed name kind = record { name = name; kind = kind; need = true }
 
+-- the rows of an object that has a name: those that all have, and then its own
+abbrev pub named_rows : List Row → List Row
+named_rows own = optional (codes "metadata") meta ∷ optional (codes "name") (text []) ∷ own
+
+-- the rows of an item
+abbrev pub item_rows : List Row → List Row
+item_rows own = named_rows (
+    optional (codes "source_range") span
+    ∷ optional (codes "effects") effects
+    ∷ optional (codes "markers") markers
+    ∷ optional (codes "enabled") flag
+    ∷ own)
+
+-- the rows of an effect
+abbrev pub effect_rows_with : List Row → List Row
+effect_rows_with own = named_rows (optional (codes "effect_name") (text []) ∷ own)
+
+-- the rows of a media reference
+abbrev pub media_rows : List Row → List Row
+media_rows own = named_rows (optional (codes "available_range") span ∷ own)
+
 -- Timeline.1
 abbrev pub timeline_rows : List Row
-timeline_rows =
-    optional (codes "metadata") meta
-    ∷ optional (codes "name") (text [])
-    ∷ optional (codes "global_start_time") time
-    ∷ optional (codes "tracks") stack
-    ∷ []
+timeline_rows = named_rows (
+    optional (codes "global_start_time") time ∷ optional (codes "tracks") stack ∷ [])
 
 -- SerializableCollection.1
 abbrev pub collection_rows : List Row
-collection_rows =
-    optional (codes "metadata") meta
-    ∷ optional (codes "name") (text [])
-    ∷ optional (codes "children") objects
-    ∷ []
+collection_rows = named_rows (optional (codes "children") objects ∷ [])
 
 -- Stack.1
 abbrev pub stack_rows : List Row
-stack_rows =
-    optional (codes "metadata") meta
-    ∷ optional (codes "name") (text [])
-    ∷ optional (codes "source_range") span
-    ∷ optional (codes "effects") effects
-    ∷ optional (codes "markers") markers
-    ∷ optional (codes "enabled") flag
-    ∷ optional (codes "children") items
-    ∷ []
+stack_rows = item_rows (optional (codes "children") items ∷ [])
 
 -- Track.1
 abbrev pub track_rows : List Row
-track_rows =
-    optional (codes "metadata") meta
-    ∷ optional (codes "name") (text [])
-    ∷ optional (codes "source_range") span
-    ∷ optional (codes "effects") effects
-    ∷ optional (codes "markers") markers
-    ∷ optional (codes "enabled") flag
-    ∷ optional (codes "children") items
-    ∷ optional (codes "kind") (text (codes "Video"))
-    ∷ []
+track_rows = item_rows (
+    optional (codes "children") items ∷ optional (codes "kind") (text (codes "Video")) ∷ [])
 
 -- Clip.2
 abbrev pub clip_rows : List Row
-clip_rows =
-    optional (codes "metadata") meta
-    ∷ optional (codes "name") (text [])
-    ∷ optional (codes "source_range") span
-    ∷ optional (codes "effects") effects
-    ∷ optional (codes "markers") markers
-    ∷ optional (codes "enabled") flag
-    ∷ optional (codes "media_references") media
+clip_rows = item_rows (
+    optional (codes "media_references") media
     ∷ optional (codes "active_media_reference_key") (text (codes "DEFAULT_MEDIA"))
-    ∷ []
+    ∷ [])
 
 -- Gap.1
 abbrev pub gap_rows : List Row
-gap_rows =
-    optional (codes "metadata") meta
-    ∷ optional (codes "name") (text [])
-    ∷ optional (codes "source_range") span
-    ∷ optional (codes "effects") effects
-    ∷ optional (codes "markers") markers
-    ∷ optional (codes "enabled") flag
-    ∷ []
+gap_rows = item_rows []
 
 -- Transition.1
 abbrev pub transition_rows : List Row
-transition_rows =
-    optional (codes "metadata") meta
-    ∷ optional (codes "name") (text [])
-    ∷ optional (codes "transition_type") (text (codes "SMPTE_Dissolve"))
+transition_rows = named_rows (
+    optional (codes "transition_type") (text (codes "SMPTE_Dissolve"))
     ∷ optional (codes "in_offset") time
     ∷ optional (codes "out_offset") time
-    ∷ []
+    ∷ [])
 
 -- LinearTimeWarp.1
 abbrev pub warp_rows : List Row
-warp_rows =
-    optional (codes "metadata") meta
-    ∷ optional (codes "name") (text [])
-    ∷ optional (codes "effect_name") (text [])
-    ∷ optional (codes "time_scalar") (number (pos 1000000))
-    ∷ []
+warp_rows = effect_rows_with (optional (codes "time_scalar") (number (pos 1000000)) ∷ [])
 
 -- FreezeFrame.1
 abbrev pub freeze_rows : List Row
-freeze_rows =
-    optional (codes "metadata") meta
-    ∷ optional (codes "name") (text [])
-    ∷ optional (codes "effect_name") (text [])
-    ∷ optional (codes "time_scalar") (number (pos 0))
-    ∷ []
+freeze_rows = effect_rows_with (optional (codes "time_scalar") (number (pos 0)) ∷ [])
 
 -- TimeEffect.1
 abbrev pub time_effect_rows : List Row
-time_effect_rows =
-    optional (codes "metadata") meta
-    ∷ optional (codes "name") (text [])
-    ∷ optional (codes "effect_name") (text [])
-    ∷ []
+time_effect_rows = effect_rows_with []
 
 -- Effect.1
 abbrev pub effect_rows : List Row
-effect_rows =
-    optional (codes "metadata") meta
-    ∷ optional (codes "name") (text [])
-    ∷ optional (codes "effect_name") (text [])
-    ∷ []
+effect_rows = effect_rows_with []
 
 -- Marker.2
 abbrev pub marker_rows : List Row
-marker_rows =
-    optional (codes "metadata") meta
-    ∷ optional (codes "name") (text [])
-    ∷ optional (codes "marked_range") span
-    ∷ []
+marker_rows = named_rows (optional (codes "marked_range") span ∷ [])
 
 -- ExternalReference.1
 abbrev pub external_rows : List Row
-external_rows =
-    optional (codes "metadata") meta
-    ∷ optional (codes "name") (text [])
-    ∷ optional (codes "available_range") span
-    ∷ optional (codes "target_url") (text [])
-    ∷ []
+external_rows = media_rows (optional (codes "target_url") (text []) ∷ [])
 
 -- MissingReference.1
 abbrev pub missing_rows : List Row
-missing_rows =
-    optional (codes "metadata") meta
-    ∷ optional (codes "name") (text [])
-    ∷ optional (codes "available_range") span
-    ∷ []
+missing_rows = media_rows []
 
 -- GeneratorReference.1
 abbrev pub generator_rows : List Row
-generator_rows =
-    optional (codes "metadata") meta
-    ∷ optional (codes "name") (text [])
-    ∷ optional (codes "available_range") span
-    ∷ optional (codes "generator_kind") (text [])
-    ∷ []
+generator_rows = media_rows (optional (codes "generator_kind") (text []) ∷ [])
 
 -- ImageSequenceReference.1
 abbrev pub images_rows : List Row
-images_rows =
-    optional (codes "metadata") meta
-    ∷ optional (codes "name") (text [])
-    ∷ optional (codes "available_range") span
-    ∷ optional (codes "target_url_base") (text [])
+images_rows = media_rows (
+    optional (codes "target_url_base") (text [])
     ∷ optional (codes "name_prefix") (text [])
     ∷ optional (codes "name_suffix") (text [])
-    ∷ []
+    ∷ [])
 
 -- TimeRange.1
 abbrev pub time_range_rows : List Row

@@ -20,4 +20,4 @@ pub use faults::SchemaFault;
 pub use laws::names_are_distinct;
 pub use rows::{Field, Kind};
 pub use schemas::{EFFECTS, ITEMS, MARKERS, MEDIA, RANGES, ROOTS, STACKS, Schema, TIMES, named};
-pub use values::{Fields, Value, Values};
+pub use values::{Fields, Matched, RowResult, Value, Values};

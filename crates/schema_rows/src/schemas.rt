@@ -157,11 +157,11 @@ pub fn named(family: &[Schema], name: &str) -> Option<Schema>
 pub const ROOTS: [Schema; 7] = [
     Schema::Timeline,
     Schema::Collection,
+    Schema::Stack,
+    Schema::Track,
     Schema::Clip,
     Schema::Gap,
     Schema::Transition,
-    Schema::Stack,
-    Schema::Track,
 ];
 
 /// The schemas of items.

@@ -1,471 +1,144 @@
 //! The table of each schema: its rows in the order in which they are written. `Schema::table` has
-//! what they hold.
+//! what they hold, and `specs/Rows.antt` says each table once more, in the same words.
 
 use crate::rows::{Field, Kind};
 
+/// A speed of 1, in millionths.
+const ONE: i64 = 1_000_000;
+
+/// A row whose member may be absent.
+macro_rules! optional {
+    ($name:literal, $kind:expr) => {
+        Field {
+            name: $name,
+            kind: $kind,
+            need: false,
+        }
+    };
+}
+
+/// A row whose member is needed.
+macro_rules! needed {
+    ($name:literal, $kind:expr) => {
+        Field {
+            name: $name,
+            kind: $kind,
+            need: true,
+        }
+    };
+}
+
+/// The rows of an object that has a name: those that all have, and then its own.
+macro_rules! named_rows {
+    ($($own:expr),*) => {
+        [
+            optional!("metadata", Kind::Meta),
+            optional!("name", Kind::Text("")),
+            $($own),*
+        ]
+    };
+}
+
+/// The rows of an item.
+macro_rules! item_rows {
+    ($($own:expr),*) => {
+        named_rows![
+            optional!("source_range", Kind::Span),
+            optional!("effects", Kind::Effects),
+            optional!("markers", Kind::Markers),
+            optional!("enabled", Kind::Flag)
+            $(, $own)*
+        ]
+    };
+}
+
+/// The rows of an effect.
+macro_rules! effect_rows {
+    ($($own:expr),*) => {
+        named_rows![optional!("effect_name", Kind::Text("")) $(, $own)*]
+    };
+}
+
+/// The rows of a media reference.
+macro_rules! media_rows {
+    ($($own:expr),*) => {
+        named_rows![optional!("available_range", Kind::Span) $(, $own)*]
+    };
+}
+
 /// The rows of `Timeline.1`.
-pub(crate) static TIMELINE: [Field; 4] = [
-    Field {
-        name: "metadata",
-        kind: Kind::Meta,
-        need: false,
-    },
-    Field {
-        name: "name",
-        kind: Kind::Text(""),
-        need: false,
-    },
-    Field {
-        name: "global_start_time",
-        kind: Kind::Time,
-        need: false,
-    },
-    Field {
-        name: "tracks",
-        kind: Kind::Stack,
-        need: false,
-    },
+pub(crate) static TIMELINE: [Field; 4] = named_rows![
+    optional!("global_start_time", Kind::Time),
+    optional!("tracks", Kind::Stack)
 ];
 
 /// The rows of `SerializableCollection.1`.
-pub(crate) static COLLECTION: [Field; 3] = [
-    Field {
-        name: "metadata",
-        kind: Kind::Meta,
-        need: false,
-    },
-    Field {
-        name: "name",
-        kind: Kind::Text(""),
-        need: false,
-    },
-    Field {
-        name: "children",
-        kind: Kind::Objects,
-        need: false,
-    },
-];
+pub(crate) static COLLECTION: [Field; 3] = named_rows![optional!("children", Kind::Objects)];
 
 /// The rows of `Stack.1`.
-pub(crate) static STACK: [Field; 7] = [
-    Field {
-        name: "metadata",
-        kind: Kind::Meta,
-        need: false,
-    },
-    Field {
-        name: "name",
-        kind: Kind::Text(""),
-        need: false,
-    },
-    Field {
-        name: "source_range",
-        kind: Kind::Span,
-        need: false,
-    },
-    Field {
-        name: "effects",
-        kind: Kind::Effects,
-        need: false,
-    },
-    Field {
-        name: "markers",
-        kind: Kind::Markers,
-        need: false,
-    },
-    Field {
-        name: "enabled",
-        kind: Kind::Flag,
-        need: false,
-    },
-    Field {
-        name: "children",
-        kind: Kind::Items,
-        need: false,
-    },
-];
+pub(crate) static STACK: [Field; 7] = item_rows![optional!("children", Kind::Items)];
 
 /// The rows of `Track.1`.
-pub(crate) static TRACK: [Field; 8] = [
-    Field {
-        name: "metadata",
-        kind: Kind::Meta,
-        need: false,
-    },
-    Field {
-        name: "name",
-        kind: Kind::Text(""),
-        need: false,
-    },
-    Field {
-        name: "source_range",
-        kind: Kind::Span,
-        need: false,
-    },
-    Field {
-        name: "effects",
-        kind: Kind::Effects,
-        need: false,
-    },
-    Field {
-        name: "markers",
-        kind: Kind::Markers,
-        need: false,
-    },
-    Field {
-        name: "enabled",
-        kind: Kind::Flag,
-        need: false,
-    },
-    Field {
-        name: "children",
-        kind: Kind::Items,
-        need: false,
-    },
-    Field {
-        name: "kind",
-        kind: Kind::Text("Video"),
-        need: false,
-    },
+pub(crate) static TRACK: [Field; 8] = item_rows![
+    optional!("children", Kind::Items),
+    optional!("kind", Kind::Text("Video"))
 ];
 
 /// The rows of `Clip.2`.
-pub(crate) static CLIP: [Field; 8] = [
-    Field {
-        name: "metadata",
-        kind: Kind::Meta,
-        need: false,
-    },
-    Field {
-        name: "name",
-        kind: Kind::Text(""),
-        need: false,
-    },
-    Field {
-        name: "source_range",
-        kind: Kind::Span,
-        need: false,
-    },
-    Field {
-        name: "effects",
-        kind: Kind::Effects,
-        need: false,
-    },
-    Field {
-        name: "markers",
-        kind: Kind::Markers,
-        need: false,
-    },
-    Field {
-        name: "enabled",
-        kind: Kind::Flag,
-        need: false,
-    },
-    Field {
-        name: "media_references",
-        kind: Kind::Media,
-        need: false,
-    },
-    Field {
-        name: "active_media_reference_key",
-        kind: Kind::Text("DEFAULT_MEDIA"),
-        need: false,
-    },
+pub(crate) static CLIP: [Field; 8] = item_rows![
+    optional!("media_references", Kind::Media),
+    optional!("active_media_reference_key", Kind::Text("DEFAULT_MEDIA"))
 ];
 
 /// The rows of `Gap.1`.
-pub(crate) static GAP: [Field; 6] = [
-    Field {
-        name: "metadata",
-        kind: Kind::Meta,
-        need: false,
-    },
-    Field {
-        name: "name",
-        kind: Kind::Text(""),
-        need: false,
-    },
-    Field {
-        name: "source_range",
-        kind: Kind::Span,
-        need: false,
-    },
-    Field {
-        name: "effects",
-        kind: Kind::Effects,
-        need: false,
-    },
-    Field {
-        name: "markers",
-        kind: Kind::Markers,
-        need: false,
-    },
-    Field {
-        name: "enabled",
-        kind: Kind::Flag,
-        need: false,
-    },
-];
+pub(crate) static GAP: [Field; 6] = item_rows![];
 
 /// The rows of `Transition.1`.
-pub(crate) static TRANSITION: [Field; 5] = [
-    Field {
-        name: "metadata",
-        kind: Kind::Meta,
-        need: false,
-    },
-    Field {
-        name: "name",
-        kind: Kind::Text(""),
-        need: false,
-    },
-    Field {
-        name: "transition_type",
-        kind: Kind::Text("SMPTE_Dissolve"),
-        need: false,
-    },
-    Field {
-        name: "in_offset",
-        kind: Kind::Time,
-        need: false,
-    },
-    Field {
-        name: "out_offset",
-        kind: Kind::Time,
-        need: false,
-    },
+pub(crate) static TRANSITION: [Field; 5] = named_rows![
+    optional!("transition_type", Kind::Text("SMPTE_Dissolve")),
+    optional!("in_offset", Kind::Time),
+    optional!("out_offset", Kind::Time)
 ];
 
 /// The rows of `LinearTimeWarp.1`.
-pub(crate) static WARP: [Field; 4] = [
-    Field {
-        name: "metadata",
-        kind: Kind::Meta,
-        need: false,
-    },
-    Field {
-        name: "name",
-        kind: Kind::Text(""),
-        need: false,
-    },
-    Field {
-        name: "effect_name",
-        kind: Kind::Text(""),
-        need: false,
-    },
-    Field {
-        name: "time_scalar",
-        kind: Kind::Number(1_000_000),
-        need: false,
-    },
-];
+pub(crate) static WARP: [Field; 4] = effect_rows![optional!("time_scalar", Kind::Number(ONE))];
 
 /// The rows of `FreezeFrame.1`.
-pub(crate) static FREEZE: [Field; 4] = [
-    Field {
-        name: "metadata",
-        kind: Kind::Meta,
-        need: false,
-    },
-    Field {
-        name: "name",
-        kind: Kind::Text(""),
-        need: false,
-    },
-    Field {
-        name: "effect_name",
-        kind: Kind::Text(""),
-        need: false,
-    },
-    Field {
-        name: "time_scalar",
-        kind: Kind::Number(0),
-        need: false,
-    },
-];
+pub(crate) static FREEZE: [Field; 4] = effect_rows![optional!("time_scalar", Kind::Number(0))];
 
 /// The rows of `TimeEffect.1`.
-pub(crate) static TIME_EFFECT: [Field; 3] = [
-    Field {
-        name: "metadata",
-        kind: Kind::Meta,
-        need: false,
-    },
-    Field {
-        name: "name",
-        kind: Kind::Text(""),
-        need: false,
-    },
-    Field {
-        name: "effect_name",
-        kind: Kind::Text(""),
-        need: false,
-    },
-];
+pub(crate) static TIME_EFFECT: [Field; 3] = effect_rows![];
 
 /// The rows of `Effect.1`.
-pub(crate) static EFFECT: [Field; 3] = [
-    Field {
-        name: "metadata",
-        kind: Kind::Meta,
-        need: false,
-    },
-    Field {
-        name: "name",
-        kind: Kind::Text(""),
-        need: false,
-    },
-    Field {
-        name: "effect_name",
-        kind: Kind::Text(""),
-        need: false,
-    },
-];
+pub(crate) static EFFECT: [Field; 3] = effect_rows![];
 
 /// The rows of `Marker.2`.
-pub(crate) static MARKER: [Field; 3] = [
-    Field {
-        name: "metadata",
-        kind: Kind::Meta,
-        need: false,
-    },
-    Field {
-        name: "name",
-        kind: Kind::Text(""),
-        need: false,
-    },
-    Field {
-        name: "marked_range",
-        kind: Kind::Span,
-        need: false,
-    },
-];
+pub(crate) static MARKER: [Field; 3] = named_rows![optional!("marked_range", Kind::Span)];
 
 /// The rows of `ExternalReference.1`.
-pub(crate) static EXTERNAL: [Field; 4] = [
-    Field {
-        name: "metadata",
-        kind: Kind::Meta,
-        need: false,
-    },
-    Field {
-        name: "name",
-        kind: Kind::Text(""),
-        need: false,
-    },
-    Field {
-        name: "available_range",
-        kind: Kind::Span,
-        need: false,
-    },
-    Field {
-        name: "target_url",
-        kind: Kind::Text(""),
-        need: false,
-    },
-];
+pub(crate) static EXTERNAL: [Field; 4] = media_rows![optional!("target_url", Kind::Text(""))];
 
 /// The rows of `MissingReference.1`.
-pub(crate) static MISSING: [Field; 3] = [
-    Field {
-        name: "metadata",
-        kind: Kind::Meta,
-        need: false,
-    },
-    Field {
-        name: "name",
-        kind: Kind::Text(""),
-        need: false,
-    },
-    Field {
-        name: "available_range",
-        kind: Kind::Span,
-        need: false,
-    },
-];
+pub(crate) static MISSING: [Field; 3] = media_rows![];
 
 /// The rows of `GeneratorReference.1`.
-pub(crate) static GENERATOR: [Field; 4] = [
-    Field {
-        name: "metadata",
-        kind: Kind::Meta,
-        need: false,
-    },
-    Field {
-        name: "name",
-        kind: Kind::Text(""),
-        need: false,
-    },
-    Field {
-        name: "available_range",
-        kind: Kind::Span,
-        need: false,
-    },
-    Field {
-        name: "generator_kind",
-        kind: Kind::Text(""),
-        need: false,
-    },
-];
+pub(crate) static GENERATOR: [Field; 4] = media_rows![optional!("generator_kind", Kind::Text(""))];
 
 /// The rows of `ImageSequenceReference.1`.
-pub(crate) static IMAGES: [Field; 6] = [
-    Field {
-        name: "metadata",
-        kind: Kind::Meta,
-        need: false,
-    },
-    Field {
-        name: "name",
-        kind: Kind::Text(""),
-        need: false,
-    },
-    Field {
-        name: "available_range",
-        kind: Kind::Span,
-        need: false,
-    },
-    Field {
-        name: "target_url_base",
-        kind: Kind::Text(""),
-        need: false,
-    },
-    Field {
-        name: "name_prefix",
-        kind: Kind::Text(""),
-        need: false,
-    },
-    Field {
-        name: "name_suffix",
-        kind: Kind::Text(""),
-        need: false,
-    },
+pub(crate) static IMAGES: [Field; 6] = media_rows![
+    optional!("target_url_base", Kind::Text("")),
+    optional!("name_prefix", Kind::Text("")),
+    optional!("name_suffix", Kind::Text(""))
 ];
 
 /// The rows of `TimeRange.1`.
 pub(crate) static TIME_RANGE: [Field; 2] = [
-    Field {
-        name: "duration",
-        kind: Kind::Time,
-        need: true,
-    },
-    Field {
-        name: "start_time",
-        kind: Kind::Time,
-        need: true,
-    },
+    needed!("duration", Kind::Time),
+    needed!("start_time", Kind::Time),
 ];
 
 /// The rows of `RationalTime.1`.
 pub(crate) static RATIONAL_TIME: [Field; 2] = [
-    Field {
-        name: "rate",
-        kind: Kind::Rate,
-        need: true,
-    },
-    Field {
-        name: "value",
-        kind: Kind::Numeral,
-        need: true,
-    },
+    needed!("rate", Kind::Rate),
+    needed!("value", Kind::Numeral),
 ];

@@ -1,5 +1,6 @@
 //! Values of rows.
 
+use crate::faults::SchemaFault;
 use crate::schemas::Schema;
 use json_value::Members;
 use otio_model::{Effects, Items, Markers, MediaMap, Objects, Stack};
@@ -42,6 +43,9 @@ pub enum Value {
 /// The values of a table's rows, in order.
 pub type Values = Sequence<Value>;
 
+/// What a row holds, or why it holds nothing.
+pub type RowResult = Result<Value, SchemaFault>;
+
 /// What an object holds: the values of its schema's rows, and all its other members.
 #[derive(Debug, Drop)]
 pub struct Fields {
@@ -52,3 +56,6 @@ pub struct Fields {
     /// All other members, in the order in which they were read.
     pub rest: Members,
 }
+
+/// The fields of the object that a value is; none where it is of no schema that may stand there.
+pub type Matched = Option<Fields>;

@@ -1,10 +1,10 @@
 -- Objects counted one by one, and what an item counts.
-use Rattle.std.proofs.Common.{◌≡◌, ◌<◌, ◌≤◌, ◌+◌, ℕ, zero, suc, List, [], ◌∷◌, length, get_or, take, add-one, Some, None, slice_get, refl, sym, ap, ◌∙◌, arith}
+use Rattle.std.proofs.Common.{◌≡◌, ◌<◌, ◌≤◌, ◌+◌, ℕ, zero, suc, List, [], ◌∷◌, length, get_or, take, add-one, Some, None, refl, ap, arith}
 use Rattle.otio_model.specs.declared.compositions.Listed.{Listed}
 use Rattle.otio_model.specs.declared.compositions.ItemOf.{ItemOf}
 use Rattle.otio_model.specs.declared.compositions.ItemOf.TheVariants as I
 use Rattle.otio_model.specs.declared.timelines.Timeline.{Timeline as TimelineRow}
-use Rattle.otio_model.specs.declared.roots.Object.{Object, Timeline, Collection, Item}
+use Rattle.otio_model.specs.declared.roots.Object.{Object, Timeline, Item}
 use Rattle.otio_model.specs.declared.roots.Object.TheOpen.{Object-F}
 use Rattle.otio_model.specs.declared.roots.Object.TheFolds.{fold-roll-Object}
 use Rattle.otio_model.specs.Counts.{count, count_of as count_of_item}

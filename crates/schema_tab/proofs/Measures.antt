@@ -3,7 +3,7 @@ use Rattle.std.proofs.Common.{◌≡◌, ◌<◌, ◌≤◌, ℕ, zero, suc, Lis
 use Rattle.std.specs.Str.{bytes_eq}
 use Rattle.std.proofs.lemmas.List.Elements.{Contains-get_or}
 use Rattle.sequences.specs.Pairs.{value_of}
-use Rattle.json_value.specs.declared.Json.{Json, Null, Bool as JsonOfBool, Num, Str, List as JsonOfList, Map as JsonOfMap}
+use Rattle.json_value.specs.declared.Json.{Json, List as JsonOfList, Map as JsonOfMap}
 use Rattle.json_value.specs.declared.Json.TheOpen.{Json-F}
 use Rattle.json_value.specs.declared.Json.TheFolds.{fold-roll-Json}
 use Rattle.schema_rows.specs.Numerals.{HasNumerals, item, member}

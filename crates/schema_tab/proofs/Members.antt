@@ -13,7 +13,7 @@ use Rattle.schema_rows.specs.Defaults.{absent_value}
 use Rattle.schema_rows.specs.Families.{IsAbsent, IsGiven, child, member, medium}
 use Rattle.schema_rows.specs.Stands.{Gives, Gives_row, present, absent}
 use Rattle.schema_tab.specs.Kinds.{IsListed}
-use Rattle.schema_rows.specs.Faults.{IsWrong, Refuses, wrong, in_items, in_objects, in_effects, in_markers, in_media, in_stack, Refuses_row, missing, refused, Refuses_any, Refuses_reading}
+use Rattle.schema_rows.specs.Faults.{IsWrong, Refuses, in_items, in_objects, in_effects, in_markers, in_media, in_stack, Refuses_row, missing, refused, Refuses_any, Refuses_reading}
 
 pub row_given : (r : Result Value SchemaFault) (row : Row) (members : List (List ℕ × Json)) (json : Json) → IsGiven row.name members json
     → IfOk r (λ v. Gives row.kind json v) → IfOk r (λ v. Gives_row row members v)
@@ -68,11 +68,6 @@ pub stack_refused : (r : Result Value SchemaFault) (place : List ℕ) (row : Row
     → IfErr r (λ f. f ≢ F.Memory → Refuses_reading (child C.STACKS) place json f) → IfErr r (λ f. f ≢ F.Memory → Refuses place row json f)
 stack_refused (Ok v) place row json k h = tt
 stack_refused (Err f) place row json k h = λ n. in_stack place row json f k (h n)
-
--- a member of the wrong kind, where the row's kind is known
-pub wrong_field : (place : List ℕ) (row : Row) (json : Json) (kind : RowKind) (fault : SchemaFault) → row.kind ≡ kind → IsWrong kind json
-    → (fault ≢ F.Memory → fault ≡ F.Field place row.name) → fault ≢ F.Memory → Refuses place row json fault
-wrong_field place row json kind fault k w e n = wrong place row json fault (subst (λ (x : RowKind). IsWrong x json) (sym k) w) (e n)
 
 -- no list, in a row of lists
 pub no_list : (kind : Kind) (json : Json) → IsListed kind → ((list : List Json) → json ≡ J.List list → ⊥)

@@ -15,7 +15,7 @@ ghost use Rattle.schema_tab.specs.Kinds.{IsListed};
 
 use crate::tables::finished;
 use json_value::{Json, JsonList, Members};
-use otio_model::Place;
+use otio_model::{Effects, Place};
 use schema_parts::absent::absent;
 use schema_parts::asked::{effect_of, item_of, marker_of, medium_of, root_of, tracks_of};
 use schema_parts::faults::{child_place, field_fault, newer_fault};
@@ -24,7 +24,7 @@ use schema_parts::leaves::{
     flag_of, meta_of, number_of, numeral_of, rate_of, span_of, text_of, time_of,
 };
 use schema_rows::{
-    EFFECTS, Field, Fields, ITEMS, Kind, MARKERS, MEDIA, RANGES, ROOTS, STACKS, Schema,
+    EFFECTS, Field, ITEMS, Kind, MARKERS, MEDIA, Matched, RANGES, ROOTS, RowResult, STACKS, Schema,
     SchemaFault, TIMES, Value, named,
 };
 use sequences::{NamedValues, Sequence, Text};
@@ -74,12 +74,7 @@ fn read_rows(
 }
 
 #[cycle(object)]
-fn read_row(
-    alloc: Global,
-    row: &Field,
-    members: &Members,
-    place: &Place,
-) -> Result<Value, SchemaFault>
+fn read_row(alloc: Global, row: &Field, members: &Members, place: &Place) -> RowResult
     requires numerals { HasNumerals (json.Map members.now) }
     ensures value { IfOk result (Gives_row (row_of row.now) members.now) }
     ensures fault { IfErr result (λ fault. fault ≢ SchemaFault.Memory →
@@ -92,12 +87,7 @@ fn read_row(
 }
 
 #[cycle(object)]
-fn read_member(
-    alloc: Global,
-    row: &Field,
-    value: &Json,
-    place: &Place,
-) -> Result<Value, SchemaFault>
+fn read_member(alloc: Global, row: &Field, value: &Json, place: &Place) -> RowResult
     requires numerals { HasNumerals value.now }
     ensures value { IfOk result (Gives (kind_of row.now.kind) value.now) }
     ensures fault { IfErr result (λ fault. fault ≢ SchemaFault.Memory →
@@ -135,7 +125,7 @@ fn read_member(
 
 /// The list of a row of lists.
 #[cycle(object)]
-fn read_list(alloc: Global, row: &Field, value: &Json, place: &Place) -> Result<Value, SchemaFault>
+fn read_list(alloc: Global, row: &Field, value: &Json, place: &Place) -> RowResult
     requires listed { IsListed row.now.kind }
     requires numerals { HasNumerals value.now }
     ensures value { IfOk result (Gives (kind_of row.now.kind) value.now) }
@@ -155,7 +145,7 @@ fn read_list(alloc: Global, row: &Field, value: &Json, place: &Place) -> Result<
 }
 
 #[cycle(object)]
-fn read_items(alloc: Global, list: &JsonList, place: &Place) -> Result<Value, SchemaFault>
+fn read_items(alloc: Global, list: &JsonList, place: &Place) -> RowResult
     requires numerals { HasNumerals (json.List list.now) }
     ensures value { IfOk result (Gives rows_are.items (json.List list.now)) }
     ensures fault { IfErr result (λ fault. fault ≢ SchemaFault.Memory →
@@ -173,7 +163,7 @@ fn read_items(alloc: Global, list: &JsonList, place: &Place) -> Result<Value, Sc
 }
 
 #[cycle(object)]
-fn read_objects(alloc: Global, list: &JsonList, place: &Place) -> Result<Value, SchemaFault>
+fn read_objects(alloc: Global, list: &JsonList, place: &Place) -> RowResult
     requires numerals { HasNumerals (json.List list.now) }
     ensures value { IfOk result (Gives rows_are.objects (json.List list.now)) }
     ensures fault { IfErr result (λ fault. fault ≢ SchemaFault.Memory →
@@ -191,7 +181,7 @@ fn read_objects(alloc: Global, list: &JsonList, place: &Place) -> Result<Value, 
 }
 
 #[cycle(object)]
-fn read_effects(alloc: Global, list: &JsonList, place: &Place) -> Result<Value, SchemaFault>
+fn read_effects(alloc: Global, list: &JsonList, place: &Place) -> RowResult
     requires numerals { HasNumerals (json.List list.now) }
     ensures value { IfOk result (Gives rows_are.effects (json.List list.now)) }
     ensures fault { IfErr result (λ fault. fault ≢ SchemaFault.Memory →
@@ -204,11 +194,11 @@ fn read_effects(alloc: Global, list: &JsonList, place: &Place) -> Result<Value, 
         let effect = effect_of(alloc, value, found)?;
         effects.push(effect)?;
     }
-    Ok(Value::Effects(Sequence::of(effects)))
+    Ok(Value::Effects(Effects::of(Sequence::of(effects))))
 }
 
 #[cycle(object)]
-fn read_markers(alloc: Global, list: &JsonList, place: &Place) -> Result<Value, SchemaFault>
+fn read_markers(alloc: Global, list: &JsonList, place: &Place) -> RowResult
     requires numerals { HasNumerals (json.List list.now) }
     ensures value { IfOk result (Gives rows_are.markers (json.List list.now)) }
     ensures fault { IfErr result (λ fault. fault ≢ SchemaFault.Memory →
@@ -225,7 +215,7 @@ fn read_markers(alloc: Global, list: &JsonList, place: &Place) -> Result<Value, 
 }
 
 #[cycle(object)]
-fn read_media(alloc: Global, members: &Members, place: &Place) -> Result<Value, SchemaFault>
+fn read_media(alloc: Global, members: &Members, place: &Place) -> RowResult
     requires numerals { HasNumerals (json.Map members.now) }
     ensures value { IfOk result (Gives rows_are.media (json.Map members.now)) }
     ensures fault { IfErr result (λ fault. fault ≢ SchemaFault.Memory →
@@ -249,7 +239,7 @@ pub(crate) fn read_object(
     family: &[Schema],
     value: &Json,
     place: &Place,
-) -> Result<Option<Fields>, SchemaFault>
+) -> Result<Matched, SchemaFault>
     requires numerals { HasNumerals value.now }
     ensures fields { IfOk result (λ found.
         MatchOption found (IsForeign family.now value.now) (Gives_fields family.now value.now)) }

@@ -11,7 +11,7 @@ use otio_model::Place;
 use schema_parts::faults::transitions_fault;
 use schema_parts::finding::others;
 use schema_parts::rules::{breaks, still};
-use schema_rows::{Fields, Schema, SchemaFault, Value};
+use schema_rows::{Fields, Matched, Schema, SchemaFault, Value};
 use sequences::Sequence;
 use std::alloc::Global;
 
@@ -23,7 +23,7 @@ pub(crate) fn finished(
     values: Vec<Value>,
     members: &Members,
     place: &Place,
-) -> Result<Option<Fields>, SchemaFault>
+) -> Result<Matched, SchemaFault>
     ensures fields { IfOk result (λ found. (fields : Fields) × (found ≡ Some fields)
         × (list_any (families.breaks schema) values.items ≡ false)
         × (fields.schema ≡ schema) × (fields.values ≡ map (families.stilled schema) values.items)

@@ -60,9 +60,9 @@ fn place_of(members: &Members, name: &str) -> usize
     ensures distinct { AreDistinct (names_of members.now) }
 {
     let pairs = members.as_slice();
-    for (index, pair) in pairs.iter().enumerate() {
-        if name == pair.0.as_str() {
-            return index;
+    for (place, member) in pairs.iter().enumerate() {
+        if name == member.0.as_str() {
+            return place;
         }
     }
     pairs.len()

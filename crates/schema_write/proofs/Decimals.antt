@@ -1,5 +1,5 @@
 -- A number of millionths has one decimal without final zeros.
-use Rattle.std.proofs.Common.{◌≡◌, ◌≢◌, ℕ, zero, suc, ◌+◌, ◌-◌, ◌*◌, ◌^◌, ◌<◌, ◌≤◌, Bool, true, false, cond, ℤ, pos, negsuc, ◌*ℤ◌, unsigned_abs, List, [], ◌∷◌, ◌++◌, length, refl, sym, ap, ap₂, ◌∙◌, arith, add-one, slice_index, decimal}
+use Rattle.std.proofs.Common.{◌≡◌, ◌≢◌, ℕ, suc, ◌+◌, ◌-◌, ◌*◌, ◌^◌, ◌<◌, ◌≤◌, Bool, false, cond, ℤ, pos, ◌*ℤ◌, unsigned_abs, List, [], ◌∷◌, ◌++◌, length, refl, sym, ap, ap₂, ◌∙◌, arith, add-one, slice_index, decimal}
 use Rattle.std.proofs.Math.Nat.{mul-le-mul_right, le_of_mul-le-mul_right}
 use Rattle.std.proofs.lemmas.Bool.Decides.{nat_tests}
 use Rattle.std.proofs.lemmas.Fmt.{decimal-digits_value}
@@ -11,8 +11,9 @@ use Rattle.std.specs.Str.Parse.{AllDigits, digits_value}
 use Rattle.tick_time.specs.Numerals.{IsInt, IsExp, absent, plain, raised, lowered, minus, frac, signed}
 use Rattle.tick_time.specs.Texts.{IsDecimalText, is_minus}
 use Rattle.tick_time.proofs.Fractions.{signed-mul}
-use Rattle.tick_time.proofs.Places.{value-append, value_after}
-use Rattle.tick_time.proofs.Written.{written}
+use Rattle.tick_time.proofs.Halves.{abs-signed}
+use Rattle.tick_time.proofs.Places.{last_cons, value-append, value_after}
+use Rattle.tick_time.proofs.MillionthsText.{signed_back, written}
 use Rattle.schema_write.specs.Texts.{decimal_text}
 
 -- the whole parts of two equal fractions aren't one below the other
@@ -48,12 +49,6 @@ digit_of d e p q h = grind (arith, nat_tests)
 -- the last digit isn't 0, where there is one
 abbrev Ends : List ℕ → Type 0
 Ends ds = 0 < length ds → slice_index ds (length ds - 1) ≢ 48
-
-last_cons : (c : ℕ) (ds : List ℕ) → 0 < length ds → slice_index (c ∷ ds) (length (c ∷ ds) - 1) ≡ slice_index ds (length ds - 1)
-last_cons c [] some = absurd (omega arith)
-last_cons c (x ∷ xs) some =
-    let e : suc (suc (length xs)) - 1 ≡ suc (length xs) = omega arith in
-    let f : suc (length xs) - 1 ≡ length xs = omega arith in rw (e, f) refl
 
 ends_behind : (c : ℕ) (ds : List ℕ) → Ends (c ∷ ds) → Ends ds
 ends_behind c ds h some e = h (omega arith) (last_cons c ds some ∙ e)
@@ -145,15 +140,6 @@ same_parts m whole ds other es p q small =
     let same = heads (digits_value 10 whole) (digits_value 10 other) x y (digits_value 10 ds) (digits_value 10 es) (digits_value-lt 10 ds p.plain.all) (digits_value-lt 10 es q.plain.all) h in
     let rest = tails (digits_value 10 whole) (digits_value 10 other) x y (digits_value 10 ds) (digits_value 10 es) same h in
     (sym (whole_is m whole ds p small) ∙ ap decimal same ∙ whole_is m other es q small, same_plain ds es p.plain q.plain rest)
-
-abs-signed : (neg : Bool) (n : ℕ) → unsigned_abs (signed neg n) ≡ n
-abs-signed false n = refl
-abs-signed true zero = refl
-abs-signed true (suc n) = refl
-
-signed_back : (n : ℤ) → signed (is_minus n) (unsigned_abs n) ≡ n
-signed_back (pos n) = refl
-signed_back (negsuc n) = refl
 
 pub abs-mul : (n : ℤ) (k : ℕ) → unsigned_abs (n *ℤ pos k) ≡ unsigned_abs n * k
 abs-mul n k =

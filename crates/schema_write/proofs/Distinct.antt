@@ -1,71 +1,15 @@
 -- The names of an object's members in the written order are distinct.
-use Rattle.std.proofs.Common.{◌≡◌, ◌≢◌, ℕ, Bool, true, false, not, ◌||◌, ◌&&◌, List, [], ◌∷◌, ◌++◌, length, map, refl, sym, ap, arith}
+use Rattle.std.proofs.Common.{◌≡◌, ◌≢◌, ℕ, Bool, true, false, ◌||◌, List, [], ◌∷◌, ◌++◌, length, refl, sym, ap, arith}
 use Rattle.std.specs.Str.{bytes_eq}
 use Rattle.json_value.specs.declared.Json.{Json}
 use Rattle.sequences.specs.Pairs.{names_of, IsNew, AreDistinct}
 use Rattle.sequences.proofs.PairLemmas.{apart}
 use Rattle.schema_rows.specs.Rows.{Row}
 use Rattle.schema_rows.specs.declared.schemas.Schema.{Schema}
-use Rattle.schema_rows.specs.declared.schemas.Schema.TheVariants as S
 use Rattle.schema_rows.specs.Schemas.{schema_key, rows_of}
 use Rattle.schema_rows.specs.Families.{is_row, others}
+use Rattle.schema_rows.proofs.Distinct.{row_names, table_distinct}
 use Rattle.schema_write.specs.Written.{named_values}
-
--- tests of names
-abbrev is_new : List ℕ → List (List ℕ) → Bool
-is_new n [] = true
-is_new n (m ∷ ms) = not (bytes_eq n m) && is_new n ms
-
-abbrev are_distinct : List (List ℕ) → Bool
-are_distinct [] = true
-are_distinct (n ∷ ns) = is_new n ns && are_distinct ns
-
-new_of : (n : List ℕ) (ms : List (List ℕ)) → is_new n ms ≡ true → IsNew n ms
-new_of n [] h = tt
-new_of n (m ∷ ms) h = by (bytes_eq n m) (is_new n ms) refl refl h (new_of n ms)
-  where
-    by : (s t : Bool) → bytes_eq n m ≡ s → is_new n ms ≡ t → (not (bytes_eq n m) && is_new n ms) ≡ true → (is_new n ms ≡ true → IsNew n ms) → IsNew n (m ∷ ms)
-    by true t e f h below = absurd (cc (rw e at h))
-    by false true e f h below = (apart n m e, below f)
-    by false false e f h below = absurd (cc (rw (e, f) at h))
-
-distinct_of : (ns : List (List ℕ)) → are_distinct ns ≡ true → AreDistinct ns
-distinct_of [] h = tt
-distinct_of (n ∷ ns) h = by (is_new n ns) (are_distinct ns) refl refl h (distinct_of ns)
-  where
-    by : (s t : Bool) → is_new n ns ≡ s → are_distinct ns ≡ t → (is_new n ns && are_distinct ns) ≡ true → (are_distinct ns ≡ true → AreDistinct ns) → AreDistinct (n ∷ ns)
-    by true true e f h below = (new_of n ns e, below f)
-    by true false e f h below = absurd (cc (rw (e, f) at h))
-    by false t e f h below = absurd (cc (rw e at h))
-
--- the names of a table's rows
-abbrev pub row_names : List Row → List (List ℕ)
-row_names rows = map (λ row. row.name) rows
-
--- the names that each table fixes
-head_test : (schema : Schema) → are_distinct (schema_key ∷ row_names (rows_of schema)) ≡ true
-head_test S.Timeline = refl
-head_test S.Collection = refl
-head_test S.Stack = refl
-head_test S.Track = refl
-head_test S.Clip = refl
-head_test S.Gap = refl
-head_test S.Transition = refl
-head_test S.Warp = refl
-head_test S.Freeze = refl
-head_test S.TimeEffect = refl
-head_test S.Effect = refl
-head_test S.Marker = refl
-head_test S.External = refl
-head_test S.Missing = refl
-head_test S.Generator = refl
-head_test S.Images = refl
-head_test S.TimeRange = refl
-head_test S.RationalTime = refl
-
--- the name of the schema's member and those of a table's rows are distinct
-pub head_distinct : (schema : Schema) → AreDistinct (schema_key ∷ row_names (rows_of schema))
-head_distinct schema = distinct_of (schema_key ∷ row_names (rows_of schema)) (head_test schema)
 
 -- the test by which a member is none of the others
 abbrev pub fixed : List Row → List ℕ → Bool
@@ -151,6 +95,6 @@ names_joined (row ∷ rows) (v ∷ values) pairs h = ap (λ names. row.name ∷ 
 pub written_distinct : (schema : Schema) (rows : List Row) (values : List Json) (rest : List (List ℕ × Json)) (text : Json) → rows ≡ rows_of schema → length values ≡ length rows
     → AreDistinct (names_of rest) → AreDistinct (names_of ((schema_key, text) ∷ (named_values rows values ++ others rows rest)))
 written_distinct schema rows values rest text e long d =
-    let heads : AreDistinct (schema_key ∷ row_names rows) = rw e (distinct_of (schema_key ∷ row_names (rows_of schema)) (head_test schema)) in
+    let heads : AreDistinct (schema_key ∷ row_names rows) = rw e (table_distinct schema) in
     let all = joined rows (schema_key ∷ row_names rows) rest heads (excludes_head rows) d in
     rw (names_joined rows values (others rows rest) long) all

@@ -1,9 +1,9 @@
-pub mod Added
+pub mod AddedMembers
 pub mod Decimals
 pub mod Distinct
 pub mod Numbers
 pub mod Trees
 pub mod Values
-pub mod Tabled
-pub mod Shortened
-pub mod Reread
+pub mod TableForms
+pub mod ShortDecimals
+pub mod RereadTexts

@@ -1,5 +1,5 @@
 -- The texts of rates, values and speeds.
-use Rattle.std.proofs.Common.{◌≡◌, ◌≢◌, ℕ, zero, suc, ◌*◌, ◌/◌, ◌≤◌, Bool, true, false, ℤ, pos, negsuc, ◌*ℤ◌, ◌-ℤ◌, ◌≤ℤ◌, unsigned_abs, List, refl, sym, ap, ◌∙◌, arith}
+use Rattle.std.proofs.Common.{◌≡◌, ◌≢◌, ℕ, zero, suc, ◌*◌, ◌/◌, ◌≤◌, Bool, true, false, ℤ, pos, negsuc, ◌*ℤ◌, ◌≤ℤ◌, unsigned_abs, List, refl, sym, ap, ◌∙◌, arith}
 use Rattle.std.specs.Prelude.{◌==◌}
 use Rattle.std.proofs.Math.Nat.{mul-le-mul_right, mul-div_cancel}
 use Rattle.std.proofs.lemmas.Bool.Decides.{nat_tests}
@@ -7,11 +7,13 @@ use Rattle.std.proofs.lemmas.Int.{ints}
 use Rattle.tick_time.specs.declared.rates.Rate.{Rate}
 use Rattle.tick_time.specs.declared.times.Time.{Time}
 use Rattle.tick_time.specs.Numerals.{signed}
-use Rattle.tick_time.specs.Rates.{unit}
+use Rattle.tick_time.specs.Rates.{per_millionth, unit}
 use Rattle.tick_time.specs.Texts.{IsDecimalText, IsValueText, is_minus, relative_text, rate_millionths}
 use Rattle.tick_time.specs.Times.{IsSpeed}
 use Rattle.tick_time.proofs.Fractions.{signed-mul}
+use Rattle.tick_time.proofs.Readings.{ticks_small}
 use Rattle.tick_time.proofs.Units.{unit_positive}
+use Rattle.tick_time.proofs.MillionthsText.{signed_back}
 use Rattle.schema_write.specs.Texts.{decimal_text, rate_text, units_of, value_text}
 use Rattle.schema_write.proofs.Decimals.{decimal_is, abs-mul}
 
@@ -24,7 +26,7 @@ pub speed_is : (text : List ℕ) (n : ℤ) → IsDecimalText text n → IsSpeed 
 speed_is text n t h = decimal_is text n (omega (arith, speed_small n h)) t
 
 -- the size of a rate's fields
-num_small : (n : ℤ) → n ≤ℤ pos 705600000000 → pos 1 ≤ℤ n → unsigned_abs n ≤ 705600000000
+num_small : (n : ℤ) → n ≤ℤ pos per_millionth → pos 1 ≤ℤ n → unsigned_abs n ≤ per_millionth
 num_small (pos n) h k = omega (arith, ints, h)
 num_small (negsuc n) h k = absurd (omega (arith, ints, k))
 
@@ -37,7 +39,7 @@ rate_small rate =
     let one : pos 1 ≤ℤ rate.num = omega (arith, ints, rate.positive, rate.at_least_one) in
     let num = num_small rate.num rate.small_num one in
     let per : 1000000 / unsigned_abs rate.den ≤ 1000000 = omega arith in
-    let most = mul-le-mul_right {m = unsigned_abs rate.num} {n = 705600000000} (1000000 / unsigned_abs rate.den) num in
+    let most = mul-le-mul_right {m = unsigned_abs rate.num} {n = per_millionth} (1000000 / unsigned_abs rate.den) num in
     omega (arith, most, per)
 
 pub rate_is : (text : List ℕ) (rate : Rate) → (rate.den ≡ pos 1001 → text ≡ relative_text (unsigned_abs rate.num))
@@ -59,19 +61,11 @@ minus_in : (u : ℤ) (k : ℕ) → 1 ≤ k → is_minus (u *ℤ pos k) ≡ is_mi
 minus_in (pos n) k some = ap is_minus (signed-mul false n k)
 minus_in (negsuc n) k some = ap is_minus (signed-mul true (suc n) k) ∙ minus_neg (suc n * k) (omega (arith, mul-le-mul_right {m = 1} {n = suc n} k (omega arith)))
 
-signed_back : (n : ℤ) → signed (is_minus n) (unsigned_abs n) ≡ n
-signed_back (pos n) = refl
-signed_back (negsuc n) = refl
-
 pub units_are : (ticks u : ℤ) (k : ℕ) → 1 ≤ k → ticks ≡ u *ℤ pos k → units_of ticks k ≡ u
 units_are ticks u k some e =
     let size : unsigned_abs ticks / k ≡ unsigned_abs u = ap (λ z. unsigned_abs z / k) e ∙ ap (λ n. n / k) (abs-mul u k) ∙ mul-div_cancel (unsigned_abs u) some in
     let sign : is_minus ticks ≡ is_minus u = ap is_minus e ∙ minus_in u k some in
     ap (λ s. signed s (unsigned_abs ticks / k)) sign ∙ ap (signed (is_minus u)) size ∙ signed_back u
-
-pub ticks_small : (n : ℤ) → n ≤ℤ pos 705600000000000000000000 → (pos 0 -ℤ pos 705600000000000000000000) ≤ℤ n → unsigned_abs n ≤ 705600000000000000000000
-ticks_small (pos n) h k = omega (arith, ints, h)
-ticks_small (negsuc n) h k = omega (arith, ints, k)
 
 pub units_small : (ticks u : ℤ) (k : ℕ) → 1 ≤ k → ticks ≡ u *ℤ pos k → unsigned_abs u ≤ unsigned_abs ticks
 units_small ticks u k some e =

@@ -11,7 +11,7 @@ ghost use Rattle.schema_rows.specs.Families.{is_row, others};
 ghost use Rattle.schema_write.specs.Written as order;
 ghost use Rattle.schema_write.specs.Written.{name_of};
 
-use json_value::{Json, Members, copy_json};
+use json_value::{Json, Members, copy_json, copy_members};
 use schema_rows::{Field, Schema};
 use sequences::{NamedValues, Text};
 use std::alloc::{AllocError, Global};
@@ -28,20 +28,7 @@ pub fn string(alloc: Global, text: &Text) -> Result<Json, AllocError>
 pub fn object(alloc: Global, members: &Members) -> Result<Json, AllocError>
     ensures { IfOk result (λ json. json ≡ Map members.now) }
 {
-    Ok(Json::Map(NamedValues::of(copy_pairs(alloc, members)?)))
-}
-
-fn copy_pairs(alloc: Global, members: &Members) -> Result<Vec<(Text, Json)>, AllocError>
-    ensures copied { IfOk result (λ copies. copies.items ≡ members.now) }
-    ensures distinct { IfOk result (λ copies. AreDistinct (names_of copies.items)) }
-{
-    let pairs = members.as_slice();
-    let mut copies = Vec::with_capacity(alloc, pairs.len())?;
-    'pairs: for pair in pairs {
-        let name = Text::of(alloc, pair.0.as_str())?;
-        copies.push((name, copy_json(alloc, &pair.1)?))?;
-    }
-    Ok(copies)
+    Ok(Json::Map(copy_members(alloc, members)?))
 }
 
 /// An object of a schema by its table: the schema, a value for each row, and the other members.

@@ -1,5 +1,6 @@
 pub mod LatestLemmas
 pub mod MapLemmas
+pub mod NameTests
 pub mod PairLemmas
 pub mod ShortLemmas
 pub mod TakeLemmas

@@ -7,7 +7,6 @@ use Rattle.std.specs.Cmp.Lexicographic.{slice_cmp}
 use Rattle.std.specs.Map.{update}
 use Rattle.std.specs.Ordering.{nat_cmp}
 use Rattle.std.specs.Str.{bytes_eq}
-use Rattle.std.specs.Bool.{Decides}
 use Rattle.sequences.specs.Known.{Knows, found}
 use Rattle.sequences.specs.Places.{place_of, add_name}
 use Rattle.sequences.proofs.PairLemmas.{place_of-le, add_name-known, add_name-new, bytes_eq-sym}

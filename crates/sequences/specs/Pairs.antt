@@ -32,7 +32,8 @@ abbrev pub value_of : {X : Type 0} → List ℕ → List (List ℕ × X) → Opt
 value_of n [] = None
 value_of n (p ∷ ps) = if bytes_eq n p.0 then Some p.1 else value_of n ps
 
--- the pairs with the value x at the name n: in the place of the first pair of that name, else at the end
+-- the pairs with the value x at the name n: in the place of the first pair of that name, else at
+-- the end
 abbrev pub put : {X : Type 0} → List ℕ → X → List (List ℕ × X) → List (List ℕ × X)
 put n x [] = (n, x) ∷ []
 put n x (p ∷ ps) = if bytes_eq n p.0 then (n, x) ∷ ps else p ∷ put n x ps
@@ -42,6 +43,7 @@ abbrev pub put_all : {X : Type 0} → List (List ℕ × X) → List (List ℕ ×
 put_all kept [] = kept
 put_all kept (p ∷ ps) = put_all (put p.0 p.1 kept) ps
 
--- the pairs with distinct names: the value of a later pair of a name replaces that of the first pair, in the first one's place
+-- the pairs with distinct names: the value of a later pair of a name replaces that of the first
+-- pair, in the first one's place
 abbrev pub merged : {X : Type 0} → List (List ℕ × X) → List (List ℕ × X)
 merged ps = put_all [] ps

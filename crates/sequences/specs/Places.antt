@@ -1,4 +1,5 @@
--- The distinct names among names, in the order in which they first come, and the place of each name there.
+-- The distinct names among names, in the order in which they first come, and the place of each name
+-- there.
 use Rattle.std.specs.Prelude.{ℕ, suc, List, [], ◌∷◌, if◌then◌else◌}
 use Rattle.std.specs.Str.{bytes_eq}
 

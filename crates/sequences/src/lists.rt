@@ -78,7 +78,8 @@ impl<T> Sequence<T> {
     /// The member at `index`, to be changed there.
     pub fn at_mut(&mut self, index: usize) -> &mut T
         requires { index < length self.old }
-        ensures* writes_back { sem 𝓛 (Lends (the_row T.row) T.row self.entry result (λ w. slice_set self.old index w)) }
+        ensures* writes_back { sem 𝓛 (Lends (the_row T.row) T.row self.entry result
+            (λ w. slice_set self.old index w)) }
         ensures value { slice_get self.old index ≡ Some result.now }
     {
         &mut self.items[index]
@@ -86,7 +87,8 @@ impl<T> Sequence<T> {
 }
 
 impl<T: Drop> Sequence<T> {
-    /// Adds `item` at the end. An error comes where memory runs out, and the list is then as it was.
+    /// Adds `item` at the end. An error comes where memory runs out, and the list is then as it
+    /// was.
     pub fn push(&mut self, item: T) -> Result<(), AllocError>
         ensures added { OnOk result (self.new ≡ self.old ++ item ∷ []) }
         ensures unchanged { OnErr result (self.new ≡ self.old) }
@@ -104,8 +106,8 @@ impl<T: Drop> Sequence<T> {
         Sequence { items }
     }
 
-    /// Takes the members out. Few come in memory that just fits them, and the list keeps its own for others; many come in the
-    /// list's own memory. An error comes where memory runs out.
+    /// Takes the members out. Few come in memory that just fits them, and the list keeps its own
+    /// for others; many come in the list's own memory. An error comes where memory runs out.
     pub fn take_fitted(&mut self, alloc: Global) -> Result<Vec<T>, AllocError>
         ensures taken { IfOk result (λ taken. taken.items ≡ self.old) }
         ensures empty { OnOk result (self.new ≡ []) }

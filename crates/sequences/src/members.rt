@@ -9,7 +9,8 @@ use crate::texts::Text;
 use std::alloc::{AllocError, Global};
 use std::marker::Model;
 
-/// Values under distinct names, which contracts see as the list of the pairs of a name and a value, in order.
+/// Values under distinct names, which contracts see as the list of the pairs of a name and a value,
+/// in order.
 #[derive(Debug, Drop)]
 pub struct NamedValues<T> {
     pairs: Vec<(Text, T)>,
@@ -94,8 +95,9 @@ impl<T> NamedValues<T> {
 }
 
 impl<T: Drop> NamedValues<T> {
-    /// The pairs of `pairs` under distinct names: the value of a later pair of a name replaces that of the first pair, in
-    /// the first one's place, and all other pairs stay in order. An error comes where memory runs out.
+    /// The pairs of `pairs` under distinct names: the value of a later pair of a name replaces that
+    /// of the first pair, in the first one's place, and all other pairs stay in order. An error
+    /// comes where memory runs out.
     pub fn of_pairs(alloc: Global, pairs: Vec<(Text, T)>) -> Result<NamedValues<T>, AllocError>
         ensures { IfOk result (λ made. made ≡ pairs_of.merged pairs.items) }
     {
@@ -104,14 +106,16 @@ impl<T: Drop> NamedValues<T> {
         Ok(NamedValues { pairs })
     }
 
-    /// A law of the word `merged`: the value of a name among merged pairs is that of the last pair of the name.
+    /// A law of the word `merged`: the value of a name among merged pairs is that of the last pair
+    /// of the name.
     pub fn latest_value_stands()
-        ensures { (pairs : List (List ℕ × T)) (name : List ℕ) → pairs_of.value_of name (pairs_of.merged pairs)
+        ensures { (pairs : List (List ℕ × T)) (name : List ℕ) →
+            pairs_of.value_of name (pairs_of.merged pairs)
             ≡ pairs_of.value_of name (reverse pairs) }
     {}
 
-    /// Puts `value` at `name`: in the place of the value that is there, which always succeeds, and else at the end. An
-    /// error comes where memory runs out, and the pairs are then as they were.
+    /// Puts `value` at `name`: in the place of the value that is there, which always succeeds, and
+    /// else at the end. An error comes where memory runs out, and the pairs are then as they were.
     pub fn put(&mut self, name: Text, value: T) -> Result<(), AllocError>
         ensures put { OnOk result (self.new ≡ pairs_of.put name value self.old) }
         ensures replaces { IsSome (pairs_of.value_of name self.old) → IsOk result }
@@ -121,7 +125,8 @@ impl<T: Drop> NamedValues<T> {
         put_at(&mut self.pairs, place, name, value)
     }
 
-    /// Takes the pair at `index`, counted from 0, out and closes up; `None` exactly where that is past the end.
+    /// Takes the pair at `index`, counted from 0, out and closes up; `None` exactly where that is
+    /// past the end.
     pub fn take(&mut self, index: usize) -> Option<(Text, T)>
         ensures taken { slice_get self.old index ≡ result }
         ensures rest { self.new ≡ remove self.old index }

@@ -24,7 +24,8 @@ pub(crate) fn place_of<T>(pairs: &[(Text, T)], name: &str) -> usize
     pairs.len()
 }
 
-/// The pairs with distinct names: the value of a later pair of a name replaces that of the first pair, in its place.
+/// The pairs with distinct names: the value of a later pair of a name replaces that of the first
+/// pair, in its place.
 pub(crate) fn merge<T: Drop>(
     alloc: Global,
     pairs: Vec<(Text, T)>,
@@ -82,7 +83,8 @@ fn place_in<'a>(known: &mut BTreeMap<&'a str, usize>, name: &'a str) -> Result<u
     }
 }
 
-/// Puts a value at a name whose place is known: in the place of the value that is there, and else at the end.
+/// Puts a value at a name whose place is known: in the place of the value that is there, and else
+/// at the end.
 pub(crate) fn put_at<T: Drop>(
     pairs: &mut Vec<(Text, T)>,
     place: usize,

@@ -7,7 +7,8 @@ use std::alloc::{AllocError, Global};
 use std::fmt::{self, Debug, Formatter, Write};
 use std::marker::Model;
 
-/// A text in UTF-8, which contracts see as the list of its bytes. A text of few bytes takes no memory beside the value.
+/// A text in UTF-8, which contracts see as the list of its bytes. A text of few bytes takes no
+/// memory beside the value.
 #[derive(Drop)]
 pub struct Text {
     held: Held,

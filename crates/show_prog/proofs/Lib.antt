@@ -1,11 +1,11 @@
 -- What is proved of shows.
 mod Euclid
-mod Far
+mod FarInstants
 pub mod PrintTexts
 mod Roots
 mod ShowLemmas
-mod Sound
+mod SoundnessFacts
 mod Steps
 mod Walk
-pub mod Seated
-pub mod Reached
+pub mod SeatLemmas
+pub mod ReachedItems

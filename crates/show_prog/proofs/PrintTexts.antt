@@ -1,5 +1,5 @@
 -- Texts of pictures, by the parts that are handed over.
-use Rattle.std.proofs.Common.{◌≡◌, List, ℕ, ℤ, ◌∷◌, ◌++◌, codes, unsigned_abs, sym, ap, ◌∙◌, append_assoc}
+use Rattle.std.proofs.Common.{◌≡◌, List, ℕ, ℤ, ◌∷◌, ◌++◌, codes, sym, ap, ◌∙◌, append_assoc}
 use Rattle.std.proofs.lemmas.Grind.{flat_map-append}
 use Rattle.std.specs.Global.{Box}
 use Rattle.json_layout.specs.Strings.{escape, escaped}

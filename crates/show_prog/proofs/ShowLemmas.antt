@@ -21,8 +21,8 @@ use Rattle.show_prog.specs.declared.picture.Picture.{Picture}
 use Rattle.show_prog.specs.declared.picture.Picture.TheVariants.{Blank as NoPicture}
 use Rattle.show_prog.specs.declared.picture.Picture.TheOpen.{Picture-F}
 use Rattle.show_prog.specs.declared.picture.Picture.TheFolds.{fold-roll-Picture}
-use Rattle.coord.proofs.Seen.{looks-items, look_length}
-use Rattle.show_prog.proofs.Steps.{yes, below, above}
+use Rattle.coord.proofs.SightLemmas.{looks-items, look_length}
+use Rattle.show_prog.proofs.Steps.{is_within, missed_before, missed_behind}
 use Rattle.show_prog.proofs.Walk.{total_is}
 
 pub image_of-Blank : image_of NoPicture ≡ Empty
@@ -109,7 +109,7 @@ inside_stack t kind m e = rw e (ap (λ l. stack_shows l m) (looks-items (exact k
 
 pub stack_before : (l : List Look) (m : ℤ) → m <ℤ pos 0 → stack_shows l m ≡ Blank
 stack_before [] m h = refl
-stack_before (x ∷ l) m h = rw (stack_before l m h, below (pos 0) x.length m h) refl
+stack_before (x ∷ l) m h = rw (stack_before l m h, missed_before (pos 0) x.length m h) refl
 
 abbrev one : Look → ℤ → Show
 one x m = cond (within (pos 0) x.length m) (x.shows m) Blank
@@ -151,14 +151,14 @@ pub stack_here : (v : View) (l : List (ItemOf Listed)) (n i : ℕ) (x : ItemOf L
     → pos 0 ≤ℤ at → at <ℤ pos (or_zero (length_of x)) → is_blank ((sight x).shows v at) ≡ false → all ≡ (sight x).shows v at
 stack_here v l n i x at all get e same low high something =
     let k = look_length v x (or_zero (length_of x)) refl in
-    let in_length : within (pos 0) (seen v (sight x)).length at ≡ true = yes (pos 0) (seen v (sight x)).length at low (omega (arith, ints)) in
+    let in_length : within (pos 0) (seen v (sight x)).length at ≡ true = is_within (pos 0) (seen v (sight x)).length at low (omega (arith, ints)) in
     same ∙ ap (λ k. stack_shows (looks v (take k l)) at) e ∙ ap (λ k. stack_shows k at) (looks_take v l i x get)
     ∙ stack-last (looks v (take i l)) (seen v (sight x)) at ∙ rw (in_length, something) refl
 
 pub nothing_past : (v : View) (x : ItemOf Listed) (at : ℤ) → pos (or_zero (length_of x)) ≤ℤ at → one (seen v (sight x)) at ≡ Blank
 nothing_past v x at h =
     let k = look_length v x (or_zero (length_of x)) refl in
-    rw (above (pos 0) (seen v (sight x)).length at (omega (arith, ints))) refl
+    rw (missed_behind (pos 0) (seen v (sight x)).length at (omega (arith, ints))) refl
 
 pub nothing_shown : (v : View) (x : ItemOf Listed) (at : ℤ) → is_blank ((sight x).shows v at) ≡ true → one (seen v (sight x)) at ≡ Blank
 nothing_shown v x at h = rw (blank_is ((sight x).shows v at) h) (always (within (pos 0) (seen v (sight x)).length at))

@@ -3,6 +3,7 @@ use mathlib.Core.Path.{fun_ext}
 use Rattle.std.proofs.Common.{◌≡◌, refl, sym, ap, ap₂, ◌∙◌, subst, ℕ, ◌+◌, ◌<◌, ◌≤◌, ℤ, pos, ◌+ℤ◌, ◌-ℤ◌, ◌≤ℤ◌, ◌<ℤ◌, true, false, List, [], ◌∷◌, map, Option, Some, None, drop, slice_get, arith}
 use Rattle.std.specs.Prelude.{IfSome, length}
 use Rattle.std.proofs.lemmas.Int.{ints}
+use Rattle.limits.specs.Limits.{most_ticks}
 use Rattle.otio_model.specs.declared.compositions.Transition.{Transition as TransitionRow}
 use Rattle.otio_model.specs.declared.compositions.ItemOf.{ItemOf}
 use Rattle.otio_model.specs.declared.compositions.ItemOf.TheVariants.{Clip, Gap, Transition, Stack, Track}
@@ -16,12 +17,12 @@ use Rattle.show_prog.specs.Walk.{side, IsActive, IsHolder}
 use Rattle.show_prog.specs.declared.lists.ActiveTransition.{ActiveTransition}
 use Rattle.show_prog.specs.declared.lists.Held.{Held}
 use Rattle.coord.proofs.Members.{next, none_left}
-use Rattle.coord.proofs.Seen.{look_length}
-use Rattle.show_prog.proofs.Sound.{Here, left_from, left_all, left_none}
-use Rattle.show_prog.proofs.Steps.{item_hit, item_past, mix_item, mix_miss, side_item, yes, below, above, within_is}
+use Rattle.coord.proofs.SightLemmas.{look_length}
+use Rattle.show_prog.proofs.SoundnessFacts.{Here, added_more, left_from, left_all, left_none}
+use Rattle.show_prog.proofs.Steps.{item_hit, item_past, mix_item, mix_miss, side_item, is_within, missed_before, missed_behind, within_is}
 
 abbrev most : ℤ
-most = pos 705600000000000000000000
+most = pos most_ticks
 
 -- an item that is no transition has no overlap
 pub no_overlap : (x : ItemOf Listed) → ((w : TransitionRow) → x ≡ Transition w → ⊥) → (sight x).overlap ≡ None
@@ -46,11 +47,7 @@ next_here v u l i x all get n same =
 
 sum_length : (v : View) (l : List (ItemOf Listed)) → total (looks v l) ≡ pos (added (map length_of l))
 sum_length v [] = refl
-sum_length v (x ∷ l) = let e = look_length v x (or_zero (length_of x)) refl in let f = sum_length v l in let g = more (length_of x) (map length_of l) in omega (arith, ints, e, f, g)
-  where
-    more : (o : Option ℕ) (ns : List (Option ℕ)) → added (o ∷ ns) ≡ or_zero o + added ns
-    more None ns = omega arith
-    more (Some n) ns = refl
+sum_length v (x ∷ l) = let e = look_length v x (or_zero (length_of x)) refl in let f = sum_length v l in let g = added_more (length_of x) (map length_of l) in omega (arith, ints, e, f, g)
 
 -- what is available of a list is the sum of its looks' lengths
 pub total_is : (v : View) (l : Listed) → total (looks v (items_of l)) ≡ pos (added (lengths l))
@@ -85,7 +82,7 @@ passed_next l at i x start after p h e past = let a = p.low in let b = p.passed 
 pub passed_here : (l : Listed) (at : ℤ) (i : ℕ) (x : ItemOf Listed) (start : ℤ) (held : Held) → Passed l at i start → Here l i x → i < length (items_of l) → at <ℤ (start +ℤ pos (or_zero (length_of x)))
     → held.index ≡ i → held.ticks ≡ at -ℤ start → IsHolder l at held
 passed_here l at i x start held p h index hit e f = let a = p.low in let b = p.passed in let c = p.sum in let d = h.sum in let n = h.ticks in record {
-  inside = yes (pos 0) (pos (added (lengths l))) at (omega (arith, ints)) (omega (arith, ints));
+  inside = is_within (pos 0) (pos (added (lengths l))) at (omega (arith, ints)) (omega (arith, ints));
   index = rw e index;
   low = omega (arith, ints);
   high = omega (arith, ints);
@@ -96,10 +93,10 @@ passed_here l at i x start held p h index hit e f = let a = p.low in let b = p.p
 }
 
 pub passed_all : (l : Listed) (at : ℤ) (i : ℕ) (start : ℤ) → Passed l at i start → length (items_of l) ≤ i → within (pos 0) (pos (added (lengths l))) at ≡ false
-passed_all l at i start p h = let a = p.low in let b = p.passed in let c = p.sum in let e = left_none l i h in above (pos 0) (pos (added (lengths l))) at (omega (arith, ints))
+passed_all l at i start p h = let a = p.low in let b = p.passed in let c = p.sum in let e = left_none l i h in missed_behind (pos 0) (pos (added (lengths l))) at (omega (arith, ints))
 
 pub none_before : (l : Listed) (at : ℤ) → at <ℤ pos 0 → within (pos 0) (pos (added (lengths l))) at ≡ false
-none_before l at h = below (pos 0) (pos (added (lengths l))) at h
+none_before l at h = missed_before (pos 0) (pos (added (lengths l))) at h
 
 -- ---- the overlap that holds an instant
 

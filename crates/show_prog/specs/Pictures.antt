@@ -1,5 +1,4 @@
 -- What pictures stand for.
-use Rattle.std.specs.Prelude.{unsigned_abs}
 use Rattle.coord.specs.Looks.{Key, Url, Sequence, Generator, Reel, Name}
 use Rattle.coord.specs.Images.{Kind, Dissolve, Wipe, Other, Image, Empty, Single, Mixture}
 use Rattle.show_prog.specs.declared.picture.KeyRef.{KeyRef}

@@ -1,5 +1,5 @@
 -- How what is seen is written.
-use Rattle.std.specs.Prelude.{ℕ, ◌+◌, ◌/◌, ◌%◌, List, [], ◌∷◌, ◌++◌, codes, decimal}
+use Rattle.std.specs.Prelude.{ℕ, ◌+◌, ◌/◌, ◌%◌, List, [], ◌∷◌, ◌++◌, codes}
 use Rattle.std.specs.Fmt.{signed_decimal}
 use Rattle.json_layout.specs.Strings.{quoted}
 use Rattle.coord.specs.Looks.{Key, Url, Sequence, Generator, Reel, Name, Weight}

@@ -1,5 +1,5 @@
 -- Words of the walk over lists that shows an instant; no public clause cites them.
-use Rattle.std.specs.Prelude.{◌≡◌, ℕ, zero, suc, ◌<◌, ℤ, pos, ◌-ℤ◌, ◌≤ℤ◌, ◌<ℤ◌, unsigned_abs, Bool, true, false, ◌&&◌, cond, List, Option, Some, None, IfSome, slice_get, length}
+use Rattle.std.specs.Prelude.{◌≡◌, ℕ, zero, suc, ◌+◌, ◌<◌, ℤ, pos, ◌-ℤ◌, ◌≤ℤ◌, ◌<ℤ◌, unsigned_abs, Bool, true, false, ◌&&◌, cond, List, Option, Some, None, IfSome, slice_get, length}
 use Rattle.limits.specs.Limits.{most_ticks}
 use Rattle.json_value.specs.declared.Json.{Json, out-Json}
 use Rattle.otio_model.specs.declared.compositions.ItemOf.{ItemOf}
@@ -10,7 +10,6 @@ use Rattle.otio_model.specs.Overlaps.{within}
 use Rattle.coord.specs.Looks.{Weight, Show, Blank, mixed, weight, item_shows}
 use Rattle.coord.specs.Keys.{text_in, member_in}
 use Rattle.coord.specs.Sights.{View, sight, looks}
-use Rattle.coord.specs.Soundness.{fault_of}
 use Rattle.coord.specs.Images.{Image, Empty, Single, Mixture, kind_of}
 use Rattle.show_prog.specs.declared.lists.ActiveTransition.{ActiveTransition}
 use Rattle.show_prog.specs.declared.lists.Held.{Held}
@@ -93,5 +92,5 @@ mixture kind from to part whole =
 -- the instant itself, or none where it lies before the start or behind all that a sound timeline
 -- has
 abbrev pub IsInstant : ℤ → Option ℤ → Type 0
-IsInstant at None = within (pos 0) (pos 705600000000000000000001) at ≡ false
+IsInstant at None = within (pos 0) (pos (most_ticks + 1)) at ≡ false
 IsInstant at (Some u) = u ≡ at

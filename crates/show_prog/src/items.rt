@@ -99,7 +99,7 @@ fn show_inside<'a>(
             if !stack.enabled {
                 return Ok(Picture::Blank);
             }
-            show_stack(alloc, &stack.children, kind, at)
+            show_stack(alloc, kind, &stack.children, at)
         }
         ItemOf::Track(track) => {
             if !track.enabled || track.kind.as_str() != kind {
@@ -202,8 +202,8 @@ fn is_blank(picture: &Picture<'_>) -> bool
 #[cycle(show)]
 fn show_stack<'a>(
     alloc: Global,
-    children: &'a Children,
     kind: &str,
+    children: &'a Children,
     at: i128,
 ) -> Result<Picture<'a>, AllocError>
     requires few { count children.now < 2 ^ 32 }

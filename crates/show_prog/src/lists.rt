@@ -1,11 +1,11 @@
 //! What holds an instant in a list: an overlap, or an item.
 
-ghost use Rattle.std.specs.Prelude.{◌≡◌, ℕ, ℤ, pos, ◌-ℤ◌, ◌≤ℤ◌, ◌<◌, ◌≤◌, ◌^◌, Some, IfSome, drop, length};
+ghost use Rattle.std.specs.Prelude.{◌≡◌, ℕ, ℤ, pos, ◌≤ℤ◌, ◌<◌, ◌≤◌, ◌^◌, Some, IfSome, drop, length};
 ghost use Rattle.limits.specs.Limits.{most_ticks};
 ghost use Rattle.otio_model.specs.Counts.{count};
 ghost use Rattle.otio_model.specs.Lengths.{added, lengths};
+ghost use Rattle.otio_model.specs.Trees as trees;
 ghost use Rattle.otio_model.specs.Trees.{items_of};
-ghost use Rattle.otio_model.specs.Overlaps.{offset_of};
 ghost use Rattle.otio_model.specs.Seats.{IsFirstOverlap};
 ghost use Rattle.coord.specs.Looks.{blank, mix_shows, next_shows};
 ghost use Rattle.coord.specs.Sights.{View, looks};
@@ -13,9 +13,8 @@ ghost use Rattle.coord.specs.Soundness.{AreFaultless};
 ghost use Rattle.show_prog.specs.Walk as walk;
 ghost use Rattle.show_prog.specs.Walk.{side, active_shows, IsActive, IsHeld};
 
-use otio_model::{Children, ItemOf, Seat};
+use otio_model::{Children, Item, ItemOf, Seat, offset_ticks};
 use sequences::Text;
-use tick_time::Time;
 
 /// An overlap that holds an instant: its two sides, each with its own instant.
 #[derive(Clone, Copy, Debug)]
@@ -40,18 +39,6 @@ pub(crate) struct Held {
     pub(crate) ticks: i128,
 }
 
-/// An offset that isn't given is 0.
-fn offset_ticks(offset: Option<Time>) -> i128
-    ensures value { result ≡ offset_of offset }
-    ensures low { (pos 0 -ℤ pos most_ticks) ≤ℤ result }
-    ensures high { result ≤ℤ pos most_ticks }
-{
-    match offset {
-        Some(time) => time.ticks,
-        None => 0,
-    }
-}
-
 /// The first item from an index on that isn't a transition.
 fn next_item(children: &Children, start: usize) -> Option<usize>
     requires { start ≤ length (items_of children.now) }
@@ -68,15 +55,21 @@ fn next_item(children: &Children, start: usize) -> Option<usize>
     None
 }
 
+/// Whether an item is a transition.
+fn is_transition(item: &Item) -> bool
+    ensures { result ≡ trees.is_transition item.now }
+{
+    matches!(item, ItemOf::Transition(_))
+}
+
 /// The last item before an index that isn't a transition.
 fn item_before(children: &Children, end: usize) -> Option<usize>
     requires { end ≤ length (items_of children.now) }
     ensures { result ≡ walk.item_before (items_of children.now) end }
 {
     'children: for index in (0..end).rev() {
-        match children.child(index) {
-            ItemOf::Transition(_) => {}
-            _ => return Some(index),
+        if !is_transition(children.child(index)) {
+            return Some(index);
         }
     }
     None

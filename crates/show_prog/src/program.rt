@@ -37,8 +37,8 @@ pub fn clock_of(timeline: &Timeline) -> Clock
     }
 }
 
-/// The instant of a record frame, in ticks from the start, where the first frame has this number and
-/// a frame so many ticks; `None` only where it lies outside every child.
+/// The instant of a record frame, in ticks from the start, where the first frame has this number
+/// and a frame so many ticks; `None` only where it lies outside every child.
 fn instant(start: i128, ticks: i128, frame: i128) -> Option<i128>
     requires { pos 1 ≤ℤ ticks }
     ensures { IsInstant ((frame -ℤ start) *ℤ ticks) result }

@@ -16,9 +16,9 @@ use Rattle.smpte_tc.specs.Day.{labels_with}
 use Rattle.smpte_tc.specs.Modes.{mode_of, IsMode}
 use Rattle.smpte_tc.specs.Answers.{ninth, IsMark, means_drop, Reads, ReadsAt}
 use Rattle.smpte_tc.specs.Frames.{is_mark, label_index, index_by, label_frame, label_frame_at}
-use Rattle.smpte_tc.proofs.Once.{one_reading}
-use Rattle.smpte_tc.proofs.Rounds.{read_small, IsSmall}
-use Rattle.smpte_tc.proofs.Written.{mode_fair}
+use Rattle.smpte_tc.proofs.OneReading.{one_reading}
+use Rattle.smpte_tc.proofs.RoundTrip.{read_small, IsSmall}
+use Rattle.smpte_tc.proofs.WrittenLabels.{mode_fair}
 
 -- where a text stands in a list, there is a first place of it
 first_there : (text : List ℕ) (texts : List (List ℕ)) (k : ℕ) → slice_get texts k ≡ Some text

@@ -4,8 +4,8 @@ pub mod Dropping
 pub mod Labels
 pub mod Spellings
 pub mod Minutes
-pub mod Once
-pub mod Rounds
-pub mod Written
+pub mod OneReading
+pub mod RoundTrip
+pub mod WrittenLabels
 pub mod Coprime
 pub mod FrameLemmas

@@ -7,6 +7,33 @@ use crate::faults::TcFault;
 use crate::timecode::{label, means_drop, read};
 use tick_time::Rate;
 
+/// The number that is read from the label of a frame number: that number.
+///
+/// # Errors
+/// Those of [`label`] alone.
+pub fn read_written(n: i64, rate: Rate, drop: bool) -> Result<i64, TcFault>
+    ensures { ReadsWritten (mode_at rate drop) n result }
+{
+    match label(n, rate, drop) {
+        Ok(written) => read(written.as_slice(), rate, drop),
+        Err(fault) => Err(fault),
+    }
+}
+
+/// The label of the number that is read from a label: that label, with the mark that is written.
+///
+/// # Errors
+/// Those of [`read`] alone.
+pub fn write_read(bytes: &[u8], rate: Rate, drop: bool) -> Result<[u8; 11], TcFault>
+    ensures { WritesRead (mode_at rate (drop_meant bytes.now drop))
+        (drop_meant bytes.now drop) bytes.now result }
+{
+    match read(bytes, rate, drop) {
+        Ok(n) => label(n, rate, means_drop(bytes, drop)),
+        Err(fault) => Err(fault),
+    }
+}
+
 /// Each frame number of a day has exactly one label, in each mode that a rate can have.
 pub fn labels_of_numbers()
     ensures there { HasEachALabel }
@@ -42,30 +69,3 @@ pub fn labels_read_again()
 pub fn counts_of_days()
     ensures { HasKnownCounts }
 {}
-
-/// The number that is read from the label of a frame number: that number.
-///
-/// # Errors
-/// Those of [`label`] alone.
-pub fn read_written(n: i64, rate: Rate, drop: bool) -> Result<i64, TcFault>
-    ensures { ReadsWritten (mode_at rate drop) n result }
-{
-    match label(n, rate, drop) {
-        Ok(written) => read(written.as_slice(), rate, drop),
-        Err(fault) => Err(fault),
-    }
-}
-
-/// The label of the number that is read from a label: that label, with the mark that is written.
-///
-/// # Errors
-/// Those of [`read`] alone.
-pub fn write_read(bytes: &[u8], rate: Rate, drop: bool) -> Result<[u8; 11], TcFault>
-    ensures { WritesRead (mode_at rate (drop_meant bytes.now drop))
-        (drop_meant bytes.now drop) bytes.now result }
-{
-    match read(bytes, rate, drop) {
-        Ok(n) => label(n, rate, means_drop(bytes, drop)),
-        Err(fault) => Err(fault),
-    }
-}

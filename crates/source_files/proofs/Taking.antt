@@ -112,3 +112,13 @@ same_more E None mid new result buf e r = tt
 same_more E (Some old) None new result buf e r = absurd e
 same_more E (Some old) (Some mid) None result buf e r = absurd r
 same_more E (Some old) (Some mid) (Some new) result buf e r = same_in old mid new result buf e r
+
+-- one more read takes the next bytes, and changes no file
+pub taken_more : (E : Type 0) (bytes : List ℕ) (old mid new : Option KnownFiles) (n : ℕ)
+    (buf : List ℕ) → Tells (Takes bytes) old mid → Tells SameFiles old mid
+    → Tells (Reads {E = E} (Ok n) buf) mid new
+    → Tells (Takes (bytes ++ take n buf)) old new × Tells SameFiles old new
+taken_more E bytes old mid new n buf t s r = (
+  takes_more E bytes old mid new n buf t r,
+  same_more E old mid new (Ok n) buf s r,
+)

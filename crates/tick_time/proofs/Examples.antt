@@ -3,15 +3,12 @@ use Rattle.std.proofs.Common.{◌≡◌, ℕ, ◌<◌, Bool, true, false, ◌&&�
 use Rattle.std.specs.Prelude.{◌==◌, ◌||◌}
 use Rattle.std.proofs.lemmas.Bool.Decides.{nat_tests}
 use Rattle.tick_time.specs.Numerals.{IsNumeral, IsInt, IsExp, AreDigits, minus, frac}
+use Rattle.tick_time.proofs.BoolLemmas.{both}
 use Rattle.tick_time.proofs.Rereadings.{digits_test, digits_from}
 
 -- some digits, of which the first is 0 only where it is the only one
 abbrev pub int_test : List ℕ → Bool
 int_test whole = nat_lt 0 (length whole) && (digits_test whole && ((length whole == 1) || nat_lt 48 (slice_index whole 0)))
-
-both : (a b : Bool) → (a && b) ≡ true → (a ≡ true) × (b ≡ true)
-both true b h = (refl, h)
-both false b h = cc
 
 lead_in : (a : Bool) (whole : List ℕ) → (length whole == 1) ≡ a → (a || nat_lt 48 (slice_index whole 0)) ≡ true → slice_index whole 0 ≡ 48 → length whole ≡ 1
 lead_in true whole e h z = grind (arith, nat_tests, e)

@@ -67,7 +67,7 @@ nearest_even a b n h e = by (le_or a (n * b)) where
   by (inr le) = h.tie_above (omega arith)
 
 -- the same with a sign
-abs-signed : (neg : Bool) (n : ℕ) → unsigned_abs (signed neg n) ≡ n
+pub abs-signed : (neg : Bool) (n : ℕ) → unsigned_abs (signed neg n) ≡ n
 abs-signed false n = refl
 abs-signed true zero = refl
 abs-signed true (suc n) = refl

@@ -13,7 +13,7 @@ use Rattle.std.proofs.Math.Seq.{take-length}
 use Rattle.tick_time.specs.Numerals.{minus, frac, IsInt, IsNumeral, AreDigits, IsSigned, bare, behind, IsExp, absent, plain, raised, lowered, IsExponent, IsTail, StopsDigits}
 use Rattle.tick_time.proofs.Parts.{int_no_minus, exp_stops, exp_no_point, frac_stops}
 
-digit_small : (c : ℕ) → is_ascii_digit c ≡ true → digit_value c < 10
+pub digit_small : (c : ℕ) → is_ascii_digit c ≡ true → digit_value c < 10
 digit_small c e = let d = digit_value_digit c (grind (arith, nat_tests)) in grind (arith, nat_tests)
 
 more_taken : (c : ℕ) (cs : List ℕ) (n m : ℕ) → m ≡ suc n → digit_value c < 10 → AllDigits 10 (take n cs) → AllDigits 10 (take m (c ∷ cs))

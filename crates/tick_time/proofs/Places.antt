@@ -46,10 +46,10 @@ pub record Places (k rest : ℕ) (ds : List ℕ) : Type 0 where
   pub value : digits_value 10 ds * 1000000 ≡ rest * 10 ^ length ds
   pub last : rest ≢ 0 → slice_index ds (length ds - 1) ≢ 48
 
-digit_is : (d : ℕ) → d < 10 → digit_value (48 + d) ≡ d
+pub digit_is : (d : ℕ) → d < 10 → digit_value (48 + d) ≡ d
 digit_is d small = omega (arith, digit_value_digit (48 + d) (omega arith, omega arith))
 
-last_cons : (c : ℕ) (ds : List ℕ) → 0 < length ds → slice_index (c ∷ ds) (length (c ∷ ds) - 1) ≡ slice_index ds (length ds - 1)
+pub last_cons : (c : ℕ) (ds : List ℕ) → 0 < length ds → slice_index (c ∷ ds) (length (c ∷ ds) - 1) ≡ slice_index ds (length ds - 1)
 last_cons c [] some = absurd (omega arith)
 last_cons c (x ∷ xs) some =
     let e : suc (suc (length xs)) - 1 ≡ suc (length xs) = omega arith in

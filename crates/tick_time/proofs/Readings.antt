@@ -2,6 +2,7 @@
 use Rattle.std.proofs.Common.{◌≡◌, ℕ, ◌*◌, ◌<◌, ◌≤◌, ℤ, pos, ◌*ℤ◌, ◌-ℤ◌, ◌≤ℤ◌, ◌∙◌, arith, unsigned_abs, Result, Ok, Err, IfOk, IfErr}
 use Rattle.std.proofs.lemmas.Int.{ints, unsigned_abs-mul}
 use Rattle.std.proofs.Math.Nat.{mul-le-mul_left}
+use Rattle.limits.specs.Limits.{most_ticks}
 use Rattle.tick_time.specs.Numerals.{Fraction}
 use Rattle.tick_time.specs.Decimals.{millionths, IsHalfEven, IsHuge, IsTooFast}
 use Rattle.tick_time.specs.Rates.{unit}
@@ -23,13 +24,15 @@ pub fault_read : (r : Result Time TimeFault) (value : Fraction) (units ticks : �
 fault_read (Ok t) value units ticks rate h e nearest = tt
 fault_read (Err f) value units ticks rate h e nearest = (h.0, record { units = units; nearest = nearest; beyond = λ i. h.1 (rw e i) })
 
+-- ticks in range are at most so many either way
+pub ticks_small : (z : ℤ) → z ≤ℤ pos most_ticks → (pos 0 -ℤ pos most_ticks) ≤ℤ z → unsigned_abs z ≤ most_ticks
+ticks_small z high low = omega (arith, ints)
+
 huge_ticks : (n : ℤ) (piece : ℕ) → 1 ≤ piece → 1000000000000000000000000 < unsigned_abs n → IsInRange (n *ℤ pos piece) → ⊥
 huge_ticks n piece some large h =
     let more : unsigned_abs n * 1 ≤ unsigned_abs n * piece = mul-le-mul_left (unsigned_abs n) some in
-    let most : unsigned_abs (n *ℤ pos piece) ≤ 705600000000000000000000 = within (n *ℤ pos piece) h.low h.high in
-    omega (arith, unsigned_abs-mul n (pos piece)) where
-      within : (z : ℤ) → (pos 0 -ℤ pos 705600000000000000000000) ≤ℤ z → z ≤ℤ pos 705600000000000000000000 → unsigned_abs z ≤ 705600000000000000000000
-      within z low high = omega (arith, ints)
+    let most : unsigned_abs (n *ℤ pos piece) ≤ most_ticks = ticks_small (n *ℤ pos piece) h.high h.low in
+    omega (arith, unsigned_abs-mul n (pos piece))
 
 pub huge_read : (value : Fraction) (rate : Rate) → IsHuge value → IsBeyond value rate
 huge_read value rate (n, nearest, large) = record {

@@ -10,11 +10,11 @@ use mir.Val.{of_z}
 use Rattle.std.proofs.lemmas.Int.{ints}
 use Rattle.std.proofs.lemmas.Nat.Gcd.{dvd_of_mod-eq-zero}
 use Rattle.std.proofs.Math.Nat.{div-mul_cancel, one-le-pow}
-use Rattle.tick_time.specs.Numerals.{IsInt, absent, signed, significant, frac}
+use Rattle.tick_time.specs.Numerals.{IsInt, Spells, absent, signed, significant, frac}
 use Rattle.tick_time.specs.Rates.{counts, is_rate, is_spelled, is_near, is_near_any, IsLowest, IsSpelledRate, relative, spelled}
 use Rattle.tick_time.specs.Texts.{IsDecimalText, ReadsAsRate, relative_text, rate_millionths}
 use Rattle.tick_time.proofs.Nears.{near_any_same, counts_each}
-use Rattle.tick_time.proofs.Lowest.{spelled_parts, spelled_same, nonzero, same_right}
+use Rattle.tick_time.proofs.LowestTerms.{spelled_parts, spelled_same, nonzero, same_right}
 
 abbrev pub digits_test : List ℕ → Bool
 digits_test [] = true
@@ -59,8 +59,19 @@ pub digits_from : (ds : List ℕ) → digits_test ds ≡ true → AllDigits 10 d
 digits_from [] h = tt
 digits_from (c ∷ cs) h = digits_in (nat_lt (digit_value c) 10) c cs refl h (digits_from cs)
 
-int_from : (ds : List ℕ) → 0 < length ds → digits_test ds ≡ true → slice_index ds 0 ≢ 48 → IsInt ds
+pub int_from : (ds : List ℕ) → 0 < length ds → digits_test ds ≡ true → slice_index ds 0 ≢ 48 → IsInt ds
 int_from ds some h lead = record { some = some; all = digits_from ds h; lead = λ e. absurd (lead e) }
+
+-- a text of digits, a point and digits spells the numeral of these parts
+pub spells_pointed : (text whole decimals : List ℕ) (d : ℕ) (ds : List ℕ)
+    → decimals ≡ d ∷ ds → text ≡ whole ++ (46 ∷ d ∷ ds) → IsInt whole → digits_test decimals ≡ true
+    → Spells text (record { neg = false; whole = whole; decimals = decimals; mark = []; down = false; power = [] })
+spells_pointed text whole decimals d ds e is int digits = record {
+  spelled = is ∙ ap (λ x. whole ++ x) (sym (ap (λ x. frac x ++ []) e ∙ append-nil (46 ∷ d ∷ ds)));
+  int = int;
+  decimals = digits_from decimals digits;
+  exp = absent refl refl refl;
+}
 
 -- the text of a 1001 relative, from its digits
 relative_reads_in : (n : ℕ) (text whole decimals : List ℕ) (d : ℕ) (ds : List ℕ) (top places : ℕ) (num den : ℤ) → Contains counts n → decimals ≡ d ∷ ds → text ≡ whole ++ (46 ∷ d ∷ ds)
@@ -68,12 +79,7 @@ relative_reads_in : (n : ℕ) (text whole decimals : List ℕ) (d : ℕ) (ds : L
     → unsigned_abs num ≡ 1000 * n → unsigned_abs den ≡ 1001 → ReadsAsRate text num den
 relative_reads_in n text whole decimals d ds top places num den in_counts e is int digits few value count near is_num is_den = record {
   number = record { neg = false; whole = whole; decimals = decimals; mark = []; down = false; power = [] };
-  spells = record {
-    spelled = is ∙ ap (λ x. whole ++ x) (sym (ap (λ x. frac x ++ []) e ∙ append-nil (46 ∷ d ∷ ds)));
-    int = int;
-    decimals = digits_from decimals digits;
-    exp = absent refl refl refl;
-  };
+  spells = spells_pointed text whole decimals d ds e is int digits;
   short = λ long. too_long long;
   gives = record {
     top = top;

@@ -1,5 +1,6 @@
 -- A rate and a time are determined by their numbers.
-use Rattle.std.proofs.Common.{◌≡◌, ◌≤ℤ◌, ◌-ℤ◌, ◌*◌, ◌%◌, ℕ, ℤ, pos, IsTrue, unsigned_abs, ap, subst}
+use Rattle.std.proofs.Common.{◌≡◌, ◌≤ℤ◌, ◌-ℤ◌, ◌*◌, ◌%◌, ℤ, pos, IsTrue, unsigned_abs, ap, subst, arith}
+use Rattle.std.proofs.lemmas.Int.{ints}
 use Rattle.std.proofs.Props.{props}
 use Rattle.limits.specs.Limits.{most_ticks}
 use Rattle.tick_time.specs.Rates.{IsLowest, per_millionth, is_rate, unit}
@@ -8,12 +9,12 @@ use Rattle.tick_time.specs.declared.rates.Rate.{Rate}
 use Rattle.tick_time.specs.declared.times.Time.{Time}
 
 -- what is known of a rate besides its fraction
-abbrev RateFacts : ℤ → ℤ → Type 0
+abbrev pub RateFacts : ℤ → ℤ → Type 0
 RateFacts num den = (pos 1 ≤ℤ den) × (den ≤ℤ num) × (num ≤ℤ pos per_millionth) × (den ≤ℤ pos 1000000)
     × (per_millionth * unsigned_abs den % unsigned_abs num ≡ 0)
     × IsLowest (unsigned_abs num) (unsigned_abs den) × IsTrue (is_rate (unsigned_abs num) (unsigned_abs den))
 
-abbrev built_rate : (num den : ℤ) → RateFacts num den → Rate
+abbrev pub built_rate : (num den : ℤ) → RateFacts num den → Rate
 built_rate num den f = record {
   num = num;
   den = den;
@@ -26,13 +27,13 @@ built_rate num den f = record {
   given = f.6;
 }
 
-abbrev rate_facts : (r : Rate) → RateFacts r.num r.den
+abbrev pub rate_facts : (r : Rate) → RateFacts r.num r.den
 rate_facts r = (r.positive, r.at_least_one, r.small_num, r.small_den, r.whole, r.lowest, r.given)
 
-RateFacts-prop : (num den : ℤ) → IsProp (RateFacts num den)
+pub RateFacts-prop : (num den : ℤ) → IsProp (RateFacts num den)
 RateFacts-prop num den = hlevel props
 
-rate_built : (n d m e : ℤ) (p : RateFacts n d) (q : RateFacts m e) → n ≡ m → d ≡ e → built_rate n d p ≡ built_rate m e q
+pub rate_built : (n d m e : ℤ) (p : RateFacts n d) (q : RateFacts m e) → n ≡ m → d ≡ e → built_rate n d p ≡ built_rate m e q
 rate_built n d m e p q h k =
     subst (λ x. (f : RateFacts x e) → built_rate n d p ≡ built_rate x e f) h
     (subst (λ y. (f : RateFacts n y) → built_rate n d p ≡ built_rate n y f) k
@@ -42,21 +43,25 @@ rate_built n d m e p q h k =
 pub same_rate : (r s : Rate) → r.num ≡ s.num → r.den ≡ s.den → r ≡ s
 same_rate r s h k = rate_built r.num r.den s.num s.den (rate_facts r) (rate_facts s) h k
 
+-- a rate is at least one frame a second
+pub at_least_one : (r : Rate) → pos 1 ≤ℤ r.num
+at_least_one r = omega (arith, ints, r.positive, r.at_least_one)
+
 -- what is known of a time besides its ticks and its rate
-abbrev TimeFacts : ℤ → Rate → Type 0
+abbrev pub TimeFacts : ℤ → Rate → Type 0
 TimeFacts ticks rate =
     ((pos 0 -ℤ pos most_ticks) ≤ℤ ticks) × (ticks ≤ℤ pos most_ticks) × IsWhole ticks (unit rate.num rate.den)
 
-abbrev built_time : (ticks : ℤ) (rate : Rate) → TimeFacts ticks rate → Time
+abbrev pub built_time : (ticks : ℤ) (rate : Rate) → TimeFacts ticks rate → Time
 built_time ticks rate f = record { ticks = ticks; rate = rate; low = f.0; high = f.1; whole = f.2 }
 
-abbrev time_facts : (t : Time) → TimeFacts t.ticks t.rate
+abbrev pub time_facts : (t : Time) → TimeFacts t.ticks t.rate
 time_facts t = (t.low, t.high, t.whole)
 
-TimeFacts-prop : (ticks : ℤ) (rate : Rate) → IsProp (TimeFacts ticks rate)
+pub TimeFacts-prop : (ticks : ℤ) (rate : Rate) → IsProp (TimeFacts ticks rate)
 TimeFacts-prop ticks rate = hlevel props
 
-time_built : (n : ℤ) (r : Rate) (m : ℤ) (s : Rate) (p : TimeFacts n r) (q : TimeFacts m s) → n ≡ m → r ≡ s
+pub time_built : (n : ℤ) (r : Rate) (m : ℤ) (s : Rate) (p : TimeFacts n r) (q : TimeFacts m s) → n ≡ m → r ≡ s
     → built_time n r p ≡ built_time m s q
 time_built n r m s p q h k =
     subst (λ x. (f : TimeFacts x s) → built_time n r p ≡ built_time x s f) h

@@ -13,7 +13,7 @@ use Rattle.std.proofs.Math.Nat.{pow-le-pow_right}
 use Rattle.tick_time.specs.Numerals.{after_zeros, significant, StopsDigits}
 use Rattle.tick_time.proofs.Pushes.{push, significant-le}
 
-digit_test : (c : ℕ) → digit_value c < 10 → is_ascii_digit c ≡ true
+pub digit_test : (c : ℕ) → digit_value c < 10 → is_ascii_digit c ≡ true
 digit_test c small = let r = digit_from_value c small in grind (arith, nat_tests)
 
 other_test : (b : Bool) (c : ℕ) → is_ascii_digit c ≡ b → 10 ≤ digit_value c → b ≡ false

@@ -99,8 +99,8 @@ signed true n = neg_ℤ (pos n)
 -- the fraction that a number stands for
 abbrev pub fraction : Numeral → Fraction
 fraction number = record {
-  top = signed number.neg
-      (digits_value 10 (number.whole ++ number.decimals) * 10 ^ cond number.down 0 (digits_value 10 number.power));
+  top = signed number.neg (digits_value 10 (number.whole ++ number.decimals)
+      * 10 ^ cond number.down 0 (digits_value 10 number.power));
   bottom = 10 ^ (length number.decimals + cond number.down (digits_value 10 number.power) 0);
 }
 

@@ -10,7 +10,8 @@ use Rattle.tick_time.specs.Decimals.{IsHalfEven, millionths}
 -- the larger of two rates
 abbrev pub larger : Rate → Rate → Rate
 larger a b =
-    cond (nat_le (unsigned_abs b.num * unsigned_abs a.den) (unsigned_abs a.num * unsigned_abs b.den)) a b
+    cond (nat_le (unsigned_abs b.num * unsigned_abs a.den)
+    (unsigned_abs a.num * unsigned_abs b.den)) a b
 
 -- these ticks, at the rate where they are a whole number of its units, else at the finest rate
 pub record IsNear (ticks : ℤ) (rate : Rate) (time : Time) : Type 0 where

@@ -2,6 +2,7 @@
 
 ghost use Rattle.std.specs.Prelude.{◌≡◌, ℤ, pos, ◌-ℤ◌, ◌≤ℤ◌, ◌↔◌, IfOk, IfErr, IsTrue};
 ghost use Rattle.tick_time.specs.Decimals.{decimal_value, millionths, IsHalfEven, IsTooFast};
+ghost use Rattle.tick_time.specs.Times as bounds;
 ghost use Rattle.tick_time.specs.Times.{IsSpeed};
 ghost use Rattle.tick_time.specs.Texts.{IsDecimalText};
 
@@ -63,7 +64,8 @@ impl Scalar {
 
 // Whether the millionths lie from -1000 to 1000 times.
 fn is_speed(millionths: i128) -> bool
-    ensures { IsTrue result ↔ IsSpeed millionths }
+    ensures test { result ≡ bounds.is_speed millionths }
+    ensures speed { IsTrue result ↔ IsSpeed millionths }
 {
     -1_000_000_000 <= millionths && millionths <= 1_000_000_000
 }

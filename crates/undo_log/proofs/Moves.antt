@@ -6,7 +6,7 @@ use Rattle.otio_model.specs.declared.patches.Patch.{Patch}
 use Rattle.otio_model.specs.declared.timelines.Timeline.{Timeline}
 use Rattle.otio_model.specs.Patches.{IsFit, applied, undoing}
 use Rattle.otio_model.specs.Timelines.{bare}
-use Rattle.otio_model.proofs.Undone.{undone_fits, undone_same}
+use Rattle.otio_model.proofs.UndoLemmas.{undone_fits, undone_same}
 use Rattle.undo_log.specs.Histories.{History, unspared}
 use Rattle.undo_log.specs.States.{AreFit, IsKept, State, moved, run, state_of}
 
@@ -43,6 +43,11 @@ turn p r b c ps qs f e u g h =
 pub reverse_last : (zs : List Patch) (p : Patch) → reverse (zs ++ p ∷ []) ≡ p ∷ reverse zs
 reverse_last zs p = reverse-append zs (p ∷ [])
 
+-- the first of the patches that a history shows is the last of the vector
+pub first_kept : {shown xs : List Patch} (zs : List Patch) (p : Patch) → reverse xs ≡ shown → xs ≡ zs ++ p ∷ []
+    → shown ≡ p ∷ reverse zs
+first_kept zs p e f = sym e ∙ ap reverse f ∙ reverse_last zs p
+
 abbrev pub state_by : (b : List Timeline) (n : Timeline) (a : List Timeline) → State
 state_by b n a = record { before = b; now = n; after = a }
 
@@ -58,10 +63,10 @@ pub record Went (t u : Timeline) (xs zs ys ws : List Patch) : Type 0 where
         after = run (bare u) (reverse ws);
       })
 
-pub went : (t u : Timeline) (p r : Patch) (xs zs ys ws : List Patch) → xs ≡ zs ++ p ∷ []
+pub went : {r : Patch} {xs zs ys ws : List Patch} (t u : Timeline) (p : Patch) → xs ≡ zs ++ p ∷ []
     → ws ≡ ys ++ r ∷ [] → AreFit (bare t) (reverse xs) → AreFit (bare t) (reverse ys)
     → bare u ≡ applied p (bare t) → r ≡ undoing p t → Went t u xs zs ys ws
-went t u p r xs zs ys ws e f g h k i =
+went {r = r} {xs = xs} {zs = zs} {ys = ys} {ws = ws} t u p e f g h k i =
     let b = bare t in
     let first : reverse xs ≡ p ∷ reverse zs = ap reverse e ∙ reverse_last zs p in
     let last : reverse ws ≡ r ∷ reverse ys = ap reverse f ∙ reverse_last ys r in
@@ -85,10 +90,10 @@ pub record Added (t u : Timeline) (p : Patch) (xs ws : List Patch) : Type 0 wher
   pub state : state_by (run (bare u) (reverse ws)) (bare u) []
       ≡ state_by (bare t ∷ run (bare t) (reverse xs)) (applied p (bare t)) []
 
-pub added : (t u : Timeline) (p r : Patch) (xs ws : List Patch) → ws ≡ xs ++ r ∷ [] → IsFit p t
+pub added : {t : Timeline} {p r : Patch} {xs ws : List Patch} (u : Timeline) → ws ≡ xs ++ r ∷ [] → IsFit p t
     → AreFit (bare t) (reverse xs) → bare u ≡ applied p (bare t) → r ≡ undoing p t
     → Added t u p xs ws
-added t u p r xs ws f g h k i =
+added {t = t} {p = p} {r = r} {xs = xs} {ws = ws} u f g h k i =
     let b = bare t in
     let last : reverse ws ≡ r ∷ reverse xs = ap reverse f ∙ reverse_last xs r in
     let w : Turned p r b (bare u) [] (reverse xs) =

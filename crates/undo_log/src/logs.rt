@@ -1,6 +1,8 @@
 //! Logs of changes.
 
-ghost use Rattle.std.specs.Prelude.{◌≡◌, ◌↔◌, [], ◌∷◌, IfErr, IsErr, OnErr, OnOk, Some};
+ghost use Rattle.std.specs.Prelude.{◌≡◌, ◌↔◌, ◌<◌, ◌++◌, [], ◌∷◌, IfErr, IsErr, OnErr, OnOk, Some};
+ghost use Rattle.std.specs.Prelude.{vec_len};
+ghost use Rattle.std.specs.Vec.{vec_capacity};
 ghost use Rattle.otio_model.specs.Patches.{IsFit, applied, undoing};
 ghost use Rattle.otio_model.specs.Timelines.{bare};
 ghost use Rattle.undo_log.specs.Histories.{unspared};
@@ -30,6 +32,17 @@ impl Model for Log {
     ghost use Rattle.undo_log.specs.Views.{history_of};
 
     ghost view = { history_of };
+}
+
+/// Adds a patch where there is room for one.
+fn keep(patches: &mut Vec<Patch>, patch: Patch)
+    requires { vec_len patches.old < vec_capacity patches.old }
+    ensures items { patches.new.items ≡ patches.old.items ++ patch ∷ [] }
+{
+    match patches.push(patch) {
+        Ok(()) => {}
+        Err(_) => unreachable!(),
+    }
 }
 
 impl Log {
@@ -110,10 +123,7 @@ impl Log {
         ensures future { self.new.future ≡ [] }
     {
         let undo = timeline.apply(patch);
-        match self.past.push(undo) {
-            Ok(()) => {}
-            Err(_) => unreachable!(),
-        }
+        keep(&mut self.past, undo);
         self.future.clear();
     }
 
@@ -134,10 +144,8 @@ impl Log {
             return Err(UndoFault::NothingDone);
         };
         let redo = timeline.apply(patch);
-        match self.future.push(redo) {
-            Ok(()) => Ok(()),
-            Err(_) => unreachable!(),
-        }
+        keep(&mut self.future, redo);
+        Ok(())
     }
 
     /// Moves forward by one change. [`UndoFault::NothingUndone`] comes exactly where none stands
@@ -157,9 +165,7 @@ impl Log {
             return Err(UndoFault::NothingUndone);
         };
         let undo = timeline.apply(patch);
-        match self.past.push(undo) {
-            Ok(()) => Ok(()),
-            Err(_) => unreachable!(),
-        }
+        keep(&mut self.past, undo);
+        Ok(())
     }
 }

@@ -4,60 +4,50 @@ ghost use Rattle.undo_log.specs.States.{IsKept};
 
 use crate::{Log, UndoFault};
 use otio_model::{
-    Children, Effects, Gap, Item, ItemOf, Items, Markers, Patch, Place, Stack, StackOf, Timeline,
+    Children, Effects, Item, ItemOf, Items, Markers, Patch, Place, Stack, StackOf, Timeline,
     TrackOf, copy_timeline,
 };
 use sequences::{NamedValues, Text};
 use std::alloc::{AllocError, Global};
 use std::test::Fail;
 
-fn gap(alloc: Global, name: Text) -> Item {
-    ItemOf::Gap(Gap {
-        metadata: NamedValues::new(alloc),
+fn stack(alloc: Global, name: Text, children: Children) -> Stack {
+    StackOf {
         name,
+        children,
+        metadata: NamedValues::new(alloc),
         source_range: None,
         effects: Effects::new(alloc),
         markers: Markers::new(alloc),
         enabled: true,
         rest: NamedValues::new(alloc),
-    })
+    }
 }
 
-/// So many gaps.
-fn gaps(alloc: Global, count: usize) -> Result<Items, AllocError> {
+/// So many stacks of no items.
+fn empty_stacks(alloc: Global, count: usize) -> Result<Items, AllocError> {
     let mut list = Vec::with_capacity(alloc, count)?;
-    'gaps: for _ in 0..count {
-        let name = Text::of(alloc, "g")?;
-        list.push(gap(alloc, name))?;
+    'stacks: for _ in 0..count {
+        let name = Text::of(alloc, "s")?;
+        let children = Children::of(alloc, Items::new(alloc))?;
+        list.push(ItemOf::Stack(stack(alloc, name, children)))?;
     }
     Ok(Items::of(list))
 }
 
-fn track(alloc: Global, name: Text, kind: Text, children: Children) -> Item {
+/// A track of what a stack has.
+fn track(stack: Stack, kind: Text) -> Item {
     ItemOf::Track(TrackOf {
-        metadata: NamedValues::new(alloc),
-        name,
-        source_range: None,
-        effects: Effects::new(alloc),
-        markers: Markers::new(alloc),
-        enabled: true,
-        children,
+        metadata: stack.metadata,
+        name: stack.name,
+        source_range: stack.source_range,
+        effects: stack.effects,
+        markers: stack.markers,
+        enabled: stack.enabled,
+        children: stack.children,
         kind,
-        rest: NamedValues::new(alloc),
+        rest: stack.rest,
     })
-}
-
-fn stack(alloc: Global, name: Text, children: Children) -> Stack {
-    StackOf {
-        metadata: NamedValues::new(alloc),
-        name,
-        source_range: None,
-        effects: Effects::new(alloc),
-        markers: Markers::new(alloc),
-        enabled: true,
-        children,
-        rest: NamedValues::new(alloc),
-    }
 }
 
 /// The children that are one item.
@@ -72,14 +62,14 @@ fn timeline_of(alloc: Global, name: Text, tracks: Stack) -> Timeline {
     Timeline::of(alloc, metadata, name, None, tracks, NamedValues::new(alloc))
 }
 
-/// A timeline of one track of one gap.
+/// A timeline of one track of one item.
 fn timeline(alloc: Global) -> Result<Timeline, AllocError> {
     let name = Text::of(alloc, "X")?;
     let tracks_name = Text::of(alloc, "tracks")?;
     let kind = Text::of(alloc, "Video")?;
     let track_name = Text::of(alloc, "V1")?;
-    let children = Children::of(alloc, gaps(alloc, 1)?)?;
-    let tracks = alone(alloc, track(alloc, track_name, kind, children))?;
+    let children = Children::of(alloc, empty_stacks(alloc, 1)?)?;
+    let tracks = alone(alloc, track(stack(alloc, track_name, children), kind))?;
     Ok(timeline_of(alloc, name, stack(alloc, tracks_name, tracks)))
 }
 
@@ -89,11 +79,11 @@ fn copied(alloc: Global, made: Result<Timeline, AllocError>) -> Result<Timeline,
     copy_timeline(alloc, &timeline)
 }
 
-/// A patch that puts three gaps in place of the first one.
+/// A patch that puts three items in place of the first one.
 fn patch(alloc: Global) -> Result<Patch, AllocError> {
     let mut place = Place::new(alloc);
     place.push(0)?;
-    let put = gaps(alloc, 3)?;
+    let put = empty_stacks(alloc, 3)?;
     Ok(Patch {
         place,
         at: 0,
@@ -127,16 +117,24 @@ fn commit(log: &mut Log, timeline: &mut Timeline, patch: Patch) -> bool
     }
 }
 
+/// How many children the track has after a step, else why it wasn't made.
+fn outcome(step: Result<(), UndoFault>, timeline: &Timeline) -> Result<usize, Option<UndoFault>> {
+    match step {
+        Ok(()) => Ok(children(timeline)),
+        Err(fault) => Err(Some(fault)),
+    }
+}
+
 /// Why nothing is undone, else how many children the track has then.
 fn undo(log: &mut Log, timeline: &mut Timeline) -> Result<usize, Option<UndoFault>>
     requires kept { IsKept log.old timeline.old }
     ensures kept { IsKept log.new timeline.new }
 {
     match log.room_undo(timeline) {
-        Ok(()) => match log.undo(timeline) {
-            Ok(()) => Ok(children(timeline)),
-            Err(fault) => Err(Some(fault)),
-        },
+        Ok(()) => {
+            let undone = log.undo(timeline);
+            outcome(undone, timeline)
+        }
         Err(_) => Err(None),
     }
 }
@@ -147,10 +145,10 @@ fn redo(log: &mut Log, timeline: &mut Timeline) -> Result<usize, Option<UndoFaul
     ensures kept { IsKept log.new timeline.new }
 {
     match log.room_redo(timeline) {
-        Ok(()) => match log.redo(timeline) {
-            Ok(()) => Ok(children(timeline)),
-            Err(fault) => Err(Some(fault)),
-        },
+        Ok(()) => {
+            let redone = log.redo(timeline);
+            outcome(redone, timeline)
+        }
         Err(_) => Err(None),
     }
 }
@@ -172,7 +170,7 @@ fn steps(
 }
 
 /// The same of a new log, once the timeline is made.
-fn outcome(
+fn outcomes(
     alloc: Global,
     made: Result<Timeline, AllocError>,
     patch: Patch,
@@ -185,9 +183,9 @@ fn outcome(
 #[test]
 fn a_change_is_undone_and_done_again(rt: HostRuntime) -> Result<(), Fail> {
     let alloc = rt.alloc();
-    let [undone, nothing_done, redone, nothing_undone] = outcome(
+    let [undone, nothing_done, redone, nothing_undone] = outcomes(
         alloc,
-        timeline(alloc),
+        copied(alloc, timeline(alloc)),
         patch(alloc)?,
     )?;
     assert_eq!(rt; undone, Ok(1));

@@ -1,3 +1,3 @@
-pub mod Inside
+pub mod NumeralsInside
 pub mod Members
-pub mod Upgraded
+pub mod UpgradedNumerals

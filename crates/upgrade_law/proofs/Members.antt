@@ -10,7 +10,7 @@ use Rattle.schema_up.specs.declared.names.Row.{Row}
 use Rattle.schema_up.specs.declared.names.Row.TheVariants.{Kept, Object, Objects, Media}
 use Rattle.schema_up.specs.Names.{schema_text}
 use Rattle.schema_up.specs.Upgrades.{Pairs, with_schema, without, named_anew, version_part, with_name, missing, medium_in, medium_of, media_of, clip_kept, second_clip, second_marker, renewed, renewed_at}
-use Rattle.upgrade_law.proofs.Inside.{HasAll, MembersHave, is_string, is_object, no_pairs, more_pairs}
+use Rattle.upgrade_law.proofs.NumeralsInside.{HasAll, MembersHave, is_string, is_object, no_pairs, more_pairs}
 
 either_has : (b : Bool) (x y : Pairs) → MembersHave x → MembersHave y → MembersHave (if b then x else y)
 either_has true x y h k = h

@@ -1,4 +1,4 @@
-use Rattle.json_text.proofs.Once.{text_once, fault_once, fault_or_text}
+use Rattle.json_text.proofs.OneText.{text_once, fault_once, fault_or_text}
 use Rattle.json_text.proofs.one_outcome.Goals as goal
 
 pub returns : goal.returns

@@ -5,7 +5,7 @@ use Rattle.json_text.specs.declared.state.Ran.TheVariants.{All, Stops}
 use Rattle.json_text.specs.declared.state.Stop.{Stop}
 use Rattle.json_text.specs.declared.state.Stop.TheVariants.{Syntax, Utf8, Depth}
 use Rattle.json_text.specs.declared.faults.JsonFault.{JsonFault}
-use Rattle.json_text.specs.State.Machine.{State, run, step}
+use Rattle.json_text.specs.State.Machine.{MachineState, run, step}
 
 -- an ASCII character that stands for itself in a string
 abbrev pub is_plain : ℕ → Bool
@@ -17,14 +17,14 @@ ArePlain [] = Unit {0}
 ArePlain (b ∷ bs) = (is_plain b ≡ true) × ArePlain bs
 
 -- The machine takes so many of the bytes, to the new state.
-pub record Skims (count : ℕ) (s : State) (bytes : List ℕ) (new : State) : Type 0 where
+pub record Skims (count : ℕ) (s : MachineState) (bytes : List ℕ) (new : MachineState) : Type 0 where
   pub within : count ≤ length bytes
   pub ran : run 127 s (take count bytes) ≡ Ok new
 
 -- The machine takes n of the bytes from the state s, and stops at the next.
-pub record StopsAt (n : ℕ) (stop : Stop) (s : State) (bytes : List ℕ) : Type 0 where
+pub record StopsAt (n : ℕ) (stop : Stop) (s : MachineState) (bytes : List ℕ) : Type 0 where
   pub within : n < length bytes
-  pub before : State
+  pub before : MachineState
   pub ran : run 127 s (take n bytes) ≡ Ok before
   pub stops : step 127 before.levels before.hand (slice_index bytes n) ≡ Err stop
 
@@ -35,6 +35,6 @@ named Utf8 n = JsonFault.Utf8 n
 named Depth n = JsonFault.Depth n
 
 -- What came of the bytes: all were taken, to the new state, or the machine stopped.
-abbrev pub IsRan : Ran → State → List ℕ → State → Type 0
+abbrev pub IsRan : Ran → MachineState → List ℕ → MachineState → Type 0
 IsRan All s bytes new = run 127 s bytes ≡ Ok new
 IsRan (Stops n stop) s bytes new = StopsAt n stop s bytes

@@ -22,7 +22,7 @@ value_of True = JsonOfBool true
 value_of False = JsonOfBool false
 
 -- where a string stands
-abbrev pub part_of : Part → spec.Part
+abbrev pub part_of : Part → spec.StringPlace
 part_of Plain = spec.plain
 part_of Escape = spec.escape
 part_of (Code digits) = spec.code digits
@@ -54,11 +54,11 @@ abbrev pub levels_of : Machine → List Level
 levels_of m = open_in m.inner (reverse m.outer.items)
 
 -- the whole state
-abbrev pub state_of : Machine → spec.State
+abbrev pub state_of : Machine → spec.MachineState
 state_of m = spec.state (levels_of m) (hand_of m.hand m.text.items m.root)
 
 -- what came of a byte is the step there
-abbrev pub IsTaken : Taken → Result spec.State Stop → spec.State → Type 0
+abbrev pub IsTaken : Taken → Result spec.MachineState Stop → spec.MachineState → Type 0
 IsTaken Goes step new = step ≡ Ok new
 IsTaken (Stops stop) step new = step ≡ Err stop
 

@@ -1,4 +1,4 @@
-use Rattle.object_law.proofs.Patched.{patched_is_writable}
+use Rattle.object_law.proofs.PatchedTimelines.{patched_is_writable}
 use Rattle.object_law.proofs.patched_is_writable.Goals as goal
 
 pub returns : goal.returns

@@ -1,4 +1,4 @@
-use Rattle.upgrade_law.proofs.Upgraded.{read_numerals, upgraded_numerals}
+use Rattle.upgrade_law.proofs.UpgradedNumerals.{read_numerals, upgraded_numerals}
 use Rattle.upgrade_law.proofs.read_has_numerals.Goals as goal
 
 pub returns : goal.returns

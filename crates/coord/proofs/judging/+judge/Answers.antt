@@ -2,7 +2,7 @@ use Rattle.std.proofs.Common.{◌≡◌, Some, sym, ◌∙◌, arith, rules}
 use Rattle.otio_model.specs.Trees.{children_of, items_of}
 use Rattle.otio_model.specs.Falls.{child_counts}
 use Rattle.coord.proofs.Members.{child_few, index_few, got_below}
-use Rattle.coord.proofs.Judged.{sound_all, sound_with}
+use Rattle.coord.proofs.JudgingLemmas.{sound_all, sound_with}
 use Rattle.coord.proofs.judging.+judge.Goals as goal
 
 pub judge_children-judge_item-requires : goal.judge_children-judge_item-requires

@@ -2,7 +2,7 @@ use Rattle.std.proofs.Common.{◌≡◌, ◌∙◌, pos, to_z, of_z, arith}
 use mir.Syntax.{w64}
 use Rattle.std.proofs.lemmas.Int.{ints}
 use Rattle.coord.specs.Speeds.{effects_of}
-use Rattle.coord.proofs.Kept.{kept_is}
+use Rattle.coord.proofs.SpeedProducts.{kept_is}
 use Rattle.coord.proofs.judging.speed.Goals as goal
 
 pub returns-clause-value : goal.returns-clause-value

@@ -1,4 +1,4 @@
-use Rattle.coord.proofs.Agreed.{program_agrees}
+use Rattle.coord.proofs.AgreementLemmas.{program_agrees}
 use Rattle.coord.proofs.laws.agreement_is_seen.Goals as goal
 
 pub returns : goal.returns

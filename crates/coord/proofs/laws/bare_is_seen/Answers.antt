@@ -1,4 +1,4 @@
-use Rattle.coord.proofs.Bare.{program_bare, rate_bare, start_bare, faultless_bare, sound_bare, fault_bare}
+use Rattle.coord.proofs.SpareLemmas.{program_bare, rate_bare, start_bare, faultless_bare, sound_bare, fault_bare}
 use Rattle.coord.proofs.laws.bare_is_seen.Goals as goal
 
 pub returns : goal.returns

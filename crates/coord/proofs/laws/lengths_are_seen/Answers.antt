@@ -1,4 +1,4 @@
-use Rattle.coord.proofs.Seen.{seen_lengths}
+use Rattle.coord.proofs.SightLemmas.{seen_lengths}
 use Rattle.coord.proofs.laws.lengths_are_seen.Goals as goal
 
 pub returns : goal.returns

@@ -1,4 +1,4 @@
-use Rattle.dev_io.proofs.Buffered.{flush_told, flush_cause}
+use Rattle.dev_io.proofs.BufferLemmas.{flush_told, flush_cause}
 use Rattle.dev_io.proofs.buffer.write_parts.Goals as goal
 
 pub returns-clause-told : goal.returns-clause-told

@@ -1,5 +1,5 @@
 use Rattle.std.proofs.Common.{◌++◌, take, arith}
-use Rattle.dev_io.proofs.Sent.{adds_more, left_after}
+use Rattle.dev_io.proofs.SendingLemmas.{adds_more, left_after}
 use Rattle.dev_io.proofs.output.write_all.Goals as goal
 
 pub loop-rest-preserved : goal.loop-rest-preserved

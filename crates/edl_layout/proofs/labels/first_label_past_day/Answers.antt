@@ -1,4 +1,4 @@
-use Rattle.edl_layout.proofs.Firsts.{first_past, more_below, all_below}
+use Rattle.edl_layout.proofs.FirstPastDay.{first_past, more_below, all_below}
 use Rattle.edl_layout.proofs.labels.first_label_past_day.Goals as goal
 
 pub returns-then-not-is_labelled : goal.returns-then-not-is_labelled

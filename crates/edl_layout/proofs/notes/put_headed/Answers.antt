@@ -1,5 +1,5 @@
 use Rattle.std.proofs.Common.{arith, ◌<◌, length}
-use Rattle.dev_io.proofs.Buffered.{puts_then, puts_as}
+use Rattle.dev_io.proofs.BufferLemmas.{puts_then, puts_as}
 use Rattle.edl_layout.proofs.Texts.{headed_parts}
 use Rattle.edl_layout.proofs.notes.put_headed.Goals as goal
 

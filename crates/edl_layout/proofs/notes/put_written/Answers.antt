@@ -1,7 +1,7 @@
 use Rattle.std.proofs.Common.{sym}
-use Rattle.dev_io.proofs.Buffered.{puts_as}
+use Rattle.dev_io.proofs.BufferLemmas.{puts_as}
 use Rattle.dev_io.proofs.Leaving.{leaves_then}
-use Rattle.edl_layout.proofs.Trimmed.{written-Some, written-None}
+use Rattle.edl_layout.proofs.TrimmedTexts.{written-Some, written-None}
 use Rattle.edl_layout.proofs.notes.put_written.Goals as goal
 
 pub runs-preserved : goal.runs-preserved

@@ -1,4 +1,4 @@
-use Rattle.dev_io.proofs.Buffered.{puts_then, puts_as}
+use Rattle.dev_io.proofs.BufferLemmas.{puts_then, puts_as}
 use Rattle.edl_layout.specs.Columns.{reel_text}
 use Rattle.edl_layout.proofs.Texts.{row_parts}
 use Rattle.edl_layout.proofs.rows.put_row.Goals as goal

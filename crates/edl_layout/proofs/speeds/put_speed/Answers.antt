@@ -1,5 +1,5 @@
 use Rattle.std.proofs.Common.{refl}
-use Rattle.dev_io.proofs.Buffered.{puts_then, puts_as}
+use Rattle.dev_io.proofs.BufferLemmas.{puts_then, puts_as}
 use Rattle.edl_layout.proofs.Days.{text_kept}
 use Rattle.edl_layout.proofs.Texts.{speed_parts}
 use Rattle.edl_layout.proofs.speeds.put_speed.Goals as goal

@@ -1,4 +1,4 @@
-use Rattle.dev_io.proofs.Buffered.{puts_then, puts_none}
+use Rattle.dev_io.proofs.BufferLemmas.{puts_then, puts_none}
 use Rattle.edl_layout.proofs.speeds.put_speed_if.Goals as goal
 
 pub returns-then-needed : goal.returns-then-needed

@@ -1,5 +1,5 @@
 use Rattle.std.proofs.Common.{sym}
-use Rattle.dev_io.proofs.Buffered.{puts_then, puts_as}
+use Rattle.dev_io.proofs.BufferLemmas.{puts_then, puts_as}
 use Rattle.edl_layout.proofs.Texts.{text_append}
 use Rattle.edl_layout.proofs.write.put_speeds.Goals as goal
 

@@ -1,4 +1,4 @@
-use Rattle.dev_io.proofs.Buffered.{puts_then, puts_as, flush_told}
+use Rattle.dev_io.proofs.BufferLemmas.{puts_then, puts_as, flush_told}
 use Rattle.edl_layout.proofs.Texts.{list_parts}
 use Rattle.edl_layout.proofs.write.write_list.Goals as goal
 

@@ -1,4 +1,4 @@
-use Rattle.edl_line.proofs.Determined.{says_unique, fault_unique, says_or_fault}
+use Rattle.edl_line.proofs.OneStatement.{says_unique, fault_unique, says_or_fault}
 use Rattle.edl_line.proofs.laws.one_outcome.Goals as goal
 
 pub returns-clause-statement : goal.returns-clause-statement

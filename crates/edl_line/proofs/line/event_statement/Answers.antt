@@ -1,7 +1,7 @@
 use Rattle.std.proofs.Common.{subst, sym}
 use Rattle.std.proofs.lemmas.Bool.{false≢true}
 use Rattle.edl_line.specs.Saying.{IsKeyWord}
-use Rattle.edl_line.proofs.Refused.{event_form}
+use Rattle.edl_line.proofs.RefusedLines.{event_form}
 use Rattle.edl_line.proofs.line.event_statement.Goals as goal
 
 pub returns-in-None : goal.returns-in-None

@@ -1,4 +1,4 @@
-use Rattle.edl_line.proofs.Refused.{from_form}
+use Rattle.edl_line.proofs.RefusedLines.{from_form}
 use Rattle.edl_line.proofs.line.from_statement.Goals as goal
 
 pub returns-in-None : goal.returns-in-None

@@ -1,4 +1,4 @@
-use Rattle.edl_line.proofs.Refused.{to_form}
+use Rattle.edl_line.proofs.RefusedLines.{to_form}
 use Rattle.edl_line.proofs.line.to_statement.Goals as goal
 
 pub returns-in-None : goal.returns-in-None

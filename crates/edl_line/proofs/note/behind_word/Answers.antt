@@ -1,5 +1,5 @@
 use Rattle.std.proofs.Common.{arith}
-use Rattle.edl_line.proofs.Noted.{behind_not}
+use Rattle.edl_line.proofs.NoteTexts.{behind_not}
 use Rattle.edl_line.proofs.note.behind_word.Goals as goal
 
 pub returns-else-rest-behind : goal.returns-else-rest-behind

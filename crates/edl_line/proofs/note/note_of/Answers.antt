@@ -1,4 +1,4 @@
-use Rattle.edl_line.proofs.Noted.{no_star, no_side, no_clip, note_or_none}
+use Rattle.edl_line.proofs.NoteTexts.{no_star, no_side, no_clip, note_or_none}
 use Rattle.edl_line.proofs.note.note_of.Goals as goal
 
 pub returns-in_err-rest : goal.returns-in_err-rest

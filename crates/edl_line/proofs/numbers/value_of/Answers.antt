@@ -1,6 +1,7 @@
 use Rattle.std.proofs.Common.{arith}
 use Rattle.std.proofs.lemmas.Str.Parse.{digit_at}
-use Rattle.edl_line.proofs.Figures.{one_more, pushed}
+use Rattle.tick_time.proofs.DigitBytes.{pushed}
+use Rattle.edl_line.proofs.Figures.{one_more}
 use Rattle.edl_line.proofs.numbers.value_of.Goals as goal
 
 pub overflow_mul-number : goal.overflow_mul-number

@@ -2,7 +2,7 @@ use Rattle.std.proofs.Common.{rules}
 use Rattle.std.proofs.lemmas.List.Sorted.{answers_always}
 use Rattle.edl_list.specs.Formed.{rank}
 use Rattle.edl_order.proofs.Sorting.{sorted_stand}
-use Rattle.edl_order.proofs.Strict.{strict}
+use Rattle.edl_order.proofs.StrictOrder.{strict}
 use Rattle.edl_order.proofs.order.in_record_order.Goals as goal
 
 pub returns-clause-order : goal.returns-clause-order

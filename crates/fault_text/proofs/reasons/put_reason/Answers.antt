@@ -1,4 +1,4 @@
-use Rattle.dev_io.proofs.Buffered.{puts_then}
+use Rattle.dev_io.proofs.BufferLemmas.{puts_then}
 use Rattle.fault_text.proofs.reasons.put_reason.Goals as goal
 
 pub returns : goal.returns

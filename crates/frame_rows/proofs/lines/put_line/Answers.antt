@@ -1,7 +1,7 @@
 use Rattle.std.proofs.Common.{[], refl, FitsSigned}
 use Rattle.std.specs.Int.{w128}
 use Rattle.std.proofs.lemmas.Int.{to_z-of_z}
-use Rattle.dev_io.proofs.Buffered.{puts_then, puts_none}
+use Rattle.dev_io.proofs.BufferLemmas.{puts_then, puts_none}
 use Rattle.frame_rows.specs.Rows.{line}
 use Rattle.frame_rows.proofs.lines.put_line.Goals as goal
 

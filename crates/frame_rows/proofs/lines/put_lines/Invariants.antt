@@ -8,4 +8,4 @@ use Rattle.frame_rows.proofs.lines.put_lines.Given as goal
 abbrev pub invariant-children : goal.invariant-children
 invariant-children g l =
     let stand = standing g.W.Out.known g.W.Out.faults in
-    Puts (stand l.fn.out l.fn.buffer) (stand l.out l.buffer) (lines_at l.timeline (range_with_len l.fn.children.first (l.child - l.fn.children.first)) l.frame)
+    Puts (stand l.fn.out l.fn.buffer) (stand l.out l.buffer) (lines_at l.timeline (range_with_len l.fn.selection.children.first (l.child - l.fn.selection.children.first)) l.frame)

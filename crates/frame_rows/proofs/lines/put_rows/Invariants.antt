@@ -7,4 +7,4 @@ use Rattle.frame_rows.proofs.lines.put_rows.Given as goal
 abbrev pub invariant-frames : goal.invariant-frames
 invariant-frames g l =
     let stand = standing g.W.Out.known g.W.Out.faults in
-    Puts (stand l.fn.out l.fn.buffer) (stand l.out l.buffer) (rows l.timeline (indexes l.children) l.from l.index)
+    Puts (stand l.fn.out l.fn.buffer) (stand l.out l.buffer) (rows l.timeline (indexes l.selection.children) l.from l.index)

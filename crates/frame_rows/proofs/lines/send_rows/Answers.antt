@@ -1,8 +1,8 @@
 use Rattle.std.proofs.Common.{FitsSigned}
 use Rattle.std.specs.Int.{w128}
 use Rattle.std.proofs.lemmas.Int.{to_z-of_z}
-use Rattle.dev_io.proofs.Buffered.{flush_told}
-use Rattle.frame_rows.proofs.Sent.{front_told}
+use Rattle.dev_io.proofs.BufferLemmas.{flush_told}
+use Rattle.frame_rows.proofs.SentLines.{front_told}
 use Rattle.frame_rows.proofs.lines.send_rows.Goals as goal
 
 pub returns-in-Err-clause-told : goal.returns-in-Err-clause-told

@@ -2,7 +2,7 @@ use Rattle.std.proofs.Common.{arith, ◌∙◌, ap}
 use Rattle.std.proofs.lemmas.Int.{ints}
 use Rattle.frame_rows.specs.Rows.{children_listed}
 use Rattle.frame_rows.specs.Handing.{indexes}
-use Rattle.frame_rows.proofs.Sent.{sent_more, sent_cut, sent_listed, cut_listed}
+use Rattle.frame_rows.proofs.SentLines.{sent_more, sent_cut, sent_listed, cut_listed}
 use Rattle.frame_rows.proofs.lines.write_rows.Goals as goal
 
 pub returns-in-Err-clause-told : goal.returns-in-Err-clause-told

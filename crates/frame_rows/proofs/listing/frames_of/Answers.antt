@@ -1,5 +1,5 @@
 use Rattle.std.proofs.Common.{arith}
-use Rattle.frame_rows.proofs.Counted.{frames_few, as_pos, as_small}
+use Rattle.frame_rows.proofs.FrameCounts.{frames_few, as_pos, as_small}
 use Rattle.frame_rows.proofs.listing.frames_of.Goals as goal
 
 pub returns-clause-value : goal.returns-clause-value

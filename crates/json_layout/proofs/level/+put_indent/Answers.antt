@@ -1,4 +1,4 @@
-use Rattle.dev_io.proofs.Buffered.{puts_then, puts_as}
+use Rattle.dev_io.proofs.BufferLemmas.{puts_then, puts_as}
 use Rattle.json_layout.specs.Levels.{deep}
 use Rattle.json_layout.proofs.Indents.{deep-Inside, indent_more}
 use Rattle.json_layout.proofs.level.+put_indent.Goals as goal

@@ -1,4 +1,4 @@
-use Rattle.dev_io.proofs.Buffered.{puts_then}
+use Rattle.dev_io.proofs.BufferLemmas.{puts_then}
 use Rattle.json_layout.proofs.level.put_line.Goals as goal
 
 pub returns : goal.returns

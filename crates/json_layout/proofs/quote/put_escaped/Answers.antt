@@ -1,5 +1,5 @@
 use Rattle.std.proofs.Common.{sym}
-use Rattle.dev_io.proofs.Buffered.{puts_as}
+use Rattle.dev_io.proofs.BufferLemmas.{puts_as}
 use Rattle.dev_io.proofs.Leaving.{leaves_then}
 use Rattle.json_layout.proofs.Escaping.{escaped-Some, escaped-None}
 use Rattle.json_layout.proofs.quote.put_escaped.Goals as goal

@@ -1,4 +1,4 @@
-use Rattle.dev_io.proofs.Buffered.{puts_then}
+use Rattle.dev_io.proofs.BufferLemmas.{puts_then}
 use Rattle.json_layout.proofs.quote.put_string.Goals as goal
 
 pub returns : goal.returns

@@ -1,7 +1,7 @@
 use Rattle.std.proofs.Common.{sym, arith, refl, length, ◌<◌, ◌∙◌}
 use Rattle.std.proofs.lemmas.Bool.Decides.{nat_tests}
-use Rattle.dev_io.proofs.Buffered.{puts_then, puts_as, puts_none}
-use Rattle.dev_io.proofs.Parted.{drop_past}
+use Rattle.dev_io.proofs.BufferLemmas.{puts_then, puts_as, puts_none}
+use Rattle.dev_io.proofs.PartLemmas.{drop_past}
 use Rattle.json_layout.specs.Levels.{deep}
 use Rattle.dev_io.proofs.Leaving.{leaves_all, leaves_then}
 use Rattle.json_layout.proofs.Lines.{text_at-List, text_at-Map, item_lines-next, member_lines-next, list_text-lines, object_text-lines}

@@ -1,4 +1,4 @@
-use Rattle.dev_io.proofs.Buffered.{puts_then, flush_told}
+use Rattle.dev_io.proofs.BufferLemmas.{puts_then, flush_told}
 use Rattle.json_layout.proofs.value.write_json.Goals as goal
 
 pub returns-clause-told : goal.returns-clause-told

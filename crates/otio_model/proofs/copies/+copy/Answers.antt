@@ -1,9 +1,9 @@
 use Rattle.std.proofs.Common.{arith, ap, sym, length, ◌∙◌, subst}
 use Rattle.otio_model.specs.Kept.{kept_of}
 use Rattle.otio_model.specs.Trees.{listed}
-use Rattle.otio_model.proofs.Keeping.{taken_all}
-use Rattle.otio_model.proofs.Copied.{AreCopies, copies_more, copies_are, copies_items}
-use Rattle.otio_model.proofs.Copied.{copies_numbered}
+use Rattle.otio_model.proofs.KeptLemmas.{taken_all}
+use Rattle.otio_model.proofs.CopyLemmas.{AreCopies, copies_more, copies_are, copies_items}
+use Rattle.otio_model.proofs.CopyLemmas.{copies_numbered}
 use Rattle.otio_model.proofs.copies.+copy.Goals as goal
 
 pub copy_children-pieces-preserved : goal.copy_children-pieces-preserved
@@ -22,7 +22,7 @@ copy_children-invariant_of-result t c =
     let s = subst (AreCopies c.pieces.copies.items) same c.pieces.invariant.copies in
     record {
       pieces = copies_are _ _ s v.pieces;
-      numbered = copies_numbered _ _ 0 s v.numbered;
+      numbered = copies_numbered _ _ _ s v.numbered;
       counted = v.counted ∙ ap length (sym (copies_items _ _ s));
       keeps = v.keeps
           ∙ ap kept_of (sym (copies_items _ _ s));

@@ -1,7 +1,7 @@
 use Rattle.std.proofs.Common.{arith, ap}
 use Rattle.otio_model.specs.Seeks.{lens, total}
 use Rattle.otio_model.proofs.SeekLemmas.{length-lens}
-use Rattle.otio_model.proofs.Keeping.{taken_all}
+use Rattle.otio_model.proofs.KeptLemmas.{taken_all}
 use Rattle.otio_model.proofs.seeks.in_piece.Goals as goal
 
 pub returns-clause-none : goal.returns-clause-none

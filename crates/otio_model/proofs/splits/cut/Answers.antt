@@ -26,7 +26,7 @@ cuts-preserved c =
     ap (λ (x : Vec (ItemOf Listed) Global). x.items) c.mend.ensures.items in
     let long : length p.items.items ≡ c.piece_size-count.result =
     omega (arith, ap length same, c.take_last.new.to.ok, c.take_last.ensures.long) in
-    let pushed = c.in-Ok.ensures.items in
+    let pushed = c.push_in_room.ensures.items in
     let is : IsPiece p = record {
       keeps = c.mend.ensures.keeps ∙ ap (λ l. kept_of l) (sym same);
       some = omega (
@@ -68,7 +68,7 @@ cuts-preserved c =
             c.piece_size-count.ensures.last (omega (arith, e.0, h, c.len-in-cuts.ensures)),
             c.len-in-cuts.ensures,
           ),
-          omega (arith, e.1, c.in-Ok.ensures.len),
+          omega (arith, e.1, c.push_in_room.ensures.len),
         )
         | inr e ↦ absurd (omega (arith, e.0, c.cuts-test.true, c.len.ensures))
       ];
@@ -82,10 +82,10 @@ cuts-preserved c =
       room = omega (
         arith,
         c.cuts.invariant.room,
-        c.in-Ok.ensures.len,
+        c.push_in_room.ensures.len,
         c.in-Some.ensures.len,
-        c.in-Ok.ensures.capacity,
+        c.push_in_room.ensures.capacity,
       );
-      used = omega (arith, c.cuts.invariant.used, c.in-Ok.ensures.len, c.in-Some.ensures.len);
-      grown = omega (arith, c.cuts.invariant.grown, c.in-Ok.ensures.capacity);
+      used = omega (arith, c.cuts.invariant.used, c.push_in_room.ensures.len, c.in-Some.ensures.len);
+      grown = omega (arith, c.cuts.invariant.grown, c.push_in_room.ensures.capacity);
     }

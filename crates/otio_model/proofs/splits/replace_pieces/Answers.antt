@@ -1,7 +1,6 @@
-use Rattle.std.proofs.Common.{arith, ◌-◌, ap, ◌∙◌, length}
-use Rattle.otio_model.specs.Edits.{replaced}
+use Rattle.std.proofs.Common.{arith, ◌-◌, ap, length}
 use Rattle.otio_model.proofs.Windows.{few, works, length_replaced, length_without, items_after}
-use Rattle.otio_model.proofs.Windows.{pieces_after, taken_after, poured}
+use Rattle.otio_model.proofs.Windows.{pieces_after, taken_after, taken_out, poured}
 use Rattle.otio_model.proofs.splits.replace_pieces.Goals as goal
 
 pub into_room-requires-clause-room : goal.into_room-requires-clause-room
@@ -27,38 +26,20 @@ pour-requires-clause-room c =
 
 pub replace-requires-2-clause-there : goal.replace-requires-2-clause-there
 replace-requires-2-clause-there c =
-    let w = works c.args.pieces.now.items c.as_slice.result.now c.into_room.new.items.items
-    c.replace.new.taken.items c.reverse.new.self.items c.pour.new.mid.items c.args.at
-    c.args.count (length c.args.put.now.items)
-    c.len.result c.window-first.result.0 c.window-first.result.1 c.window-first.result.2
-    c.into_room.ensures.items c.as_slice.ensures.value
-    (omega (arith, c.len.ensures, c.args.put.now.ok))
-    c.window-first.ensures c.replace.ensures.taken c.reverse.ensures.items c.pour.ensures.items
-    in
+    let w = works c.args.put.now c.into_room.ensures.items c.as_slice.ensures.value c.len.ensures
+    c.window-first.ensures c.replace.ensures.taken c.reverse.ensures.items c.pour.ensures.items in
     omega (arith, w.there, c.pour.new.mid.ok)
 
 pub replace-requires-2-clause-room : goal.replace-requires-2-clause-room
 replace-requires-2-clause-room c =
-    let w = works c.args.pieces.now.items c.as_slice.result.now c.into_room.new.items.items
-    c.replace.new.taken.items c.reverse.new.self.items c.pour.new.mid.items c.args.at
-    c.args.count (length c.args.put.now.items)
-    c.len.result c.window-first.result.0 c.window-first.result.1 c.window-first.result.2
-    c.into_room.ensures.items c.as_slice.ensures.value
-    (omega (arith, c.len.ensures, c.args.put.now.ok))
-    c.window-first.ensures c.replace.ensures.taken c.reverse.ensures.items c.pour.ensures.items
-    in
+    let w = works c.args.put.now c.into_room.ensures.items c.as_slice.ensures.value c.len.ensures
+    c.window-first.ensures c.replace.ensures.taken c.reverse.ensures.items c.pour.ensures.items in
     omega (arith, w.short, c.requires.mid_room, c.pour.ensures.room, c.pour.new.mid.ok)
 
 pub cut-requires-clause-enough : goal.cut-requires-clause-enough
 cut-requires-clause-enough c =
-    let w = works c.args.pieces.now.items c.as_slice.result.now c.into_room.new.items.items
-    c.replace.new.taken.items c.reverse.new.self.items c.pour.new.mid.items c.args.at
-    c.args.count (length c.args.put.now.items)
-    c.len.result c.window-first.result.0 c.window-first.result.1 c.window-first.result.2
-    c.into_room.ensures.items c.as_slice.ensures.value
-    (omega (arith, c.len.ensures, c.args.put.now.ok))
-    c.window-first.ensures c.replace.ensures.taken c.reverse.ensures.items c.pour.ensures.items
-    in
+    let w = works c.args.put.now c.into_room.ensures.items c.as_slice.ensures.value c.len.ensures
+    c.window-first.ensures c.replace.ensures.taken c.reverse.ensures.items c.pour.ensures.items in
     omega (
       arith,
       w.short,
@@ -72,17 +53,10 @@ cut-requires-clause-enough c =
 
 pub replace-requires-3-clause-room : goal.replace-requires-3-clause-room
 replace-requires-3-clause-room c =
-    let w = works c.args.pieces.now.items c.as_slice.result.now c.into_room.new.items.items
-    c.replace.new.taken.items c.reverse.new.self.items c.pour.new.mid.items c.args.at
-    c.args.count (length c.args.put.now.items)
-    c.len.result c.window-first.result.0 c.window-first.result.1 c.window-first.result.2
-    c.into_room.ensures.items c.as_slice.ensures.value
-    (omega (arith, c.len.ensures, c.args.put.now.ok))
-    c.window-first.ensures c.replace.ensures.taken c.reverse.ensures.items c.pour.ensures.items
-    in
-    let without = c.replace.ensures.items
-    ∙ ap (λ l. replaced c.window-first.result.0
-    (c.window-first.result.1 - c.window-first.result.0) l c.into_room.new.items.items)
+    let w = works c.args.put.now c.into_room.ensures.items c.as_slice.ensures.value c.len.ensures
+    c.window-first.ensures c.replace.ensures.taken c.reverse.ensures.items c.pour.ensures.items in
+    let without = taken_out c.into_room.new.items.items c.window-first.result.0
+    (c.window-first.result.1 - c.window-first.result.0) c.replace.ensures.items
     c.requires.made_empty in
     omega (
       arith,
@@ -101,17 +75,10 @@ replace-requires-3-clause-room c =
 
 pub returns-clause-items : goal.returns-clause-items
 returns-clause-items c =
-    let w = works c.args.pieces.now.items c.as_slice.result.now c.into_room.new.items.items
-    c.replace.new.taken.items c.reverse.new.self.items c.pour.new.mid.items c.args.at
-    c.args.count (length c.args.put.now.items)
-    c.len.result c.window-first.result.0 c.window-first.result.1 c.window-first.result.2
-    c.into_room.ensures.items c.as_slice.ensures.value
-    (omega (arith, c.len.ensures, c.args.put.now.ok))
-    c.window-first.ensures c.replace.ensures.taken c.reverse.ensures.items c.pour.ensures.items
-    in
-    let without = c.replace.ensures.items
-    ∙ ap (λ l. replaced c.window-first.result.0
-    (c.window-first.result.1 - c.window-first.result.0) l c.into_room.new.items.items)
+    let w = works c.args.put.now c.into_room.ensures.items c.as_slice.ensures.value c.len.ensures
+    c.window-first.ensures c.replace.ensures.taken c.reverse.ensures.items c.pour.ensures.items in
+    let without = taken_out c.into_room.new.items.items c.window-first.result.0
+    (c.window-first.result.1 - c.window-first.result.0) c.replace.ensures.items
     c.requires.made_empty in
     items_after c.args.pieces.now.items c.into_room.new.items.items c.replace.new.taken.items
     c.cut.new.made.items c.replace.new.items.items c.replace-3.new.items.items
@@ -122,17 +89,10 @@ returns-clause-items c =
 
 pub returns-clause-pieces : goal.returns-clause-pieces
 returns-clause-pieces c =
-    let w = works c.args.pieces.now.items c.as_slice.result.now c.into_room.new.items.items
-    c.replace.new.taken.items c.reverse.new.self.items c.pour.new.mid.items c.args.at
-    c.args.count (length c.args.put.now.items)
-    c.len.result c.window-first.result.0 c.window-first.result.1 c.window-first.result.2
-    c.into_room.ensures.items c.as_slice.ensures.value
-    (omega (arith, c.len.ensures, c.args.put.now.ok))
-    c.window-first.ensures c.replace.ensures.taken c.reverse.ensures.items c.pour.ensures.items
-    in
-    let without = c.replace.ensures.items
-    ∙ ap (λ l. replaced c.window-first.result.0
-    (c.window-first.result.1 - c.window-first.result.0) l c.into_room.new.items.items)
+    let w = works c.args.put.now c.into_room.ensures.items c.as_slice.ensures.value c.len.ensures
+    c.window-first.ensures c.replace.ensures.taken c.reverse.ensures.items c.pour.ensures.items in
+    let without = taken_out c.into_room.new.items.items c.window-first.result.0
+    (c.window-first.result.1 - c.window-first.result.0) c.replace.ensures.items
     c.requires.made_empty in
     pieces_after c.args.pieces.now.items c.into_room.new.items.items c.replace.new.taken.items
     c.cut.new.made.items c.replace.new.items.items c.replace-3.new.items.items
@@ -142,14 +102,8 @@ returns-clause-pieces c =
 
 pub returns-clause-taken : goal.returns-clause-taken
 returns-clause-taken c =
-    let w = works c.args.pieces.now.items c.as_slice.result.now c.into_room.new.items.items
-    c.replace.new.taken.items c.reverse.new.self.items c.pour.new.mid.items c.args.at
-    c.args.count (length c.args.put.now.items)
-    c.len.result c.window-first.result.0 c.window-first.result.1 c.window-first.result.2
-    c.into_room.ensures.items c.as_slice.ensures.value
-    (omega (arith, c.len.ensures, c.args.put.now.ok))
-    c.window-first.ensures c.replace.ensures.taken c.reverse.ensures.items c.pour.ensures.items
-    in
+    let w = works c.args.put.now c.into_room.ensures.items c.as_slice.ensures.value c.len.ensures
+    c.window-first.ensures c.replace.ensures.taken c.reverse.ensures.items c.pour.ensures.items in
     taken_after c.args.pieces.now.items c.into_room.new.items.items c.replace.new.taken.items
     c.pour.new.mid.items c.replace-2.new.taken.items c.args.at c.args.count
     (length c.args.put.now.items)

@@ -1,6 +1,5 @@
-use Rattle.std.proofs.Common.{arith, ap, vec_len, inr, get_or}
+use Rattle.std.proofs.Common.{arith, inr, get_or}
 use Rattle.otio_model.proofs.Cuts.{same_default}
-use Rattle.otio_model.specs.declared.lists.Piece.{Piece}
 use Rattle.otio_model.proofs.Windows.{window_same, window_after, window_before, taken_short}
 use Rattle.otio_model.proofs.Windows.{piece_here}
 use Rattle.otio_model.proofs.splits.window.Goals as goal
@@ -28,26 +27,10 @@ returns-then-end-pieces c =
 
 pub overflow_sub-result-then-first-gt0 : goal.overflow_sub-result-then-first-gt0
 overflow_sub-result-then-first-gt0 c =
-    (window_before c.args.pieces.now c.args.at c.args.count c.args.put c.start_piece-first.result.0
-    c.end_piece-end.result.0 c.start_piece-first.result.1 c.end_piece-end.result.1
-    c.len-long.result c.index-pieces-first.result c.start_piece-first.ensures
-    c.end_piece-end.ensures c.requires.pieces (omega arith) c.index-pieces-first.is
-    (omega (
-      arith,
-      c.len-long.ensures,
-      c.index-pieces-first.result.items.ok,
-      ap (λ (x : Piece). vec_len x.items) c.index-pieces-first.is,
-    ))).1
+    (window_before c.args.put c.start_piece-first.ensures c.end_piece-end.ensures c.requires.pieces
+    (omega arith) c.index-pieces-first.is c.len-long.ensures).1
 
 pub returns-then-first-gt0 : goal.returns-then-first-gt0
 returns-then-first-gt0 c =
-    (window_before c.args.pieces.now c.args.at c.args.count c.args.put c.start_piece-first.result.0
-    c.end_piece-end.result.0 c.start_piece-first.result.1 c.end_piece-end.result.1
-    c.len-long.result c.index-pieces-first.result c.start_piece-first.ensures
-    c.end_piece-end.ensures c.requires.pieces (omega arith) c.index-pieces-first.is
-    (omega (
-      arith,
-      c.len-long.ensures,
-      c.index-pieces-first.result.items.ok,
-      ap (λ (x : Piece). vec_len x.items) c.index-pieces-first.is,
-    ))).0
+    (window_before c.args.put c.start_piece-first.ensures c.end_piece-end.ensures c.requires.pieces
+    (omega arith) c.index-pieces-first.is c.len-long.ensures).0

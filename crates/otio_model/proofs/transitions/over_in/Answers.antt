@@ -3,26 +3,21 @@ use Rattle.std.proofs.Common.{arith, sym, ◌+◌}
 use Rattle.std.proofs.lemmas.Int.{ints}
 use Rattle.otio_model.specs.Seeks.{lens}
 use Rattle.otio_model.proofs.OverLemmas.{over_here, over_passed}
-use Rattle.otio_model.proofs.SeekLemmas.{length-lens, total-take_le, total-take_more}
+use Rattle.otio_model.proofs.SeekLemmas.{length-lens, start_fits, total-take_le, total-take_more}
 use Rattle.otio_model.proofs.transitions.over_in.Goals as goal
 
 pub overflow_add-first : goal.overflow_add-first
 overflow_add-first c =
     omega (
       arith,
-      c.items.invariant.start,
-      total-take_le (lens c.args.items.now) c.items.index,
-      c.requires.fits,
+      start_fits (lens c.args.items.now) c.items.index c.args.first c.items.start
+          c.items.invariant.start c.requires.fits,
     )
 
 pub ticks_from-requires-clause-start : goal.ticks_from-requires-clause-start
 ticks_from-requires-clause-start c =
-    omega (
-      arith,
-      c.items.invariant.start,
-      total-take_le (lens c.args.items.now) c.items.index,
-      c.requires.fits,
-    )
+    start_fits (lens c.args.items.now) c.items.index c.args.first c.items.start
+    c.items.invariant.start c.requires.fits
 
 pub returns-then-is_over-clause-found : goal.returns-then-is_over-clause-found
 returns-then-is_over-clause-found c =

@@ -1,6 +1,7 @@
 -- A piece whose overlaps don't reach the instant.
 use Rattle.std.proofs.Common.{arith}
-use Rattle.otio_model.proofs.OverLemmas.{kept_ticks, piece_ahead, piece_behind}
+use Rattle.otio_model.proofs.OverLemmas.{piece_ahead, piece_behind}
+use Rattle.otio_model.proofs.SeekLemmas.{kept_ticks}
 use Rattle.otio_model.proofs.transitions.over_in_piece.Goals as goal
 
 pub returns-then-saturating_add-first-clause-none :

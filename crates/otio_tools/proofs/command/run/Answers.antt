@@ -1,6 +1,6 @@
 use Rattle.std.proofs.Common.{refl, map, string_bytes}
-use Rattle.otio_tools.proofs.Ending.{usage_given}
-use Rattle.otio_tools.proofs.Completing.{completes}
+use Rattle.otio_tools.proofs.RunEnds.{usage_given}
+use Rattle.otio_tools.proofs.OneAnswer.{completes}
 use Rattle.otio_tools.proofs.Sending.{stays_same}
 use Rattle.otio_tools.specs.Run.{streams}
 use Rattle.otio_tools.specs.declared.Status.TheVariants.{Usage}

@@ -1,4 +1,4 @@
-use Rattle.otio_tools.proofs.Ending.{carried, carried_still, carried_calm, never_usage}
+use Rattle.otio_tools.proofs.RunEnds.{carried, carried_still, carried_calm, never_usage}
 use Rattle.otio_tools.specs.Texts.{text_at}
 use Rattle.otio_tools.proofs.command.serve.Goals as goal
 

@@ -1,5 +1,5 @@
-use Rattle.dev_io.proofs.Buffered.{puts_then, flush_told, flush_cause}
-use Rattle.otio_tools.proofs.Saying.{says}
+use Rattle.dev_io.proofs.BufferLemmas.{puts_then, flush_told, flush_cause}
+use Rattle.otio_tools.proofs.MessageLemmas.{says}
 use Rattle.otio_tools.proofs.say.say_why.Goals as goal
 
 pub returns : goal.returns

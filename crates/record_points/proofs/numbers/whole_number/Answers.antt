@@ -1,7 +1,7 @@
 use Rattle.std.proofs.Common.{rules, subst, sym}
 use Rattle.std.proofs.lemmas.Bool.{false≢true}
 use Rattle.record_points.specs.Digits.{IsWhole}
-use Rattle.record_points.proofs.Wholes.{whole_of, read_number, is_read}
+use Rattle.record_points.proofs.WholeNumbers.{whole_of, read_number, is_read}
 use Rattle.record_points.proofs.numbers.whole_number.Goals as goal
 
 pub returns-then-not-is_whole : goal.returns-then-not-is_whole

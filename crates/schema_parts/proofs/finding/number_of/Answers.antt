@@ -1,6 +1,7 @@
 use Rattle.std.proofs.Common.{arith}
 use Rattle.std.proofs.lemmas.Str.Parse.{digit_at}
-use Rattle.schema_parts.proofs.Points.{prefix_small, pushed}
+use Rattle.tick_time.proofs.DigitBytes.{pushed}
+use Rattle.schema_parts.proofs.Points.{prefix_small}
 use Rattle.schema_parts.proofs.finding.number_of.Goals as goal
 
 pub overflow_mul-number : goal.overflow_mul-number

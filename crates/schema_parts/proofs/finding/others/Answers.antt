@@ -4,7 +4,7 @@ use Rattle.json_value.specs.declared.Json.{Json}
 use Rattle.schema_rows.specs.Schemas.{schema_key, rows_of}
 use Rattle.schema_rows.specs.Families.{is_row}
 use Rattle.std.proofs.lemmas.List.{take_all}
-use Rattle.schema_parts.proofs.Kept.{AreDistinct-filter}
+use Rattle.schema_parts.proofs.KeptMembers.{AreDistinct-filter}
 use Rattle.schema_parts.proofs.finding.others.Goals as goal
 
 pub of-requires-2 : goal.of-requires-2

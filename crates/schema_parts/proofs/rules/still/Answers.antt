@@ -1,4 +1,4 @@
-use Rattle.schema_parts.proofs.Stilled.{unstilled}
+use Rattle.schema_parts.proofs.StillSpeeds.{unstilled}
 use Rattle.schema_parts.proofs.rules.still.Goals as goal
 
 pub returns-in_default : goal.returns-in_default

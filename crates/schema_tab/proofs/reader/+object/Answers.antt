@@ -14,7 +14,8 @@ use Rattle.schema_parts.proofs.Objects.{foreign_by}
 use Rattle.schema_tab.specs.Depths.{depth}
 use Rattle.schema_tab.proofs.Exits.{item_inside, pair_inside, list_more, list_fails, items_end, objects_end, effects_end, markers_end, second_at, names_more, media_end, row_more, row_fails, row_end}
 use Rattle.schema_tab.proofs.Measures.{depth-Map, looked_up_falls, looked_up_numerals}
-use Rattle.schema_tab.proofs.Members.{row_given, row_refused, row_absent, row_missing, items_refused, objects_refused, effects_refused, markers_refused, media_refused, stack_refused, wrong_field, no_list}
+use Rattle.schema_tab.proofs.Members.{row_given, row_refused, row_absent, row_missing, items_refused, objects_refused, effects_refused, markers_refused, media_refused, stack_refused, no_list}
+use Rattle.schema_parts.proofs.Asking.{wrong_field}
 use Rattle.schema_tab.proofs.Whole.{object_read, object_refused, foreign_any}
 use Rattle.schema_tab.proofs.reader.+object.Goals as goal
 
@@ -165,7 +166,7 @@ read_effects-loop-value-preserved t c =
 
 pub read_effects-returns-clause-value : goal.read_effects-returns-clause-value
 read_effects-returns-clause-value t c =
-    effects_end c.args.place.now c.args.list.now c.as_slice-values.result.now c.loop-value.value-index c.loop-value.effects.items _ c.as_slice-values.ensures (omega (arith, c.loop-value-test.false)) c.of.ensures c.loop-value.invariant
+    effects_end c.args.place.now c.args.list.now c.as_slice-values.result.now c.loop-value.value-index c.loop-value.effects.items _ c.as_slice-values.ensures (omega (arith, c.loop-value-test.false)) (c.of-2.ensures ∙ c.of.ensures) c.loop-value.invariant
 
 pub read_markers-read_object-requires : goal.read_markers-read_object-requires
 read_markers-read_object-requires t c =

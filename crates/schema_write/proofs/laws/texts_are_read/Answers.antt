@@ -1,4 +1,4 @@
-use Rattle.schema_write.proofs.Reread.{speed_reads, rate_reads, time_reads}
+use Rattle.schema_write.proofs.RereadTexts.{speed_reads, rate_reads, time_reads}
 use Rattle.schema_write.proofs.laws.texts_are_read.Goals as goal
 
 pub returns-clause-speeds : goal.returns-clause-speeds

@@ -1,4 +1,4 @@
-use Rattle.schema_write.proofs.Tabled.{object_tabled, item_tabled, effect_tabled, marker_tabled, medium_tabled}
+use Rattle.schema_write.proofs.TableForms.{object_tabled, item_tabled, effect_tabled, marker_tabled, medium_tabled}
 use Rattle.schema_write.proofs.laws.written_by_tables.Goals as goal
 
 pub returns-clause-objects : goal.returns-clause-objects

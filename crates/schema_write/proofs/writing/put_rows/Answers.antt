@@ -1,5 +1,5 @@
 use Rattle.std.proofs.Common.{arith, ◌∙◌}
-use Rattle.schema_write.proofs.Added.{left-behind, left-read, row_added, rows_added}
+use Rattle.schema_write.proofs.AddedMembers.{left-behind, left-read, row_added, rows_added}
 use Rattle.schema_write.proofs.writing.put_rows.Goals as goal
 
 pub rows-preserved : goal.rows-preserved

@@ -47,11 +47,13 @@ pub the_empty : List (Name × ⊥)
 the_empty = []
 
 -- the fields: one `Vec` of the pairs
-abbrev fields : Former {0}
-fields = via (vec.the_former (entry this) Global) Inside (λ X a. a.pairs) (λ X v. record { pairs = v }) (λ X a. refl) (λ X v. refl)
+abbrev of_pairs : Former {0}
+of_pairs = via (vec.the_former (entry this) Global) Inside (λ X a. a.pairs)
+    (λ X v. record { pairs = v }) (λ X a. refl) (λ X v. refl)
 
 -- the names stay where the values are replaced
-names_kept : {X Y : Type 0} (h : X → Y) (ps : List (Name × X)) → names_of (map (on_value h) ps) ≡ names_of ps
+names_kept : {X Y : Type 0} (h : X → Y) (ps : List (Name × X))
+    → names_of (map (on_value h) ps) ≡ names_of ps
 names_kept h [] = refl
 names_kept h (p ∷ ps) = ap (λ l. p.0 ∷ l) (names_kept h ps)
 
@@ -62,16 +64,29 @@ pair_row R = Tuple (text.the_row ∷ R ∷ [])
 module _ (R S : RattleType) (h : R.Denot → S.Denot) where
   -- values of two types that are alike have pairs that are alike
   pair_places : Alike R S h → Alike (pair_row R) (pair_row S) (on_value h)
-  pair_places a = struct_places (tuple_type (text.the_row ∷ R ∷ [])) (tuple_type (text.the_row ∷ S ∷ [])) (λ n. n, (h, tt)) _ (λ d. refl) refl (stays text.the_row, (laid R S h a, tt))
+  pair_places a = struct_places (tuple_type (text.the_row ∷ R ∷ []))
+      (tuple_type (text.the_row ∷ S ∷ [])) (λ n. n, (h, tt)) _ (λ d. refl) refl
+      (stays text.the_row, (laid R S h a, tt))
 
   -- and named values that are alike
-  pub the_places : Alike R S h → Alike (C.the_row R) (C.the_row S) ((the_former this).map R.Denot S.Denot h)
-  the_places a = view_places fields (the_former this) view (λ X Y k u. refl) (λ X u. refl) R.Denot S.Denot h (C.the_row R).coded (C.the_row S).coded
+  pub the_places : Alike R S h
+      → Alike (C.the_row R) (C.the_row S) ((the_former this).map R.Denot S.Denot h)
+  the_places a = view_places of_pairs (the_former this) view (λ X Y k u. refl) (λ X u. refl)
+      R.Denot S.Denot h (C.the_row R).coded (C.the_row S).coded
       (invariant R.Denot) (invariant S.Denot) (λ u. AreDistinct-prop _) (λ u. AreDistinct-prop _)
-      (λ u. subst AreDistinct (sym (names_kept h u.pairs.items))) (λ u. subst AreDistinct (names_kept h u.pairs.items))
+      (λ u. subst AreDistinct (sym (names_kept h u.pairs.items)))
+      (λ u. subst AreDistinct (names_kept h u.pairs.items))
       (over (I.the_row R)) (over (I.the_row S))
-      (struct_places (I.the_type R) (I.the_type S) (vec.mapped (on_value h), tt) _ (λ d. refl) refl (laid _ _ _ (vec.the_places heap.the_row ghosts (pair_row R) (pair_row S) (on_value h) (pair_places a)), tt))
+      (struct_places (I.the_type R) (I.the_type S) (vec.mapped (on_value h), tt) _ (λ d. refl)
+      refl (
+        laid _ _ _ (vec.the_places heap.the_row ghosts (pair_row R) (pair_row S) (on_value h)
+            (pair_places a)),
+        tt,
+      ))
 
   -- the code of named values is that of their names and values
-  pub the_codes_placed : Recodes R S h → Recodes (C.the_row R) (C.the_row S) ((the_former this).map R.Denot S.Denot h)
-  the_codes_placed e d = sym (code_map (coded× (coded_list coded_ℕ) R.coded).code (coded× (coded_list coded_ℕ) S.coded).code (on_value h) (λ x i. gcons ((coded_list coded_ℕ).code x.0) (sym (e x.1) i)) d)
+  pub the_codes_placed : Recodes R S h
+      → Recodes (C.the_row R) (C.the_row S) ((the_former this).map R.Denot S.Denot h)
+  the_codes_placed e d = sym (code_map (coded× (coded_list coded_ℕ) R.coded).code
+      (coded× (coded_list coded_ℕ) S.coded).code (on_value h)
+      (λ x i. gcons ((coded_list coded_ℕ).code x.0) (sym (e x.1) i)) d)

@@ -1,13 +1,13 @@
 -- The walk up to the first overlap that holds the instant gives its sides.
-use Rattle.std.proofs.Common.{refl, ap, ◌∙◌, ◌≡◌, ℤ, ◌+ℤ◌, ◌-ℤ◌, to_z, of_z, arith}
+use Rattle.std.proofs.Common.{refl, ℤ, ◌+ℤ◌, ◌-ℤ◌, to_z, of_z, arith}
 use Rattle.std.specs.Int.{w128}
 use Rattle.std.proofs.lemmas.Int.{ints}
 use Rattle.otio_model.specs.Trees.{items_of}
 use Rattle.show_prog.specs.Walk.{ticks_at}
 use Rattle.coord.proofs.Members.{index_few}
-use Rattle.show_prog.proofs.Sound.{here}
+use Rattle.show_prog.proofs.SoundnessFacts.{here}
 use Rattle.show_prog.proofs.Walk.{later, walk_here, active_within}
-use Rattle.show_prog.proofs.Reached.{walked_to, held_is}
+use Rattle.show_prog.proofs.ReachedItems.{walked_to, held_is}
 use Rattle.show_prog.proofs.lists.active_at.Goals as goal
 
 pub ticks_at-requires-clause-within : goal.ticks_at-requires-clause-within

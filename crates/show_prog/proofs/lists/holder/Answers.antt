@@ -1,9 +1,9 @@
 -- The seat that was found holds the instant.
-use Rattle.std.proofs.Common.{arith, ℤ, ◌-ℤ◌, FitsSigned, to_z, of_z, to_z-of_z, refl}
+use Rattle.std.proofs.Common.{arith, ◌-ℤ◌, FitsSigned, to_z, of_z, to_z-of_z, refl}
 use Rattle.std.specs.Int.{w128}
 use Rattle.std.proofs.lemmas.Int.{ints}
 use Rattle.show_prog.specs.declared.lists.Held.{Held}
-use Rattle.show_prog.proofs.Seated.{seated, unseated}
+use Rattle.show_prog.proofs.SeatLemmas.{seated}
 use Rattle.show_prog.proofs.lists.holder.Goals as goal
 
 pub returns-in-Some : goal.returns-in-Some

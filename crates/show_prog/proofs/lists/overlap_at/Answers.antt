@@ -1,7 +1,7 @@
 -- Where no overlap holds the instant, nothing is mixed.
 use Rattle.std.proofs.Common.{FitsSigned, to_z-of_z}
 use Rattle.std.specs.Int.{w128}
-use Rattle.show_prog.proofs.Reached.{none_mixed}
+use Rattle.show_prog.proofs.ReachedItems.{none_mixed}
 use Rattle.show_prog.proofs.lists.overlap_at.Goals as goal
 
 pub returns-in-None-clause-shows : goal.returns-in-None-clause-shows

@@ -1,6 +1,6 @@
 use Rattle.std.proofs.Common.{sym, ap, ◌∙◌, FitsSigned, to_z-of_z, rules}
 use Rattle.std.specs.Int.{w128}
-use Rattle.dev_io.proofs.Buffered.{puts_then, puts_as}
+use Rattle.dev_io.proofs.BufferLemmas.{puts_then, puts_as}
 use Rattle.show_prog.specs.Pictures.{image_of}
 use Rattle.show_prog.specs.Texts.{image_text}
 use Rattle.show_prog.proofs.PrintTexts.{image_of-Mix}

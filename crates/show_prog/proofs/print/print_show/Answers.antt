@@ -1,4 +1,4 @@
-use Rattle.dev_io.proofs.Buffered.{flush_told}
+use Rattle.dev_io.proofs.BufferLemmas.{flush_told}
 use Rattle.show_prog.proofs.print.print_show.Goals as goal
 
 pub returns-clause-told : goal.returns-clause-told

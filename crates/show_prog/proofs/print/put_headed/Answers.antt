@@ -1,5 +1,5 @@
 use Rattle.std.proofs.Common.{◌∙◌}
-use Rattle.dev_io.proofs.Buffered.{puts_then}
+use Rattle.dev_io.proofs.BufferLemmas.{puts_then}
 use Rattle.show_prog.proofs.print.put_headed.Goals as goal
 
 pub returns : goal.returns

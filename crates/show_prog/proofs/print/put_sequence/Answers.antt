@@ -1,5 +1,5 @@
 use Rattle.std.proofs.Common.{◌∙◌}
-use Rattle.dev_io.proofs.Buffered.{puts_then, puts_as}
+use Rattle.dev_io.proofs.BufferLemmas.{puts_then, puts_as}
 use Rattle.show_prog.proofs.PrintTexts.{sequence_parts}
 use Rattle.show_prog.proofs.print.put_sequence.Goals as goal
 

@@ -1,6 +1,6 @@
 use Rattle.std.proofs.Common.{FitsSigned, to_z-of_z, rules}
 use Rattle.std.specs.Int.{w128}
-use Rattle.dev_io.proofs.Buffered.{puts_then}
+use Rattle.dev_io.proofs.BufferLemmas.{puts_then}
 use Rattle.show_prog.proofs.print.put_weight.Goals as goal
 
 pub returns : goal.returns

@@ -1,4 +1,4 @@
-use Rattle.dev_io.proofs.Buffered.{puts_then}
+use Rattle.dev_io.proofs.BufferLemmas.{puts_then}
 use Rattle.show_prog.proofs.print.put_wipe.Goals as goal
 
 pub returns : goal.returns

@@ -1,7 +1,7 @@
-use Rattle.std.proofs.Common.{◌≡◌, ◌∙◌, ap, ap₂, sym, ℤ, pos, ◌-ℤ◌, ◌*ℤ◌, to_z, of_z, arith}
+use Rattle.std.proofs.Common.{◌≡◌, ◌∙◌, ap, ap₂, sym, ℤ, ◌-ℤ◌, ◌*ℤ◌, to_z, of_z, arith}
 use Rattle.std.specs.Int.{w128}
 use Rattle.std.proofs.lemmas.Int.{ints}
-use Rattle.show_prog.proofs.Far.{instant_by, none_by_ticks, value_by}
+use Rattle.show_prog.proofs.FarInstants.{instant_by, none_by_ticks, value_by}
 use Rattle.show_prog.proofs.program.instant.Goals as goal
 
 pub returns-in-Some : goal.returns-in-Some

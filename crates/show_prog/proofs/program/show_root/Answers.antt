@@ -4,7 +4,7 @@ use Rattle.std.proofs.lemmas.Int.{ints}
 use Rattle.coord.specs.Sights.{sight}
 use Rattle.coord.specs.Sights.{exact}
 use Rattle.coord.specs.Images.{image}
-use Rattle.show_prog.proofs.Sound.{no_fault}
+use Rattle.show_prog.proofs.SoundnessFacts.{no_fault}
 use Rattle.show_prog.proofs.ShowLemmas.{image_of-Blank, ok_then, err_then}
 use Rattle.show_prog.proofs.Roots.{child_in, child_before, child_behind, child_short}
 use Rattle.show_prog.proofs.program.show_root.Goals as goal

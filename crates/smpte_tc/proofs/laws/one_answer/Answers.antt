@@ -1,5 +1,5 @@
 -- One reading and one label.
-use Rattle.smpte_tc.proofs.Written.{one_reading_at, one_writing_at}
+use Rattle.smpte_tc.proofs.WrittenLabels.{one_reading_at, one_writing_at}
 use Rattle.smpte_tc.proofs.laws.one_answer.Goals as goal
 
 pub returns : goal.returns

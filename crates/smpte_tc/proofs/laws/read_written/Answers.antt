@@ -2,7 +2,7 @@
 use Rattle.std.proofs.Common.{ℕ, ℤ, List, Ok, subst, to_z-of_z}
 use Rattle.smpte_tc.specs.Modes.{mode_of}
 use Rattle.smpte_tc.specs.Answers.{means_drop, ReadsAt, WritesAt}
-use Rattle.smpte_tc.proofs.Rounds.{read_back}
+use Rattle.smpte_tc.proofs.RoundTrip.{read_back}
 use Rattle.smpte_tc.proofs.laws.read_written.Goals as goal
 
 pub returns-in-Ok : goal.returns-in-Ok

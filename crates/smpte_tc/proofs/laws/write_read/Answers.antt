@@ -3,7 +3,7 @@ use Rattle.std.proofs.Common.{◌≡◌, ℤ, Bool, subst, arith, to_z, of_z, w6
 use Rattle.std.proofs.lemmas.Int.{ints}
 use Rattle.smpte_tc.specs.Modes.{mode_of}
 use Rattle.smpte_tc.specs.Answers.{means_drop, WritesAt}
-use Rattle.smpte_tc.proofs.Rounds.{write_back, read_small}
+use Rattle.smpte_tc.proofs.RoundTrip.{write_back, read_small}
 use Rattle.smpte_tc.proofs.laws.write_read.Goals as goal
 
 pub returns-in-Ok : goal.returns-in-Ok

@@ -1,6 +1,6 @@
 use Rattle.std.proofs.Common.{◌≡◌, rules, arith}
 use Rattle.smpte_tc.specs.Answers.{means_drop}
-use Rattle.smpte_tc.proofs.Rounds.{read_small}
+use Rattle.smpte_tc.proofs.RoundTrip.{read_small}
 use Rattle.smpte_tc.proofs.FrameLemmas.{frame_read, frame_refused, same_back}
 use Rattle.smpte_tc.proofs.timecode.label_frame.Goals as goal
 

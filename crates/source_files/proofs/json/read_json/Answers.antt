@@ -1,10 +1,10 @@
 use Rattle.std.proofs.Common.{◌++◌, Ok, take, arith}
 use Rattle.std.proofs.lemmas.Grind.{common_steps}
-use Rattle.json_text.proofs.Named.{live_all}
+use Rattle.json_text.proofs.NamedFaults.{live_all}
 use Rattle.json_value.specs.declared.Json.{Json}
 use Rattle.dev_io.specs.declared.files.Failed.{Failed as FailedCall}
 use Rattle.source_files.specs.Formats.{IsJson, RefusesJson, IsCalmJson}
-use Rattle.source_files.proofs.Taking.{takes_more, takes_all, same_more}
+use Rattle.source_files.proofs.Taking.{taken_more, takes_all, same_more}
 use Rattle.source_files.proofs.Handing.{judged, refused, failed}
 use Rattle.source_files.proofs.JsonLemmas.{front_refused, with_bytes}
 use Rattle.source_files.proofs.json.read_json.Goals as goal
@@ -12,16 +12,15 @@ use Rattle.source_files.proofs.json.read_json.Goals as goal
 pub pieces-preserved : goal.pieces-preserved
 pieces-preserved g c =
     let i = c.pieces.invariant in
-    let buf = c.read.new.buf in
-    let n = c.in-Ok.count in
+    let more = taken_more FailedCall i.fed.0 _ _ _ c.in-Ok.count c.read.new.buf i.fed.3 i.same c.in-Ok.ensures.told in
     record {
       fed = (
-        i.fed.0 ++ take n buf,
+        i.fed.0 ++ take c.in-Ok.count c.read.new.buf,
         c.in-Ok-feed.ensures.read i.fed.0 i.fed.1,
         grind (arith, common_steps),
-        takes_more FailedCall i.fed.0 _ _ _ n buf i.fed.3 c.in-Ok.ensures.told,
+        more.0,
       );
-      same = same_more FailedCall _ _ _ (Ok n) buf i.same c.in-Ok.ensures.told;
+      same = more.1;
       calm = omega (arith, c.in-Ok.ensures.cause.failed, i.calm);
     }
 
@@ -53,10 +52,8 @@ returns-in-Err-clause-told g c =
 pub returns-in-Err-feed-clause-told : goal.returns-in-Err-feed-clause-told
 returns-in-Err-feed-clause-told g c =
     let i = c.pieces.invariant in
-    let buf = c.read.new.buf in
-    let n = c.in-Ok.count in
-    refused Json IsJson RefusesJson IsCalmJson (i.fed.0 ++ take n buf) _ _ c.json_refusal.result
-    (same_more FailedCall _ _ _ (Ok n) buf i.same c.in-Ok.ensures.told)
-    (takes_more FailedCall i.fed.0 _ _ _ n buf i.fed.3 c.in-Ok.ensures.told)
-    (λ rest. front_refused c.in-Err-feed.fault (i.fed.0 ++ take n buf) rest c.json_refusal.result
+    let bytes = i.fed.0 ++ take c.in-Ok.count c.read.new.buf in
+    let more = taken_more FailedCall i.fed.0 _ _ _ c.in-Ok.count c.read.new.buf i.fed.3 i.same c.in-Ok.ensures.told in
+    refused Json IsJson RefusesJson IsCalmJson bytes _ _ c.json_refusal.result more.1 more.0
+    (λ rest. front_refused c.in-Err-feed.fault bytes rest c.json_refusal.result
     (c.in-Err-feed.ensures.fault i.fed.0 i.fed.1) c.json_refusal.ensures)

@@ -1,5 +1,5 @@
 use Rattle.std.proofs.Common.{inr, refl}
-use Rattle.json_text.proofs.Named.{live_all}
+use Rattle.json_text.proofs.NamedFaults.{live_all}
 use Rattle.source_files.proofs.JsonLemmas.{fault_refused}
 use Rattle.source_files.proofs.json.value_of.Goals as goal
 

@@ -1,5 +1,5 @@
 use Rattle.std.proofs.Common.{inl}
-use Rattle.upgrade_law.proofs.Upgraded.{upgraded_numerals}
+use Rattle.upgrade_law.proofs.UpgradedNumerals.{upgraded_numerals}
 use Rattle.otio_model.specs.declared.roots.Object.{Object}
 use Rattle.json_value.specs.declared.Json.{Json}
 use Rattle.source_files.specs.Formats.{IsJson, IsObject, IsCalmJson, RefusesJson, RefusesObject}

@@ -1,6 +1,6 @@
 use Rattle.std.proofs.Common.{◌≤ℤ◌, pos, ◌∙◌, arith}
 use Rattle.std.proofs.lemmas.Int.{ints}
-use Rattle.tick_time.proofs.Again.{rate_again}
+use Rattle.tick_time.proofs.RereadLemmas.{rate_again}
 use Rattle.tick_time.proofs.laws.rate_read_again.Goals as goal
 
 pub returns-in-Ok-clause-ok : goal.returns-in-Ok-clause-ok

@@ -1,5 +1,5 @@
 use Rattle.std.proofs.Common.{◌∙◌}
-use Rattle.tick_time.proofs.Again.{speed_again}
+use Rattle.tick_time.proofs.RereadLemmas.{speed_again}
 use Rattle.tick_time.proofs.laws.speed_read_again.Goals as goal
 
 pub returns-in-Ok-clause-ok : goal.returns-in-Ok-clause-ok

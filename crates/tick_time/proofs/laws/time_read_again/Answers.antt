@@ -1,6 +1,6 @@
 use Rattle.std.proofs.Common.{◌∙◌}
 use Rattle.tick_time.specs.Times.{IsInRange}
-use Rattle.tick_time.proofs.Again.{time_again}
+use Rattle.tick_time.proofs.RereadLemmas.{time_again}
 use Rattle.tick_time.proofs.laws.time_read_again.Goals as goal
 
 pub returns-in-Ok-clause-ok : goal.returns-in-Ok-clause-ok

@@ -1,5 +1,5 @@
 use Rattle.std.proofs.Common.{◌/◌, arith}
-use Rattle.tick_time.proofs.Lowest.{reduced, accepted, accepted_given, refused_order, refused_divisor, whole_unit}
+use Rattle.tick_time.proofs.LowestTerms.{reduced, accepted, accepted_given, refused_order, refused_divisor, whole_unit}
 use Rattle.tick_time.proofs.rates.lowest_rate.Goals as goal
 use Rattle.tick_time.proofs.rates.lowest_rate.Goals.{else-den-num-via-then-den-num+else-num-eq0, else-den-num-via-else-den-num}
 

@@ -1,4 +1,4 @@
-use Rattle.tick_time.proofs.Lowest.{relative_profile}
+use Rattle.tick_time.proofs.LowestTerms.{relative_profile}
 use Rattle.tick_time.proofs.rates.relative_rate.Goals as goal
 
 pub make_rate-requires-clause-lowest : goal.make_rate-requires-clause-lowest

@@ -1,7 +1,7 @@
 use Rattle.std.proofs.Common.{FitsSigned, arith}
 use Rattle.std.proofs.lemmas.Int.{to_z-of_z, ints}
 use mir.Syntax.{w128}
-use Rattle.tick_time.proofs.Spelled.{fine_none, millionths_apart, spelled_match, huge_none}
+use Rattle.tick_time.proofs.SpelledRates.{fine_none, millionths_apart, spelled_match, huge_none}
 use Rattle.tick_time.proofs.rates.spelled_rate.Goals as goal
 
 pub returns-then-exp-ltminus6 : goal.returns-then-exp-ltminus6

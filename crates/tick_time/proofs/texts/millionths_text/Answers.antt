@@ -2,7 +2,7 @@ use Rattle.std.proofs.Common.{FitsSigned, ◌++◌, ◌∷◌, [], ◌∙◌, ap
 use Rattle.std.proofs.lemmas.Int.{to_z-of_z}
 use mir.Syntax.{w128}
 use Rattle.tick_time.specs.Texts.{decimals_of}
-use Rattle.tick_time.proofs.Written.{written}
+use Rattle.tick_time.proofs.MillionthsText.{written}
 use Rattle.tick_time.proofs.texts.millionths_text.Goals as goal
 
 pub returns : goal.returns

@@ -2,7 +2,7 @@ use Rattle.std.proofs.Common.{arith}
 use Rattle.dev_io.specs.Buffer.{standing}
 use Rattle.dev_io.specs.Parts.{joined}
 use Rattle.dev_io.proofs.Leaving.{leaves_all, leaves_as, leaves_end, leaves_then}
-use Rattle.dev_io.proofs.Parted.{joined_next, joined_none}
+use Rattle.dev_io.proofs.PartLemmas.{joined_next, joined_none}
 use Rattle.dev_io.proofs.buffer.OutBuffer.put_parts.Goals as goal
 
 pub loop-part-init : goal.loop-part-init

@@ -1,7 +1,7 @@
 use Rattle.std.proofs.Common.{◌<◌, ◌≤◌, ◌-◌, ◌^◌, length, arith}
 use Rattle.limits.specs.Limits.{most_bytes}
 use Rattle.edl_text.proofs.Finishing.{all_sound, all_said, last_refused, list_refused, list_given}
-use Rattle.edl_text.proofs.Forming.{formed_list}
+use Rattle.edl_text.proofs.FormedLists.{formed_list}
 use Rattle.edl_text.proofs.reader.EdlReader.finish.Goals as goal
 
 pub returns-in-Err-clause-fault : goal.returns-in-Err-clause-fault

@@ -1,5 +1,5 @@
 use Rattle.std.proofs.Common.{length}
-use Rattle.edl_text.proofs.Went.{Went}
+use Rattle.edl_text.proofs.PieceProgress.{Went}
 use Rattle.edl_text.proofs.reader.EdlReader.take_within.Given as goal
 
 -- what was taken of the piece, and the rest of it

@@ -2,7 +2,7 @@ use Rattle.std.proofs.Common.{◌≡◌, Option, Some, None, sym, ap, ◌∙◌}
 use Rattle.json_value.specs.declared.Json.{Json}
 use Rattle.json_text.specs.declared.faults.JsonFault.TheVariants.{Syntax}
 use Rattle.json_text.specs.State.Stands.{state_of}
-use Rattle.json_text.proofs.Last.{text_last, last_text}
+use Rattle.json_text.proofs.FinalStates.{text_last, last_text}
 use Rattle.json_text.proofs.reader.JsonReader.finish.Goals as goal
 
 one_value : (v w : Json) (o : Option Json) → o ≡ Some v → o ≡ Some w → w ≡ v

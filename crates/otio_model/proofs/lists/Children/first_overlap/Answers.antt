@@ -1,12 +1,11 @@
 -- What the pieces answer, of the children that they are.
-use Rattle.std.proofs.Common.{arith, ap, length, ◌∙◌, ◌≡◌, pos, sym, subst, FitsSigned, to_z-of_z}
+use Rattle.std.proofs.Common.{arith, ap, ◌∙◌, ◌≡◌, pos, sym, subst, FitsSigned, to_z-of_z}
 use Rattle.std.specs.Int.{w128}
 use Rattle.otio_model.specs.Pieces.{all_items}
-use Rattle.otio_model.specs.Seeks.{IsOver, NoneOver, lens, total}
-use Rattle.otio_model.proofs.Keeping.{transitions_shown}
+use Rattle.otio_model.specs.Seeks.{IsOver, NoneOver}
+use Rattle.otio_model.proofs.KeptLemmas.{transitions_shown}
 use Rattle.otio_model.proofs.Views.{shown}
-use Rattle.otio_model.proofs.Short.{short_enough, few_enough}
-use Rattle.otio_model.proofs.SeekLemmas.{all-total}
+use Rattle.otio_model.proofs.ShownLemmas.{few_shown, total_shown}
 use Rattle.otio_model.proofs.OverLemmas.{abs_pos, over_none, over_seated, over_short, over_without}
 use Rattle.otio_model.proofs.lists.Children.first_overlap.Goals as goal
 
@@ -18,39 +17,25 @@ returns-then-self-eq0-clause-none c =
 
 pub over_in_pieces-requires-clause-fits : goal.over_in_pieces-requires-clause-fits
 over_in_pieces-requires-clause-fits c =
-    omega (
-      arith,
-      short_enough c.args.self.now c.requires.few,
-      all-total c.args.self.now,
-      ap (λ l. total (lens l)) (shown _ _ c.self.view_is),
-      ap (λ l. total (lens (all_items l))) c.as_slice.ensures.value,
-    )
+    omega (arith, total_shown c.requires.few c.self.view_is c.as_slice.ensures.value)
 
 pub over_in_pieces-requires-clause-few : goal.over_in_pieces-requires-clause-few
 over_in_pieces-requires-clause-few c =
-    omega (
-      arith,
-      few_enough c.args.self.now c.requires.few,
-      ap length (shown _ _ c.self.view_is),
-      ap (λ l. length (all_items l)) c.as_slice.ensures.value,
-    )
+    omega (arith, few_shown c.requires.few c.self.view_is c.as_slice.ensures.value)
 
 pub starting_at-requires : goal.starting_at-requires
 starting_at-requires c =
     omega (
       arith,
       over_short c.in-Some.ensures.found,
-      short_enough c.args.self.now c.requires.few,
-      all-total c.args.self.now,
-      ap (λ l. total (lens l)) (shown _ _ c.self.view_is),
-      ap (λ l. total (lens (all_items l))) c.as_slice.ensures.value,
+      total_shown c.requires.few c.self.view_is c.as_slice.ensures.value,
     )
 
 pub returns-in-Some-clause-found : goal.returns-in-Some-clause-found
 returns-in-Some-clause-found c =
     let fits : FitsSigned w128 c.args.ticks = c.ranges.ticks in
-    let value = simp to_z-of_z at c.unsigned_abs.ensures.value in
-    let same : pos c.unsigned_abs.result ≡ c.args.ticks
+    let value = simp to_z-of_z at c.unsigned_abs-at.ensures.value in
+    let same : pos c.unsigned_abs-at.result ≡ c.args.ticks
     = ap (λ n. pos n) value ∙ abs_pos c.args.ticks c.requires.low in
     over_seated c.args.self.now (all_items c.as_slice.result.now) c.args.ticks c.in-Some.number
     c.in-Some.start c.starting_at.result
@@ -62,8 +47,8 @@ returns-in-Some-clause-found c =
 pub returns-in-None-clause-none : goal.returns-in-None-clause-none
 returns-in-None-clause-none c =
     let fits : FitsSigned w128 c.args.ticks = c.ranges.ticks in
-    let value = simp to_z-of_z at c.unsigned_abs.ensures.value in
-    let same : pos c.unsigned_abs.result ≡ c.args.ticks
+    let value = simp to_z-of_z at c.unsigned_abs-at.ensures.value in
+    let same : pos c.unsigned_abs-at.result ≡ c.args.ticks
     = ap (λ n. pos n) value ∙ abs_pos c.args.ticks c.requires.low in
     over_none c.args.self.now (all_items c.as_slice.result.now) c.args.ticks
     (shown _ _ c.self.view_is ∙ ap all_items (sym c.as_slice.ensures.value))

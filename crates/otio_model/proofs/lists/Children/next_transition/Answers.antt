@@ -1,41 +1,32 @@
 -- What the pieces answer, of the children that they are.
-use Rattle.std.proofs.Common.{arith, ap, length, ◌∙◌, sym}
+use Rattle.std.proofs.Common.{arith, ap, ◌∙◌, sym}
 use Rattle.otio_model.specs.Pieces.{all_items}
-use Rattle.otio_model.specs.Seeks.{lens, total}
+use Rattle.otio_model.proofs.KeptLemmas.{transitions_shown}
 use Rattle.otio_model.proofs.Views.{shown}
-use Rattle.otio_model.proofs.Short.{short_enough, few_enough}
-use Rattle.otio_model.proofs.SeekLemmas.{all-total}
-use Rattle.otio_model.proofs.NextLemmas.{next_seated, next_short, none_seated}
+use Rattle.otio_model.proofs.ShownLemmas.{few_shown, total_shown}
+use Rattle.otio_model.proofs.NextLemmas.{next_seated, next_short, no_more, none_seated}
 use Rattle.otio_model.proofs.lists.Children.next_transition.Goals as goal
+
+pub returns-then-self-eq0-clause-none : goal.returns-then-self-eq0-clause-none
+returns-then-self-eq0-clause-none c =
+    no_more c.args.self.now c.self.inside.kept.transitions c.args.index
+    (transitions_shown _ c.args.self.now c.self.inside.kept c.self.view_is c.self.invariant.keeps)
+    c.if-self-eq0.true
 
 pub next_in_pieces-requires-clause-fits : goal.next_in_pieces-requires-clause-fits
 next_in_pieces-requires-clause-fits c =
-    omega (
-      arith,
-      short_enough c.args.self.now c.requires.few,
-      all-total c.args.self.now,
-      ap (λ l. total (lens l)) (shown _ _ c.self.view_is),
-      ap (λ l. total (lens (all_items l))) c.as_slice.ensures.value,
-    )
+    omega (arith, total_shown c.requires.few c.self.view_is c.as_slice.ensures.value)
 
 pub next_in_pieces-requires-clause-few : goal.next_in_pieces-requires-clause-few
 next_in_pieces-requires-clause-few c =
-    omega (
-      arith,
-      few_enough c.args.self.now c.requires.few,
-      ap length (shown _ _ c.self.view_is),
-      ap (λ l. length (all_items l)) c.as_slice.ensures.value,
-    )
+    omega (arith, few_shown c.requires.few c.self.view_is c.as_slice.ensures.value)
 
 pub starting_at-requires : goal.starting_at-requires
 starting_at-requires c =
     omega (
       arith,
       next_short c.in-Some.ensures.found,
-      short_enough c.args.self.now c.requires.few,
-      all-total c.args.self.now,
-      ap (λ l. total (lens l)) (shown _ _ c.self.view_is),
-      ap (λ l. total (lens (all_items l))) c.as_slice.ensures.value,
+      total_shown c.requires.few c.self.view_is c.as_slice.ensures.value,
     )
 
 pub returns-in-Some-clause-found : goal.returns-in-Some-clause-found

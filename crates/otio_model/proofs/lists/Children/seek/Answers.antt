@@ -4,7 +4,7 @@ use Rattle.std.specs.Int.{w128}
 use Rattle.std.proofs.lemmas.Int.{ints}
 use Rattle.otio_model.specs.Seeks.{Holds, lens}
 use Rattle.otio_model.specs.Trees.{items_of}
-use Rattle.otio_model.proofs.Short.{short_enough, few_enough}
+use Rattle.otio_model.proofs.LengthLimits.{short_enough, few_enough}
 use Rattle.otio_model.proofs.SeekLemmas.{seated, outside}
 use Rattle.otio_model.proofs.lists.Children.seek.Goals as goal
 

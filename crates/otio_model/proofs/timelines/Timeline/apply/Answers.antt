@@ -1,6 +1,6 @@
 -- The patch fits, and there is room for it.
 use Rattle.std.proofs.Common.{arith, ap, length}
-use Rattle.otio_model.proofs.Roomy.{roomy}
+use Rattle.otio_model.proofs.RoomLemmas.{roomy}
 use Rattle.otio_model.proofs.timelines.Timeline.apply.Goals as goal
 
 pub replace_at-requires : goal.replace_at-requires

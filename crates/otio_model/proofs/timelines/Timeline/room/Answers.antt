@@ -1,6 +1,6 @@
 -- The room that was made is the room that the patch needs.
 use Rattle.std.proofs.Common.{ap, length}
-use Rattle.otio_model.proofs.Roomy.{room_made}
+use Rattle.otio_model.proofs.RoomLemmas.{room_made}
 use Rattle.otio_model.proofs.timelines.Timeline.room.Goals as goal
 
 pub returns-clause-room : goal.returns-clause-room

@@ -2,7 +2,7 @@ use Rattle.std.proofs.Common.{FitsSigned, rules, refl, ap, unsigned_abs}
 use Rattle.std.proofs.lemmas.Int.{to_z-of_z}
 use mir.Syntax.{w128}
 use Rattle.tick_time.specs.Rates.{relative}
-use Rattle.tick_time.proofs.Spelled.{far_none, none_given, gives, given, near_at, apart_at}
+use Rattle.tick_time.proofs.SpelledRates.{far_none, none_given, gives, given, near_at, apart_at}
 use Rattle.tick_time.proofs.rates.Rate.of.Goals as goal
 
 pub returns-in-None-clause-fault : goal.returns-in-None-clause-fault

@@ -5,31 +5,25 @@ use Rattle.undo_log.specs.Histories.{History}
 use Rattle.undo_log.specs.States.{AreFit, IsKept, committed, state_of, run}
 use Rattle.otio_model.specs.Timelines.{bare}
 use Rattle.undo_log.proofs.Moves.{added, state_by}
-use Rattle.undo_log.proofs.Roomy.{has_commit}
+use Rattle.undo_log.proofs.RoomLemmas.{has_commit}
 use Rattle.undo_log.proofs.logs.Log.commit.Goals as goal
 
 pub apply-undo-requires-clause-spare : goal.apply-undo-requires-clause-spare
 apply-undo-requires-clause-spare c =
     (has_commit c.args.patch c.args.self.now c.args.timeline.now c.requires.room).patch
 
-pub unreachable-requires : goal.unreachable-requires
-unreachable-requires c =
-    let one = (has_commit c.args.patch c.args.self.now c.args.timeline.now c.requires.room).one in
-    first_of (
-      omega (
-        arith,
-        one,
-        ap (λ (h : History). h.past_room) c.self.view_is,
-        c.in-Err.ensures.full,
-      ),
-      grind (arith, one, ap (λ (h : History). h.past_room) c.self.view_is, c.in-Err.ensures.full),
+pub keep-requires : goal.keep-requires
+keep-requires c =
+    omega (
+      arith,
+      (has_commit c.args.patch c.args.self.now c.args.timeline.now c.requires.room).one,
+      ap (λ (h : History). h.past_room) c.self.view_is,
     )
 
 pub returns-clause-kept : goal.returns-clause-kept
 returns-clause-kept c =
     let k = subst (λ h. IsKept h c.args.timeline.now) (sym c.self.view_is) c.requires.kept in
-    let w = added c.args.timeline.now c.apply-undo.new.self c.args.patch c.apply-undo.result
-    c.self.inside.past.items c.push.new.self.items c.in-Ok.ensures.items c.requires.fits k.past
+    let w = added c.apply-undo.new.self c.keep.ensures.items c.requires.fits k.past
     c.apply-undo.ensures.new c.apply-undo.ensures.undo in
     record {
       past = w.fits;
@@ -40,10 +34,9 @@ returns-clause-kept c =
 pub returns-clause-state : goal.returns-clause-state
 returns-clause-state c =
     let k = subst (λ h. IsKept h c.args.timeline.now) (sym c.self.view_is) c.requires.kept in
-    let w = added c.args.timeline.now c.apply-undo.new.self c.args.patch c.apply-undo.result
-    c.self.inside.past.items c.push.new.self.items c.in-Ok.ensures.items c.requires.fits k.past
+    let w = added c.apply-undo.new.self c.keep.ensures.items c.requires.fits k.past
     c.apply-undo.ensures.new c.apply-undo.ensures.undo in
-    ap (λ l. state_by (run (bare c.apply-undo.new.self) (reverse c.push.new.self.items))
+    ap (λ l. state_by (run (bare c.apply-undo.new.self) (reverse c.keep.new.patches.items))
     (bare c.apply-undo.new.self) (run (bare c.apply-undo.new.self) (reverse l)))
     c.clear.ensures.items
     ∙ w.state

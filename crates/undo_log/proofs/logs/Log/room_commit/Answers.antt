@@ -1,7 +1,7 @@
 -- Room for the patch, and for the one that undoes it.
 use Rattle.std.specs.Prelude.{vec_len}
 use Rattle.std.specs.Vec.{vec_capacity}
-use Rattle.undo_log.proofs.Roomy.{made_commit, room_one}
+use Rattle.undo_log.proofs.RoomLemmas.{made_commit, room_one}
 use Rattle.undo_log.proofs.logs.Log.room_commit.Goals as goal
 
 pub returns-in-Ok-clause-room : goal.returns-in-Ok-clause-room

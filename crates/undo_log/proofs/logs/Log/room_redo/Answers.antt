@@ -3,7 +3,7 @@ use Rattle.std.proofs.Common.{ap, sym, ◌∙◌, length, ◌-◌}
 use Rattle.std.specs.Prelude.{slice_get, vec_len}
 use Rattle.std.specs.Vec.{vec_capacity}
 use Rattle.undo_log.specs.Histories.{History}
-use Rattle.undo_log.proofs.Roomy.{made_redo, none_redo, none_last, room_one, some_last}
+use Rattle.undo_log.proofs.RoomLemmas.{made_redo, none_redo, none_last, room_one, some_last}
 use Rattle.undo_log.proofs.logs.Log.room_redo.Goals as goal
 
 pub returns-in_default-clause-room : goal.returns-in_default-clause-room

@@ -1,0 +1,162 @@
+-- What is kept of lists of items, of one item, and of two lists together.
+use Rattle.std.proofs.Common.{◌≡◌, ℕ, ◌<◌, ◌+◌, ◌≤◌, ◌^◌, max, zero, suc, List, [], ◌∷◌, ◌++◌}
+use Rattle.std.proofs.Common.{Option, Some, None, refl, ap, sym, ◌∙◌, length, map, take, get_or}
+use Rattle.std.proofs.Common.{subst, arith, append-nil}
+use Rattle.std.specs.Prelude.{◌&&◌, option_map}
+use Rattle.std.proofs.lemmas.List.{take_more}
+use Rattle.otio_model.specs.declared.compositions.ItemOf.{ItemOf}
+use Rattle.otio_model.specs.declared.compositions.ItemOf.TheVariants.{Clip, Gap, Transition, Stack}
+use Rattle.otio_model.specs.declared.compositions.ItemOf.TheVariants.{Track}
+use Rattle.otio_model.specs.declared.compositions.Listed.{Listed}
+use Rattle.otio_model.specs.declared.lists.Piece.{Piece}
+use Rattle.otio_model.specs.declared.totals.Totals.{Totals}
+use Rattle.otio_model.specs.declared.kept.Kept.{Kept}
+use Rattle.otio_model.specs.Trees.{items_of, listed}
+use Rattle.otio_model.proofs.Views.{shown}
+use Rattle.otio_model.proofs.LengthLimits.{longest_enough, short_enough}
+use Rattle.otio_model.specs.Counts.{count, count_of, counts_by}
+use Rattle.otio_model.specs.Falls.{count-listed, counts-append}
+use Rattle.otio_model.specs.Lengths.{length_of, lengths, added}
+use Rattle.otio_model.specs.Sums.{greatest, are_known, capped, totals, with_length}
+use Rattle.otio_model.specs.Kept.{capped_count, one_transition, transitions_in, reach_in, kept_of}
+use Rattle.otio_model.specs.Kept.{kept_one, joined, joined_totals}
+use Rattle.otio_model.specs.Pieces.{all_items, AllPieces, IsPiece}
+use Rattle.otio_model.proofs.Adding.{lengths-listed, totals_by}
+use Rattle.otio_model.proofs.Cuts.{all_items-append}
+
+kept_by : (a b : Kept) → a.lengths ≡ b.lengths → a.transitions ≡ b.transitions → a.reach ≡ b.reach
+    → a.items ≡ b.items → a ≡ b
+kept_by a b l t r n = λ i. record { lengths = l i; transitions = t i; reach = r i; items = n i }
+
+-- lists of lengths together
+pub added-append : (ms ns : List (Option ℕ)) → added (ms ++ ns) ≡ added ms + added ns
+added-append [] ns = omega arith
+added-append (None ∷ ms) ns = added-append ms ns
+added-append ((Some m) ∷ ms) ns = omega (arith, added-append ms ns)
+
+greatest-append : (ms ns : List (Option ℕ)) → greatest (ms ++ ns) ≡ max (greatest ms) (greatest ns)
+greatest-append [] ns = omega arith
+greatest-append (None ∷ ms) ns = greatest-append ms ns
+greatest-append ((Some m) ∷ ms) ns = omega (arith, greatest-append ms ns)
+
+known-append : (ms ns : List (Option ℕ)) → are_known (ms ++ ns) ≡ (are_known ms && are_known ns)
+known-append [] ns = refl
+known-append (None ∷ ms) ns = refl
+known-append ((Some m) ∷ ms) ns = known-append ms ns
+
+totals-append : (ms ns : List (Option ℕ))
+    → totals (ms ++ ns) ≡ joined_totals (totals ms) (totals ns)
+totals-append ms ns =
+    totals_by _ _ (omega (arith, added-append ms ns)) (omega (arith, greatest-append ms ns))
+    (known-append ms ns)
+
+pub transitions-append : (xs ys : List (ItemOf Listed))
+    → transitions_in (xs ++ ys) ≡ transitions_in xs + transitions_in ys
+transitions-append [] ys = omega arith
+transitions-append (x ∷ xs) ys = omega (arith, transitions-append xs ys)
+
+pub reach-append : (xs ys : List (ItemOf Listed))
+    → reach_in (xs ++ ys) ≡ max (reach_in xs) (reach_in ys)
+reach-append [] ys = omega arith
+reach-append (x ∷ xs) ys = omega (arith, reach-append xs ys)
+
+mapped-append : {A B : Type 0} (f : A → B) (xs ys : List A)
+    → map f (xs ++ ys) ≡ map f xs ++ map f ys
+mapped-append f [] ys = refl
+mapped-append f (x ∷ xs) ys = ap (λ l. f x ∷ l) (mapped-append f xs ys)
+
+-- what is kept of two lists together
+pub kept-append : (xs ys : List (ItemOf Listed))
+    → kept_of (xs ++ ys) ≡ joined (kept_of xs) (kept_of ys)
+kept-append xs ys =
+    kept_by _ _ (ap totals (mapped-append length_of xs ys)
+    ∙ totals-append (map length_of xs) (map length_of ys))
+    (omega (arith, transitions-append xs ys)) (reach-append xs ys)
+    (omega (arith, counts-append xs ys))
+
+one_kept : (x : ItemOf Listed) → kept_of (x ∷ []) ≡ kept_one x
+one_kept x = kept_by _ _ refl (at x) (omega arith) (ap capped_count (alone x))
+  where
+    alone : (x : ItemOf Listed) → counts_by count (x ∷ []) ≡ count_of x
+    alone x = omega arith
+
+    at : (x : ItemOf Listed) → capped_count (one_transition x + 0) ≡ one_transition x
+    at (Clip c) = refl
+    at (Gap g) = refl
+    at (Transition t) = refl
+    at (Stack s) = refl
+    at (Track t) = refl
+
+-- what is kept of one more item
+pub kept_more : (xs : List (ItemOf Listed)) (i : ℕ) (x : ItemOf Listed) → i < length xs
+    → x ≡ get_or xs i x → kept_of (take (i + 1) xs) ≡ joined (kept_of (take i xs)) (kept_one x)
+kept_more xs i x h e =
+    ap kept_of (take_more xs i x h ∙ ap (λ y. take i xs ++ y ∷ []) (sym e))
+    ∙ kept-append (take i xs) (x ∷ [])
+    ∙ ap (joined (kept_of (take i xs))) (one_kept x)
+
+-- the totals of one length
+pub one_length : (x : ItemOf Listed)
+    → totals (length_of x ∷ []) ≡ with_length (option_map capped (length_of x)) (totals [])
+one_length x = at (length_of x)
+  where
+    at : (o : Option ℕ) → totals (o ∷ []) ≡ with_length (option_map capped o) (totals [])
+    at None = refl
+    at (Some n) = totals_by _ _ (omega arith) (omega arith) refl
+
+pub kept_pieces_more : (ps : List Piece) (i : ℕ) (p : Piece) → i < length ps → p ≡ get_or ps i p
+    → kept_of (all_items (take (i + 1) ps))
+    ≡ joined (kept_of (all_items (take i ps))) (kept_of p.items.items)
+kept_pieces_more ps i p h e =
+    ap (λ l. kept_of (all_items l)) (take_more ps i p h ∙ ap (λ y. take i ps ++ y ∷ []) (sym e))
+    ∙ ap kept_of (all_items-append (take i ps) (p ∷ [])
+    ∙ ap (λ l. all_items (take i ps) ++ l) (append-nil p.items.items))
+    ∙ kept-append (all_items (take i ps)) p.items.items
+
+pub at_get : (ps : List Piece) (i : ℕ) (d : Piece) → i < length ps → AllPieces ps
+    → IsPiece (get_or ps i d)
+at_get [] i d h a = absurd (omega arith)
+at_get (p ∷ ps) zero d h a = a.0
+at_get (p ∷ ps) (suc i) d h a = at_get ps i d (omega arith) a.1
+
+pub piece_at : (ps : List Piece) (i : ℕ) (p : Piece) → i < length ps → p ≡ get_or ps i p
+    → AllPieces ps → IsPiece p
+piece_at ps i p h e a = subst IsPiece (sym e) (at_get ps i p h a)
+
+pub taken_all : {A : Type 0} (ps : List A) (i : ℕ) → length ps ≤ i → take i ps ≡ ps
+taken_all [] zero h = refl
+taken_all [] (suc i) h = refl
+taken_all (p ∷ ps) zero h = absurd (omega arith)
+taken_all (p ∷ ps) (suc i) h = ap (λ l. p ∷ l) (taken_all ps i (omega arith))
+
+-- what is kept of all pieces, one more piece being added
+pub kept_next : (ps : List Piece) (i : ℕ) (p : Piece) → i < length ps → p ≡ get_or ps i p
+    → AllPieces ps → kept_of (all_items (take (i + 1) ps))
+    ≡ joined (kept_of (all_items (take i ps))) p.kept
+kept_next ps i p h e a = kept_pieces_more ps i p h e
+    ∙ ap (joined (kept_of (all_items (take i ps)))) (sym (piece_at ps i p h e a).keeps)
+
+-- what is kept of a list is kept of the children that it shows
+pub totals_kept : (xs : List (ItemOf Listed)) (l : Listed) (k : Kept) → listed xs ≡ l
+    → k ≡ kept_of xs → k.lengths ≡ totals (lengths l)
+totals_kept xs l k e h = ap (λ (k : Kept). k.lengths) h ∙ ap totals (sym (lengths-listed xs))
+    ∙ ap (λ m. totals (lengths m)) e
+
+pub items_shown : (xs : List (ItemOf Listed)) (l : Listed) (k : Kept) → listed xs ≡ l
+    → k ≡ kept_of xs → k.items ≡ capped_count (count l)
+items_shown xs l k e h = ap (λ (k : Kept). k.items) h ∙ ap capped_count (sym (count-listed xs))
+    ∙ ap (λ m. capped_count (count m)) e
+
+pub transitions_shown : (xs : List (ItemOf Listed)) (l : Listed) (k : Kept) → listed xs ≡ l
+    → k ≡ kept_of xs → k.transitions ≡ capped_count (transitions_in (items_of l))
+transitions_shown xs l k e h = ap (λ (k : Kept). k.transitions) h
+    ∙ ap (λ ys. capped_count (transitions_in ys)) (sym (shown xs l e))
+
+-- sums of fewer than 2^32 items are kept whole
+pub added_whole : (l : Listed) (t : Totals) → count l < 2 ^ 32 → t ≡ totals (lengths l)
+    → t.ticks ≡ added (lengths l)
+added_whole l t h e = omega (arith, ap (λ (t : Totals). t.ticks) e, short_enough l h)
+
+pub longest_whole : (l : Listed) (t : Totals) → count l < 2 ^ 32 → t ≡ totals (lengths l)
+    → t.longest ≡ greatest (lengths l)
+longest_whole l t h e = omega (arith, ap (λ (t : Totals). t.longest) e, longest_enough l h)

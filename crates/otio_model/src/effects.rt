@@ -1,0 +1,76 @@
+//! The effects of an item, with the speed that they come to.
+
+ghost use Rattle.std.specs.Prelude.{◌≡◌, [], pos, IfSome};
+ghost use Rattle.tick_time.specs.Times.{IsSpeed};
+ghost use Rattle.otio_model.specs.Speeds.{kept_speed};
+
+use crate::speeds;
+use crate::warps::Effect;
+use sequences::Sequence;
+use std::alloc::Global;
+use std::marker::Model;
+
+/// The effects of an item, in order. Contracts see the list of them; the speed that they come to is
+/// kept beside it, so that no call looks at each of them again.
+#[derive(Debug, Drop)]
+pub struct Effects {
+    list: Sequence<Effect>,
+    /// The speed after them, in millionths; `None` where it passes 1000 times on the way.
+    speed: Option<i64>,
+}
+
+impl Model for Effects {
+    ghost use Rattle.std.specs.Prelude.{List};
+    ghost use Rattle.otio_model.specs.declared.warps.Effect.{Effect};
+
+    ghost Value = { List Effect };
+
+    ghost use Rattle.std.specs.Coded.{coded_list};
+    ghost use Rattle.otio_model.specs.contracts.warps.Effect as effect_row;
+
+    ghost coded = { coded_list effect_row.the_row.coded };
+
+    ghost view = { λ effects. effects.list };
+
+    ghost use Rattle.std.specs.Prelude.{◌≡◌, pos};
+    ghost use Rattle.otio_model.specs.Speeds.{kept_speed};
+
+    ghost invariant = { λ effects. effects.speed ≡ kept_speed (pos 1000000) effects.list };
+}
+
+impl Effects {
+    /// No effects. They take no memory.
+    pub fn new(alloc: Global) -> Effects
+        ensures { result ≡ [] }
+    {
+        Effects {
+            list: Sequence::new(alloc),
+            speed: Some(1_000_000),
+        }
+    }
+
+    /// The effects of `list`, in the same memory.
+    pub fn of(list: Sequence<Effect>) -> Effects
+        ensures { result ≡ list }
+    {
+        let speed = speeds::kept_speed(list.as_slice());
+        Effects { list, speed }
+    }
+
+    /// The effects, in order.
+    pub fn as_slice(&self) -> &[Effect]
+        ensures { result.now ≡ self.now }
+    {
+        self.list.as_slice()
+    }
+
+    #[tactic(auto, using(crate::proofs::SpeedLemmas::kept_in_range))]
+    /// The speed after these effects, in millionths, in constant time. `None` exactly where it
+    /// passes 1000 times, either way, after one of them.
+    pub fn speed(&self) -> Option<i64>
+        ensures speed { result ≡ kept_speed (pos 1000000) self.now }
+        ensures range { IfSome result IsSpeed }
+    {
+        self.speed
+    }
+}

@@ -1,0 +1,339 @@
+-- There is one answer, and without faults of devices it is given.
+use Rattle.std.proofs.Common.{◌≡◌, ◌⊎◌, ◌||◌, ◌++◌, ℕ, Bool, Option, List, [], ◌∷◌, All, Some, None, IsSome, refl, sym, ap, subst, ◌∙◌, IfSome, inl, inr, arith}
+use Rattle.std.proofs.lemmas.List.Elements.{All-head, All-tail}
+use Rattle.std.proofs.lemmas.Grind.{common_steps}
+use Rattle.dev_io.specs.Known.{KnownFiles}
+use Rattle.dev_io.specs.Calls.{Tells}
+use Rattle.json_value.specs.declared.Json.{Json}
+use Rattle.json_text.proofs.OneText.{text_once}
+use Rattle.json_layout.specs.Layout.{layout}
+use Rattle.tick_time.specs.declared.rates.Rate.{Rate}
+use Rattle.edl_list.specs.declared.list.Event.{Event}
+use Rattle.edl_list.specs.declared.list.EventList.{EventList}
+use Rattle.edl_list.specs.Labelled.{IsLabelled}
+use Rattle.edl_text.specs.Lists.{IsList}
+use Rattle.edl_text.proofs.OneList.{one_list}
+use Rattle.otio_model.specs.declared.roots.Object.{Object}
+use Rattle.otio_model.specs.declared.timelines.Timeline.{Timeline}
+use Rattle.otio_model.specs.Timelines.{bare}
+use Rattle.schema_write.specs.Objects.{json_of}
+use Rattle.coord.proofs.OneFault.{same_fault, no_fault_of}
+use Rattle.coord.proofs.SpareLemmas.{faultless_bare, fault_bare}
+use Rattle.fault_text.specs.Faults.{coord_fault_text, day_text}
+use Rattle.frame_rows.specs.Rows.{listing_of, listing_text}
+use Rattle.frame_rows.specs.declared.listing.Listing.{Listing}
+use Rattle.frame_rows.proofs.SpareLemmas.{listing_bare, text_bare}
+use Rattle.source_files.specs.Formats.{IsJson, IsObject, IsTimeline, Holds, Refuses}
+use Rattle.source_files.specs.Reading.{Held, Source, IsRead, AreRead}
+use Rattle.source_files.specs.declared.kinds.Kind.TheVariants as kinds
+use Rattle.source_files.specs.declared.kinds.Content.{Content}
+use Rattle.source_files.specs.declared.kinds.Content.TheVariants.{Value, Root, Film, Events}
+use Rattle.source_files.proofs.Order.{first_once, each_or_first}
+use Rattle.command_words.specs.declared.requests.Command.{Command}
+use Rattle.command_words.specs.declared.requests.Command.TheVariants.{ListToList, ToObjects, ToJson, Frames}
+use Rattle.command_words.specs.declared.requests.FramesAsked.{FramesAsked}
+use Rattle.otio_tools.specs.Asked.{Asked, Asks, asked_for, files_of, kind_of}
+use Rattle.otio_tools.specs.Forms.{Answer, done, refused}
+use Rattle.otio_tools.specs.Frames.{AnswersTimeline, Unsound, NoLabel, Listed}
+use Rattle.otio_tools.specs.Events.{AnswersEvents, NoTimecode, TooMany, PastDay, Spelled}
+use Rattle.otio_tools.specs.Answer.{object_json, Answers, NoCommand, OnFiles, AnswersHeld, AnswersUnread, Gone, Faulty, AnswersAsked, Unread, Judged}
+use Rattle.otio_tools.specs.Run.{Streams, Ends, Gives, Completes}
+use Rattle.otio_tools.specs.declared.Status.{Status}
+use Rattle.otio_tools.specs.declared.Status.TheVariants.{Done, Usage, Refused, Input, Output, Memory}
+use Rattle.otio_tools.proofs.RunEnds.{asks_once, whole}
+use Rattle.otio_tools.proofs.Formats.{reason_once, held_or_refused, object_json_once, timeline_bare_once}
+
+-- the timecode of a rate is there or not
+none_some : {X : Type 0} (o : Option X) → o ≡ None → IsSome o → ⊥
+none_some None e h = grind (arith, common_steps)
+none_some (Some x) e h = cc
+
+-- the first event past the day is one
+past_once : (rate : Rate) (drop : Bool) (before other after behind : List Event) (e f : Event)
+    → before ++ e ∷ after ≡ other ++ f ∷ behind
+    → All (IsLabelled rate drop) before → All (IsLabelled rate drop) other
+    → (IsLabelled rate drop e → ⊥) → (IsLabelled rate drop f → ⊥) → e ≡ f
+past_once rate drop [] [] after behind e f h p q a b = cc
+past_once rate drop [] (o ∷ other) after behind e f h p q a b = let k : e ≡ o =
+    cc in absurd (a (subst (IsLabelled rate drop) (sym k)
+    (All-head (IsLabelled rate drop) o other q)))
+past_once rate drop (o ∷ before) [] after behind e f h p q a b = let k : o ≡ f =
+    cc in absurd (b (subst (IsLabelled rate drop) k (All-head (IsLabelled rate drop) o before p)))
+past_once rate drop (o ∷ before) (u ∷ other) after behind e f h p q a b =
+    let k : before ++ e ∷ after ≡ other ++ f ∷ behind =
+    cc in past_once rate drop before other after behind e f k
+    (All-tail (IsLabelled rate drop) o before p) (All-tail (IsLabelled rate drop) u other q) a b
+
+past_none : (rate : Rate) (drop : Bool) (before after events : List Event) (e : Event)
+    → events ≡ before ++ e ∷ after → All (IsLabelled rate drop) events
+    → (IsLabelled rate drop e → ⊥) → ⊥
+past_none rate drop [] after events e h p a = let all : All (IsLabelled rate drop) (e ∷ after) =
+    subst (All (IsLabelled rate drop)) h p in a (All-head (IsLabelled rate drop) e after all)
+past_none rate drop (o ∷ before) after events e h p a =
+    let all : All (IsLabelled rate drop) (o ∷ (before ++ e ∷ after)) =
+    subst (All (IsLabelled rate drop)) h p in past_none rate drop before after (before
+    ++ e ∷ after) e refl (All-tail (IsLabelled rate drop) o (before ++ e ∷ after) all) a
+
+-- a list of events has at most one answer
+events_once : (name : List ℕ) (target : Option (List ℕ)) (list : EventList) (drop : Bool)
+    (a b : Answer) → AnswersEvents name target list drop a → AnswersEvents name target list drop b
+    → a ≡ b
+events_once name target list drop a b (NoTimecode n e) (NoTimecode m f) = e ∙ sym f
+events_once name target list drop a b (NoTimecode n e) (TooMany m k f) = absurd (none_some _ n m)
+events_once name target list drop a b (NoTimecode n e) (PastDay c l p f) =
+    absurd (none_some _ n c.timecode)
+events_once name target list drop a b (NoTimecode n e) (Spelled c p f) =
+    absurd (none_some _ n c.timecode)
+events_once name target list drop a b (TooMany n k e) (NoTimecode m f) = absurd (none_some _ m n)
+events_once name target list drop a b (TooMany n k e) (TooMany m h f) = e ∙ sym f
+events_once name target list drop a b (TooMany n k e) (PastDay c l p f) =
+    absurd (omega (arith, k, c.few))
+events_once name target list drop a b (TooMany n k e) (Spelled c p f) =
+    absurd (omega (arith, k, c.few))
+events_once name target list drop a b (PastDay c l p e) (NoTimecode m f) =
+    absurd (none_some _ m c.timecode)
+events_once name target list drop a b (PastDay c l p e) (TooMany m h f) =
+    absurd (omega (arith, h, c.few))
+events_once name target list drop a b (PastDay c l p e) (PastDay d k q f) =
+    let same : p.2 ≡ q.2 = past_once list.rate drop p.0 q.0 p.1 q.1 p.2 q.2 (sym p.3
+    ∙ q.3) p.5 q.5 p.6 q.6 in
+    let line : l ≡ k = p.4 ∙ ap (λ (x : Event). x.line) same ∙ sym q.4 in e
+    ∙ ap (λ n. refused name (day_text n)) line ∙ sym f
+events_once name target list drop a b (PastDay c l p e) (Spelled d q f) =
+    absurd (past_none list.rate drop p.0 p.1 list.events p.2 p.3 q p.6)
+events_once name target list drop a b (Spelled c p e) (NoTimecode m f) =
+    absurd (none_some _ m c.timecode)
+events_once name target list drop a b (Spelled c p e) (TooMany m h f) =
+    absurd (omega (arith, h, c.few))
+events_once name target list drop a b (Spelled c p e) (PastDay d k q f) =
+    absurd (past_none list.rate drop q.0 q.1 list.events q.2 q.3 p q.6)
+events_once name target list drop a b (Spelled c p e) (Spelled d q f) = e ∙ sym f
+
+-- a start is a label of the record rate or none
+label_or_none : (asked : FramesAsked) (t u : Timeline) (listing : Listing) → bare t ≡ bare u
+    → listing_of t asked.child asked.start asked.count ≡ None
+    → listing_of u asked.child asked.start asked.count ≡ Some listing → ⊥
+label_or_none asked t u listing same p q = let e =
+    sym p ∙ listing_bare t u asked.child asked.start asked.count same ∙ q in cc
+
+-- a timeline whose frames are asked for has at most one answer, whatever memory it has to spare
+timeline_once : (asked : FramesAsked) (name : List ℕ) (target : Option (List ℕ)) (t u : Timeline)
+    (a b : Answer) → bare t ≡ bare u
+    → AnswersTimeline asked name target t a → AnswersTimeline asked name target u b → a ≡ b
+timeline_once asked name target t u a b same (Unsound f n p e) (Unsound g m q h) =
+    e ∙ ap (λ fault. refused name (coord_fault_text fault))
+    (same_fault t f g n m p (fault_bare u t g (sym same) q)) ∙ sym h
+timeline_once asked name target t u a b same (Unsound f n p e) (NoLabel s q h) =
+    absurd (no_fault_of t f (faultless_bare u t (sym same) s) p)
+timeline_once asked name target t u a b same (Unsound f n p e) (Listed s l q h) =
+    absurd (no_fault_of t f (faultless_bare u t (sym same) s) p)
+timeline_once asked name target t u a b same (NoLabel s p e) (Unsound g m q h) =
+    absurd (no_fault_of u g (faultless_bare t u same s) q)
+timeline_once asked name target t u a b same (NoLabel s p e) (NoLabel r q h) = e ∙ sym h
+timeline_once asked name target t u a b same (NoLabel s p e) (Listed r l q h) =
+    absurd (label_or_none asked t u l same p q)
+timeline_once asked name target t u a b same (Listed s l p e) (Unsound g m q h) =
+    absurd (no_fault_of u g (faultless_bare t u same s) q)
+timeline_once asked name target t u a b same (Listed s l p e) (NoLabel r q h) =
+    absurd (label_or_none asked u t l (sym same) q p)
+timeline_once asked name target t u a b same (Listed s l p e) (Listed r k q h) =
+    let both : Some l ≡ Some k = sym p ∙ listing_bare t u asked.child asked.start asked.count same
+    ∙ q in
+    let listing : l ≡ k = cc in
+    e ∙ ap (λ x. done target (listing_text t x)) listing
+    ∙ ap (λ (text : List ℕ). done target text) (text_bare t u k same) ∙ sym h
+
+gone_or_there : (bytes : List ℕ) (o : Option (List ℕ)) → o ≡ None → o ≡ Some bytes → ⊥
+gone_or_there bytes None e f = cc
+gone_or_there bytes (Some b) e f = cc
+
+there_once : (a b : List ℕ) (o : Option (List ℕ)) → o ≡ Some a → o ≡ Some b → a ≡ b
+there_once a b o e f = let both : Some a ≡ Some b = sym e ∙ f in cc
+
+-- a file that isn't read has at most one answer
+unread_once : (held : Held) (file : Source) (a b : Answer) → AnswersUnread held file a
+    → AnswersUnread held file b → a ≡ b
+unread_once held file a b (Gone p e) (Gone q f) = e ∙ sym f
+unread_once held file a b (Gone p e) (Faulty why q f) =
+    absurd (gone_or_there q.0 (held file.name) p q.1)
+unread_once held file a b (Faulty why p e) (Gone q f) =
+    absurd (gone_or_there p.0 (held file.name) q p.1)
+unread_once held file a b (Faulty why p e) (Faulty also q f) =
+    let same = there_once q.0 p.0 (held file.name) q.1 p.1 in
+    e ∙ ap (refused file.name) (reason_once file.kind p.0 why also p.2
+    (subst (λ x. Refuses file.kind x also) same q.2)) ∙ sym f
+
+-- a file that is read has none of these
+read_or_unread : (held : Held) (file : Source) (content : Content) (a : Answer)
+    → IsRead held file content → AnswersUnread held file a → ⊥
+read_or_unread held file content a is (Gone p e) =
+    gone_or_there is.bytes (held file.name) p is.there
+read_or_unread held file content a is (Faulty why p e) =
+    held_or_refused file.kind is.bytes why content is.holds
+    (subst (λ x. Refuses file.kind x why)
+    (there_once p.0 is.bytes (held file.name) p.1 is.there) p.2)
+
+-- what one file holds
+abbrev One : Held → Source → List Content → Type 0
+One held file contents = (content : Content) × (contents ≡ content ∷ []) × IsRead held file content
+
+one_read : (held : Held) (file : Source) (contents : List Content)
+    → AreRead held (file ∷ []) contents → One held file contents
+one_read held file [] h = absurd h
+one_read held file (content ∷ []) h = (content, refl, h.0)
+one_read held file (content ∷ more ∷ rest) h = absurd h.1
+
+value_held : (bytes : List ℕ) (content : Content) → Holds kinds.Json bytes content
+    → (value : Json) × (content ≡ Value value) × IsJson bytes value
+value_held bytes (Value value) h = (value, refl, h)
+value_held bytes (Root object) h = absurd h
+value_held bytes (Film timeline) h = absurd h
+value_held bytes (Events list) h = absurd h
+
+object_held : (bytes : List ℕ) (content : Content) → Holds kinds.Object bytes content
+    → (object : Object) × (content ≡ Root object) × IsObject bytes object
+object_held bytes (Root object) h = (object, refl, h)
+object_held bytes (Value value) h = absurd h
+object_held bytes (Film timeline) h = absurd h
+object_held bytes (Events list) h = absurd h
+
+timeline_held : (bytes : List ℕ) (content : Content) → Holds kinds.Timeline bytes content
+    → (timeline : Timeline) × (content ≡ Film timeline) × IsTimeline bytes timeline
+timeline_held bytes (Film timeline) h = (timeline, refl, h)
+timeline_held bytes (Value value) h = absurd h
+timeline_held bytes (Root object) h = absurd h
+timeline_held bytes (Events list) h = absurd h
+
+list_held : (rate : Rate) (bytes : List ℕ) (content : Content)
+    → Holds (kinds.List rate) bytes content
+    → (list : EventList) × (content ≡ Events list) × IsList rate bytes list
+list_held rate bytes (Events list) h = (list, refl, h)
+list_held rate bytes (Value value) h = absurd h
+list_held rate bytes (Root object) h = absurd h
+list_held rate bytes (Film timeline) h = absurd h
+
+-- the JSON of objects that are written
+same_json : (a b : Object) → json_of a ≡ json_of b → object_json a ≡ object_json b
+unfolding object_json
+same_json a b e = e
+
+-- what the same bytes hold has at most one answer
+content_once : (command : Command) (name bytes : List ℕ) (target : Option (List ℕ)) (c d : Content)
+    (a b : Answer)
+    → Holds (kind_of command) bytes c → Holds (kind_of command) bytes d
+    → AnswersHeld command (files_of command name) target (c ∷ []) a
+    → AnswersHeld command (files_of command name) target (d ∷ []) b → a ≡ b
+content_once ToJson name bytes target c d a b p q x y =
+    let v = value_held bytes c p in
+    let w = value_held bytes d q in
+    let first = subst (λ z. AnswersHeld ToJson (files_of ToJson name) target (z ∷ []) a) v.1 x in
+    let second = subst (λ z. AnswersHeld ToJson (files_of ToJson name) target (z ∷ []) b) w.1 y in
+    first ∙ ap (λ value. done target (layout value)) (text_once bytes v.0 w.0 v.2.text w.2.text)
+    ∙ sym second
+content_once ToObjects name bytes target c d a b p q x y =
+    let v = object_held bytes c p in
+    let w = object_held bytes d q in
+    let first =
+    subst (λ z. AnswersHeld ToObjects (files_of ToObjects name) target (z ∷ []) a) v.1 x in
+    let second =
+    subst (λ z. AnswersHeld ToObjects (files_of ToObjects name) target (z ∷ []) b) w.1 y in
+    first ∙ ap (λ json. done target (layout json)) (same_json v.0 w.0 (object_json_once bytes v.0 w.0 v.2 w.2)) ∙ sym second
+content_once (ListToList rate drop) name bytes target c d a b p q x y =
+    let v = list_held rate bytes c p in
+    let w = list_held rate bytes d q in
+    let first =
+    subst (λ z. AnswersHeld (ListToList rate drop) (files_of (ListToList rate drop) name) target
+    (z ∷ []) a) v.1 x in
+    let second =
+    subst (λ z. AnswersHeld (ListToList rate drop) (files_of (ListToList rate drop) name) target
+    (z ∷ []) b) w.1 y in
+    let same : w.0 ≡ v.0 = one_list rate bytes w.0 v.0 w.2 v.2 in
+    events_once name target v.0 (drop || v.0.drop) a b first
+    (subst (λ (l : EventList). AnswersEvents name target l (drop || l.drop) b) same second)
+content_once (Frames asked) name bytes target c d a b p q x y =
+    let v = timeline_held bytes c p in
+    let w = timeline_held bytes d q in
+    let first =
+    subst (λ z. AnswersHeld (Frames asked) (files_of (Frames asked) name) target (z ∷ []) a) v.1
+    x in
+    let second =
+    subst (λ z. AnswersHeld (Frames asked) (files_of (Frames asked) name) target (z ∷ []) b) w.1
+    y in
+    timeline_once asked name target v.0 w.0 a b
+    (timeline_bare_once bytes v.0 w.0 v.2 w.2) first second
+
+-- what is asked of one file has at most one answer
+one_once : (command : Command) (name : List ℕ) (target : Option (List ℕ)) (held : Held)
+    (a b : Answer)
+    → AnswersAsked (asked_for command name target) held a
+    → AnswersAsked (asked_for command name target) held b → a ≡ b
+one_once command name target held a b (Unread p) (Unread q) =
+    first_once Source Content Answer (IsRead held) (AnswersUnread held) (files_of command name) a b
+    (unread_once held) (read_or_unread held) p q
+one_once command name target held a b (Unread p) (Judged contents q h) =
+    absurd (each_or_first Source Content Answer (IsRead held) (AnswersUnread held)
+    (files_of command name) contents a (read_or_unread held) q p)
+one_once command name target held a b (Judged contents p h) (Unread q) =
+    absurd (each_or_first Source Content Answer (IsRead held) (AnswersUnread held)
+    (files_of command name) contents b (read_or_unread held) p q)
+one_once command name target held a b (Judged cs p h) (Judged ds q k) =
+    let file : Source = record { name = name; kind = kind_of command } in
+    let v = one_read held file cs p in
+    let w = one_read held file ds q in
+    let same = there_once w.2.bytes v.2.bytes (held name) w.2.there v.2.there in
+    content_once command name v.2.bytes target v.0 w.0 a b v.2.holds
+    (subst (λ x. Holds (kind_of command) x w.0) same w.2.holds)
+    (subst (λ z. AnswersHeld command (files_of command name) target z a) v.1 h)
+    (subst (λ z. AnswersHeld command (files_of command name) target z b) w.1 k)
+
+-- what words ask for has at most one answer
+asked_once : (words : List (List ℕ)) (asked : Asked) (held : Held) (a b : Answer) → Asks words asked
+    → AnswersAsked asked held a
+    → AnswersAsked asked held b → a ≡ b
+asked_once words asked held a b w p q =
+    let e = whole words asked w in
+    one_once asked.command w.name asked.target held a b
+    (subst (λ (x : Asked). AnswersAsked x held a) e p)
+    (subst (λ (x : Asked). AnswersAsked x held b) e q)
+
+pub answer_once : (words : List (List ℕ)) (held : Held) (a b : Answer) → Answers words held a
+    → Answers words held b → a ≡ b
+answer_once words held a b (NoCommand h e) (NoCommand k f) = e ∙ sym f
+answer_once words held a b (NoCommand h e) (OnFiles asked w l) =
+    absurd (h asked.command w.name asked.target w.ask)
+answer_once words held a b (OnFiles asked w l) (NoCommand h e) =
+    absurd (h asked.command w.name asked.target w.ask)
+answer_once words held a b (OnFiles asked w l) (OnFiles other v m) =
+    asked_once words asked held a b w l
+    (subst (λ (x : Asked). AnswersAsked x held b) (asks_once words other asked v w) m)
+
+-- the status that was given is that of the answer
+given : (words : List (List ℕ)) (held : Held) (d : Streams) (result : Status) (answer : Answer)
+    → Gives words held d result → Answers words held answer → result ≡ answer.status
+given words held d result answer g h =
+    sym g.status ∙ ap (λ (a : Answer). a.status) (answer_once words held g.answer answer g.owed h)
+
+completes_one : (words : List (List ℕ)) (old new : KnownFiles) (before now : ℕ) (d : Streams)
+    (result : Status)
+    → Ends words before now d result old new → Completes words before now d result old
+completes_one words old new before now d Done e =
+    λ answer h calm sent. inl (given words old.held d Done answer e.0 h)
+completes_one words old new before now d Usage e =
+    λ answer h calm sent. inl (given words old.held d Usage answer e h)
+completes_one words old new before now d Refused e =
+    λ answer h calm sent. inl (given words old.held d Refused answer e h)
+completes_one words old new before now d Input (inl e) =
+    λ answer h calm sent. inl (given words old.held d Input answer e.0 h)
+completes_one words old new before now d Input (inr e) =
+    λ answer h calm sent. absurd (calm e.failed)
+completes_one words old new before now d Output e = λ answer h calm sent. absurd (sent e.failed)
+completes_one words old new before now d Memory e = λ answer h calm sent. inr refl
+
+pub completes : (words : List (List ℕ)) (old new : Option KnownFiles) (before now : ℕ) (d : Streams)
+    (result : Status)
+    → Tells (Ends words before now d result) old new
+    → IfSome old (Completes words before now d result)
+completes words None new before now d result e = tt
+completes words (Some old) None before now d result e = absurd e
+completes words (Some old) (Some new) before now d result e =
+    completes_one words old new before now d result e
