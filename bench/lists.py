@@ -7,7 +7,7 @@
 It prints medians of wall time in milliseconds and their ratios in one run, and, where strace is there, the calls that read
 the list and write the output. With `--large` it measures the greatest legal lists, of 32 MiB, beside `wc -l` and `cat`, with
 peak memory: events in the order of the record, the same shuffled, and one event behind a long comment and behind many
-short ones. A list of so many events is read and judged, and then refused as one that has too many to be written.
+short ones; a plain reader in C++ (peers/edl_plain.cc) stands beside it, where g++ is there. A list of so many events is read and judged, and then refused as one that has too many to be written.
 """
 import os
 import random
@@ -81,15 +81,26 @@ def write_large(folder):
         print(f'{name}: {len(text) / 1e6:.1f} MB, {text.count(chr(10))} lines')
 
 
+def plain_reader(folder):
+    """The reader in C++, in a list; an empty list where it can't be built."""
+    if not shutil.which('g++'):
+        return []
+    reader = os.path.join(folder, 'edl_plain')
+    subprocess.run(['g++', '-std=c++17', '-O3', '-DNDEBUG', os.path.join(HERE, 'peers', 'edl_plain.cc'), '-o', reader], check=True)
+    return [('C++', [reader])]
+
+
 def large(runs):
     program = os.path.abspath(PROGRAM)
     with tempfile.TemporaryDirectory() as folder:
+        peers = plain_reader(folder)
         # A process of its own, since what it holds would count as the peak memory of those that are started here.
         written = subprocess.run([sys.executable, os.path.abspath(__file__), '--write', folder], stdout=subprocess.PIPE, text=True, check=True)
         for number, title_line in enumerate(written.stdout.splitlines()):
             print(title_line)
             name = f'{number}.edl'
-            for title, words in [('otio', [program, 'convert', '--to', 'edl', name]), ('wc -l', ['wc', '-l', name]), ('cat', ['cat', name])]:
+            programs = [('otio', [program, 'convert', '--to', 'edl', name])] + [(title, words + [name]) for title, words in peers]
+            for title, words in programs + [('wc -l', ['wc', '-l', name]), ('cat', ['cat', name])]:
                 rows = [timed(words, folder) for _ in range(runs)]
                 ms = statistics.median(row[0] for row in rows)
                 print(f'  {title:6} {ms:9.1f} ms {max(row[1] for row in rows):8.1f} MB   status {rows[0][2]}')

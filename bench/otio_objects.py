@@ -52,6 +52,8 @@ def documents():
         ('a clip with markers', lambda n: listed('Clip.2', 'markers', '{"OTIO_SCHEMA":"Marker.2"}', n), 100000),
         ('metadata `[[0],[0],..]`', nested, room // 4),
         ('a clip with effects', lambda n: listed('Clip.2', 'effects', effect, n), room // (len(effect) + 1)),
+        ('a clip with kept effects', lambda n: listed('Clip.2', 'effects', '0', n), room // 2),
+        ('a clip with kept markers', lambda n: listed('Clip.2', 'markers', '0', n), room // 2),
         ('a collection of timelines', lambda n: listed('SerializableCollection.1', 'children', timeline, n), room // (len(timeline) + 1)),
         ('a collection of collections', lambda n: listed('SerializableCollection.1', 'children', collection, n), room // (len(collection) + 1)),
     ]

@@ -1,16 +1,17 @@
 -- What words spell, and what it gives.
 use Rattle.std.proofs.Common.{◌≡◌, ℕ, Bool, List, [], ◌∷◌, Option, Some, None, MatchOption, refl, sym, ◌∙◌, ap, subst, get_or, ◌≤◌, arith}
 use Rattle.command_words.specs.declared.requests.Request.{Request}
+use denote.Ref.{Bor}
 use Rattle.std.specs.Option.{option_map, option_and_then}
 use Rattle.tick_time.specs.declared.rates.Rate.{Rate}
 use Rattle.command_words.specs.Parts.{CommandPart, IsPart, AreParts, spelled, spell}
 use Rattle.command_words.specs.Gathered.{Given, nothing_given, add, add_all, given_by}
-use Rattle.command_words.specs.Asked.{IsRate, IsInput, IsDefault, IsOutput, IsAskedOf, IsConversion, IsValue, IsCount, AreFrames, IsFrameList, IsAskedBy, Ask, AskNothing}
+use Rattle.command_words.specs.Asked.{IsRate, IsInput, IsDefault, IsOutput, IsAskedOf, IsConversion, IsValue, IsCount, AreFrames, IsListing, IsFrameList, IsAskedBy, IsMedia, IsRequest, Ask, AskNothing}
 use Rattle.command_words.specs.declared.conversions.Form.{Form}
 use Rattle.command_words.specs.declared.conversions.Form.TheVariants as form
 use Rattle.command_words.specs.declared.lines.Line.{Line}
 use Rattle.command_words.specs.declared.requests.Command.{Command}
-use Rattle.command_words.specs.declared.requests.Command.TheVariants.{ListToList, ToObjects, ToJson, Frames}
+use Rattle.command_words.specs.declared.requests.Command.TheVariants.{ListToList, ListToObjects, ToObjects, ToJson, Frames, ListFrames}
 use Rattle.command_words.specs.declared.requests.FramesAsked.{FramesAsked}
 use Rattle.command_words.specs.declared.names.Verb.{Verb}
 use Rattle.command_words.specs.declared.names.Verb.TheVariants as verbs
@@ -20,7 +21,7 @@ use Rattle.record_points.proofs.OnePoint.{number_once, point_once}
 use Rattle.command_words.specs.Names.{word_of}
 use Rattle.command_words.proofs.Naming.{verb_once}
 use Rattle.command_words.proofs.Spelling.{heads, parts_once}
-use Rattle.command_words.proofs.SameRates.{rate_once}
+use Rattle.command_words.proofs.SameRates.{asked_rate_once}
 
 -- where no part begins the words, they spell none
 pub no_parts : (verb : Verb) (word : List ℕ) (behind : List (List ℕ))
@@ -93,14 +94,22 @@ list_not name form.List form.List p q = refl
 list_not name form.List form.Json p q = absurd q
 list_not name form.Json g p q = absurd p
 
+-- the first byte of a word
+abbrev first : List ℕ → ℕ
+first word = get_or word 0 0
+
 -- a file is read as at most one form
 pub input_once : (from : Option (List ℕ)) (name : List ℕ) (f g : Form) → IsInput from name f
     → IsInput from name g → f ≡ g
 input_once None name f g p q = list_not name f g p q
 input_once (Some word) name form.Objects form.Objects p q = refl
-input_once (Some word) name form.Objects form.List p q = absurd q
+input_once (Some word) name form.Objects form.List p q =
+    absurd (omega (arith, ap first p, ap first q))
 input_once (Some word) name form.Objects form.Json p q = absurd q
-input_once (Some word) name form.List g p q = absurd p
+input_once (Some word) name form.List form.Objects p q =
+    absurd (omega (arith, ap first p, ap first q))
+input_once (Some word) name form.List form.List p q = refl
+input_once (Some word) name form.List form.Json p q = absurd q
 input_once (Some word) name form.Json g p q = absurd p
 
 default_once : (target : Option (List ℕ)) (f g : Form) → IsDefault target f → IsDefault target g
@@ -117,10 +126,6 @@ default_once (Some t) form.List form.Objects p q = absurd (q p)
 default_once (Some t) form.List form.List p q = refl
 default_once (Some t) form.List form.Json p q = absurd q
 default_once (Some t) form.Json g p q = absurd p
-
--- the first byte of a word
-abbrev first : List ℕ → ℕ
-first word = get_or word 0 0
 
 word_once : (word : List ℕ) (target : Option (List ℕ)) (f g : Form) → IsOutput (Some word) target f
     → IsOutput (Some word) target g → f ≡ g
@@ -141,38 +146,38 @@ output_once None target f g p q = default_once target f g p q
 output_once (Some word) target f g p q = word_once word target f g p q
 
 -- what is asked with these values
-pub asked_with : (command : Command) (called name : List ℕ) (target : Option (List ℕ))
-    (input output : Form) (rate : Rate) (given : Given) → given.file ≡ Some name
-    → IsInput given.from name input → IsOutput given.to given.target output → IsRate given.rate rate
-    → IsConversion command called target given
-    → IsAskedOf command input output rate given.drop × (called ≡ name) × (target ≡ given.target)
-asked_with command called name target input output rate given file reads writes is a =
+pub asked_with : (command : Command) (called name : List ℕ) (input output : Form) (rate : Rate)
+    (given : Given) → given.file ≡ Some name → IsInput given.from name input
+    → IsOutput given.to given.target output → IsRate given.rate rate
+    → IsConversion command called given
+    → IsAskedOf command input output rate given.drop × (called ≡ name)
+asked_with command called name input output rate given file reads writes is a =
     let same : called ≡ name = let e = sym a.file ∙ file in cc in
     let read : a.input ≡ input = input_once given.from name a.input input
     (subst (λ n. IsInput given.from n a.input) same a.reads) reads in
     let wrote : a.output ≡ output =
     output_once given.to given.target a.output output a.writes writes in
-    let once = rate_once given.rate a.rate rate a.is_rate is in (
+    let once = asked_rate_once given.rate a.rate rate a.is_rate is in (
       subst (λ i. IsAskedOf command i output rate given.drop) read
           (subst (λ o. IsAskedOf command a.input o rate given.drop) wrote
           (subst (λ r. IsAskedOf command a.input a.output r given.drop) once a.means)),
       same,
-      sym a.target_is,
     )
 
 -- words ask for what their parts ask for
 pub asks : (verb : Verb) (words rest : List (List ℕ)) (given : Given) (parts : List CommandPart)
-    (command : Command) (name : List ℕ) (target : Option (List ℕ)) → words ≡ word_of verb ∷ rest
-    → AreParts verb parts → rest ≡ spell parts → add_all nothing_given parts ≡ Some given
-    → IsAskedBy verb command name target given → Ask words command name target
-asks verb words rest given parts command name target w a s e is = record {
+    (command : Command) (name : List ℕ) (media target : Option (List ℕ))
+    → words ≡ word_of verb ∷ rest → AreParts verb parts → rest ≡ spell parts
+    → add_all nothing_given parts ≡ Some given → IsRequest verb command name media target given
+    → Ask words command name media target
+asks verb words rest given parts command name media target w a s e is = record {
   verb = verb;
   parts = parts;
   are_parts = a;
   words_are = w ∙ ap (λ l. word_of verb ∷ l) s;
   given = given;
   gathered = e;
-  asked = is;
+  is = is;
 }
 
 -- words that begin with the word of a command ask for that command, by one list of parts
@@ -191,38 +196,42 @@ same_line words rest verb parts g other found given same w a s e v b f =
 first_words : (a b : List ℕ) (more others : List (List ℕ)) → a ∷ more ≡ b ∷ others → a ≡ b
 first_words a b more others e = cc
 
--- the characters of the name of an output
-abbrev pub target_of : Request → Option (List ℕ)
-target_of request = option_map (λ s. s.now) request.target
+-- the characters of a name, where there is one
+abbrev pub name_of : Option (Bor (List ℕ)) → Option (List ℕ)
+name_of name = option_map (λ s. s.now) name
 
--- what the options and the file of a line ask for
+-- what is asked for by what is given
 abbrev pub AsksOf : Verb → Given → Option Request → Type 0
 AsksOf verb given result = MatchOption result
-    ((command : Command) (name : List ℕ) (target : Option (List ℕ))
-    → IsAskedBy verb command name target given → ⊥)
-    (λ request. IsAskedBy verb request.command request.name.now (target_of request) given)
+    ((command : Command) (name : List ℕ) (media target : Option (List ℕ))
+    → IsRequest verb command name media target given → ⊥)
+    (λ request. IsRequest verb request.command request.name.now (name_of request.media)
+    (name_of request.target) given)
 
 -- the request of a line is what the words ask for
 pub request_asks : (verb : Verb) (words rest : List (List ℕ)) (parts : List CommandPart) (g : Given)
     (result : Option Request) → words ≡ word_of verb ∷ rest → AreParts verb parts
     → rest ≡ spell parts → add_all nothing_given parts ≡ Some g → AsksOf verb g result
     → MatchOption result (AskNothing words)
-    (λ request. Ask words request.command request.name.now (target_of request))
-request_asks verb words rest parts g None w a s e m = λ command name target ask.
+    (λ request. Ask words request.command request.name.now (name_of request.media)
+    (name_of request.target))
+request_asks verb words rest parts g None w a s e m = λ command name media target ask.
     let same = verb_once ask.verb verb
     (first_words (word_of ask.verb) (word_of verb) (spell ask.parts) rest (sym ask.words_are
     ∙ w)) in
     let given =
     same_line words rest verb parts g ask.verb ask.parts ask.given same w a s e ask.words_are
     ask.are_parts ask.gathered in
-    m command name target (subst (λ v. IsAskedBy v command name target g) same
-    (subst (IsAskedBy ask.verb command name target) given ask.asked))
+    m command name media target (subst (λ v. IsRequest v command name media target g) same
+    (subst (IsRequest ask.verb command name media target) given ask.is))
 request_asks verb words rest parts g (Some request) w a s e m =
-    asks verb words rest g parts request.command request.name.now (target_of request) w a s e m
+    asks verb words rest g parts request.command request.name.now (name_of request.media)
+    (name_of request.target) w a s e m
 
 -- the command for what is read and what is written
 abbrev asked_for : Form → Form → Rate → Bool → Option Command
 asked_for form.List form.List rate drop = Some (ListToList rate drop)
+asked_for form.List form.Objects rate drop = Some (ListToObjects rate)
 asked_for form.Objects form.Objects rate drop = Some ToObjects
 asked_for form.Objects form.Json rate drop = Some ToJson
 asked_for input output rate drop = None
@@ -234,6 +243,11 @@ asked_is (ListToList r f) form.List form.Objects rate drop p = absurd p
 asked_is (ListToList r f) form.List form.List rate drop p = let e = p.0 in let h = p.1 in cc
 asked_is (ListToList r f) form.List form.Json rate drop p = absurd p
 asked_is (ListToList r f) form.Json output rate drop p = absurd p
+asked_is (ListToObjects r) form.Objects output rate drop p = absurd p
+asked_is (ListToObjects r) form.List form.Objects rate drop p = let e = p in cc
+asked_is (ListToObjects r) form.List form.List rate drop p = absurd p
+asked_is (ListToObjects r) form.List form.Json rate drop p = absurd p
+asked_is (ListToObjects r) form.Json output rate drop p = absurd p
 asked_is ToObjects form.Objects form.Objects rate drop p = refl
 asked_is ToObjects form.Objects form.List rate drop p = absurd p
 asked_is ToObjects form.Objects form.Json rate drop p = absurd p
@@ -245,6 +259,7 @@ asked_is ToJson form.Objects form.Json rate drop p = refl
 asked_is ToJson form.List output rate drop p = absurd p
 asked_is ToJson form.Json output rate drop p = absurd p
 asked_is (Frames asked) input output rate drop p = absurd p
+asked_is (ListFrames r asked) input output rate drop p = absurd p
 
 -- one file, one output and one rate make at most one command
 asked_once : (c d : Command) (input output : Form) (rate : Rate) (drop : Bool)
@@ -252,15 +267,11 @@ asked_once : (c d : Command) (input output : Form) (rate : Rate) (drop : Bool)
 asked_once c d input output rate drop p q = let e : Some c ≡ Some d =
     sym (asked_is c input output rate drop p) ∙ asked_is d input output rate drop q in cc
 
-convert_once : (c d : Command) (a b : List ℕ) (s t : Option (List ℕ)) (given : Given)
-    → IsConversion c a s given → IsConversion d b t given → (c ≡ d) × (a ≡ b) × (s ≡ t)
-convert_once c d a b s t given p q =
-    let h = asked_with d b a t p.input p.output p.rate given p.file p.reads p.writes p.is_rate q in (
-      asked_once c d p.input p.output p.rate given.drop p.means h.0,
-      sym h.1,
-      sym p.target_is
-          ∙ sym h.2,
-    )
+convert_once : (c d : Command) (a b : List ℕ) (given : Given) → IsConversion c a given
+    → IsConversion d b given → (c ≡ d) × (a ≡ b)
+convert_once c d a b given p q =
+    let h = asked_with d b a p.input p.output p.rate given p.file p.reads p.writes p.is_rate q in
+    (asked_once c d p.input p.output p.rate given.drop p.means h.0, sym h.1)
 
 -- an option asks for at most one value
 value_once : {A : Type 0} (Is : List ℕ → A → Type 0)
@@ -296,28 +307,96 @@ listing_once given a b p q =
     ap (λ x. frames_of x a.start a.count) child ∙ ap (λ x. frames_of b.child x a.count) start
     ∙ ap (frames_of b.child b.start) count
 
-frames_once : (c d : Command) (a b : List ℕ) (s t : Option (List ℕ)) (given : Given)
-    → IsFrameList c a s given → IsFrameList d b t given → (c ≡ d) × (a ≡ b) × (s ≡ t)
-frames_once c d a b s t given p q =
-    let file : Some a ≡ Some b = sym p.file ∙ q.file in
-    let asked = listing_once given p.asked q.asked p.are q.are in
-    (p.means ∙ ap Frames asked ∙ sym q.means, cc, sym p.target_is ∙ q.target_is)
+-- a file and what is asked of it make one listing
+one_listing : (c d : Command) (name : List ℕ) (rate : Rate) (frames : FramesAsked)
+    → IsListing c name rate frames → IsListing d name rate frames → c ≡ d
+one_listing (Frames x) (Frames y) name rate frames p q = ap Frames (p.1 ∙ sym q.1)
+one_listing (Frames x) (ListFrames r y) name rate frames p q = absurd (p.0 q.0)
+one_listing (ListFrames r x) (Frames y) name rate frames p q = absurd (q.0 p.0)
+one_listing (ListFrames r x) (ListFrames s y) name rate frames p q =
+    ap (λ z. ListFrames z x) (p.1 ∙ sym q.1) ∙ ap (ListFrames s) (p.2 ∙ sym q.2)
+one_listing (Frames x) (ListToList r f) name rate frames p q = absurd q
+one_listing (Frames x) (ListToObjects r) name rate frames p q = absurd q
+one_listing (Frames x) ToObjects name rate frames p q = absurd q
+one_listing (Frames x) ToJson name rate frames p q = absurd q
+one_listing (ListFrames r x) (ListToList s f) name rate frames p q = absurd q
+one_listing (ListFrames r x) (ListToObjects s) name rate frames p q = absurd q
+one_listing (ListFrames r x) ToObjects name rate frames p q = absurd q
+one_listing (ListFrames r x) ToJson name rate frames p q = absurd q
+one_listing (ListToList r f) d name rate frames p q = absurd p
+one_listing (ListToObjects r) d name rate frames p q = absurd p
+one_listing ToObjects d name rate frames p q = absurd p
+one_listing ToJson d name rate frames p q = absurd p
 
-by_once : (verb : Verb) (c d : Command) (a b : List ℕ) (s t : Option (List ℕ)) (given : Given)
-    → IsAskedBy verb c a s given → IsAskedBy verb d b t given → (c ≡ d) × (a ≡ b) × (s ≡ t)
-by_once verbs.Convert c d a b s t given p q = convert_once c d a b s t given p q
-by_once verbs.Frames c d a b s t given p q = frames_once c d a b s t given p q
+-- what is listed of the file of that name
+listed_with : (command : Command) (called name : List ℕ) (rate : Rate) (frames : FramesAsked)
+    (given : Given) → given.file ≡ Some name → AreFrames given frames → IsRate given.rate rate
+    → IsFrameList command called given → IsListing command name rate frames × (called ≡ name)
+listed_with command called name rate frames given file are is a =
+    let same : called ≡ name = let e = sym a.file ∙ file in cc in
+    let listed = listing_once given a.frames frames a.are are in
+    let once = asked_rate_once given.rate a.rate rate a.is_rate is in (
+      subst (λ n. IsListing command n rate frames) same
+          (subst (λ r. IsListing command called r frames) once
+          (subst (λ f. IsListing command called a.rate f) listed a.means)),
+      same,
+    )
+
+frames_once : (c d : Command) (a b : List ℕ) (given : Given) → IsFrameList c a given
+    → IsFrameList d b given → (c ≡ d) × (a ≡ b)
+frames_once c d a b given p q =
+    let h = listed_with d b a p.rate p.frames given p.file p.are p.is_rate q in
+    (one_listing c d a p.rate p.frames p.means h.0, sym h.1)
+
+by_once : (verb : Verb) (c d : Command) (a b : List ℕ) (given : Given) → IsAskedBy verb c a given
+    → IsAskedBy verb d b given → (c ≡ d) × (a ≡ b)
+by_once verbs.Convert c d a b given p q = convert_once c d a b given p q
+by_once verbs.Frames c d a b given p q = frames_once c d a b given p q
+
+-- a command reads at most one media list
+media_once : (c : Command) (named m n : Option (List ℕ)) → IsMedia c named m → IsMedia c named n
+    → m ≡ n
+media_once (ListToList r f) named m n p q = p.1 ∙ sym q.1
+media_once (ListToObjects r) named m n p q = p ∙ sym q
+media_once ToObjects named m n p q = p ∙ sym q
+media_once ToJson named m n p q = p ∙ sym q
+media_once (Frames asked) named m n p q = p ∙ sym q
+media_once (ListFrames r asked) named m n p q = p ∙ sym q
+
+-- the media list of a request is one of the command that is asked for
+media_in : (verb : Verb) (c d : Command) (a b : List ℕ) (m t : Option (List ℕ)) (given : Given)
+    → IsAskedBy verb c a given → IsRequest verb d b m t given → IsMedia c given.media m
+media_in verb c d a b m t given is r =
+    subst (λ x. IsMedia x given.media m) (sym (by_once verb c d a b given is r.asked).0) r.media_is
+
+-- where the command can't have the media list that is named, nothing is asked for
+pub without_media : (verb : Verb) (c : Command) (a : List ℕ) (given : Given)
+    → IsAskedBy verb c a given → ((m : Option (List ℕ)) → IsMedia c given.media m → ⊥)
+    → (d : Command) (b : List ℕ) (m t : Option (List ℕ)) → IsRequest verb d b m t given → ⊥
+without_media verb c a given is none d b m t r = none m (media_in verb c d a b m t given is r)
+
+request_once : (verb : Verb) (c d : Command) (a b : List ℕ) (m n s t : Option (List ℕ))
+    (given : Given) → IsRequest verb c a m s given → IsRequest verb d b n t given
+    → (c ≡ d) × (a ≡ b) × (m ≡ n) × (s ≡ t)
+request_once verb c d a b m n s t given p q =
+    let same = by_once verb c d a b given p.asked q.asked in (
+      same.0,
+      same.1,
+      media_once c given.media m n p.media_is (media_in verb c d a b n t given p.asked q),
+      sym p.target_is
+          ∙ q.target_is,
+    )
 
 -- words ask for at most one command on at most one file
-pub ask_once : (words : List (List ℕ)) (c d : Command) (a b : List ℕ) (s t : Option (List ℕ))
-    → Ask words c a s → Ask words d b t → (c ≡ d) × (a ≡ b) × (s ≡ t)
-ask_once words c d a b s t p q =
+pub ask_once : (words : List (List ℕ)) (c d : Command) (a b : List ℕ) (m n s t : Option (List ℕ))
+    → Ask words c a m s → Ask words d b n t → (c ≡ d) × (a ≡ b) × (m ≡ n) × (s ≡ t)
+ask_once words c d a b m n s t p q =
     let same = verb_once p.verb q.verb
     (first_words (word_of p.verb) (word_of q.verb) (spell p.parts) (spell q.parts)
     (sym p.words_are ∙ q.words_are)) in
     let given =
     same_line words (spell q.parts) q.verb q.parts q.given p.verb p.parts p.given same
     q.words_are q.are_parts refl q.gathered p.words_are p.are_parts p.gathered in
-    by_once q.verb c d a b s t q.given
-    (subst (λ v. IsAskedBy v c a s q.given) same (subst (IsAskedBy p.verb c a s) given p.asked))
-    q.asked
+    request_once q.verb c d a b m n s t q.given
+    (subst (λ v. IsRequest v c a m s q.given) same (subst (IsRequest p.verb c a m s) given p.is))
+    q.is

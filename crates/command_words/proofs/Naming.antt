@@ -1,7 +1,7 @@
 -- The words of options and of commands.
 use Rattle.std.proofs.Common.{◌≡◌, ℕ, Bool, true, false, List, [], ◌∷◌, Option, Some, None, refl, sym, ◌∙◌, ap, subst, codes, bytes_eq, if◌then◌else◌}
 use Rattle.std.proofs.lemmas.Slice.Eq.{bytes_eq-Decides}
-use Rattle.command_words.specs.Names.{meaning, word_of, verb_words, options_of, IsNamed, IsName}
+use Rattle.command_words.specs.Names.{meaning, word_of, verb_words, options_of, list_options, IsNamed, IsName}
 use Rattle.command_words.specs.declared.names.Verb.{Verb}
 use Rattle.command_words.specs.declared.names.Verb.TheVariants.{Convert, Frames}
 use Rattle.command_words.specs.declared.names.Named.{Named}
@@ -29,26 +29,20 @@ in_table word (row ∷ rows) options x e n =
 dashed : (second : ℕ) (rest : List ℕ) → IsName (45 ∷ second ∷ rest) → ⊥
 dashed second rest n = let k = n.plain (second ∷ rest) refl in cc
 
+list_are : AreOptions list_options
+list_are = (
+  dashed 45 (codes "rate"),
+  (dashed 45 (codes "media"), (dashed 111 [], (dashed 45 (codes "output"), tt))),
+)
+
 are_options : (verb : Verb) → AreOptions (options_of verb)
 are_options Convert = (
   dashed 45 (codes "from"),
-  (
-    dashed 45 (codes "to"),
-    (
-      dashed 45 (codes "rate"),
-      (dashed 45 (codes "drop"), (dashed 111 [], (dashed 45 (codes "output"), tt))),
-    ),
-  ),
+  (dashed 45 (codes "to"), (dashed 45 (codes "drop"), list_are)),
 )
 are_options Frames = (
   dashed 45 (codes "child"),
-  (
-    dashed 45 (codes "start"),
-    (
-      dashed 45 (codes "count"),
-      (dashed 111 [], (dashed 45 (codes "output"), tt)),
-    ),
-  ),
+  (dashed 45 (codes "start"), (dashed 45 (codes "count"), list_are)),
 )
 
 -- the name of an option is no name of a file

@@ -1,41 +1,12 @@
--- Rates of words.
-use Rattle.std.proofs.Common.{◌≡◌, ℕ, ℤ, List, Option, Some, None, sym, ◌∙◌}
-use Rattle.std.specs.Prelude.{Bool}
-use Rattle.tick_time.specs.Numerals.{Numeral, IsSame, fraction}
-use Rattle.tick_time.specs.Decimals.{decimal_value}
-use Rattle.tick_time.specs.Rates.{GivesRate}
+-- Rates that are asked for.
+use Rattle.std.proofs.Common.{◌≡◌, ℕ, List, Option, Some, None, sym, ◌∙◌}
 use Rattle.tick_time.specs.declared.rates.Rate.{Rate}
-use Rattle.tick_time.proofs.SameValues.{same_rate, at_least_one}
-use Rattle.tick_time.proofs.OneValue.{gives_same, gives_once, same_positive}
-use Rattle.tick_time.proofs.SpelledRates.{power_some}
-use Rattle.command_words.specs.Asked.{IsRate, IsRateWord}
+use Rattle.tick_time.proofs.SameValues.{same_rate}
+use Rattle.rate_words.proofs.RateLemmas.{rate_once}
+use Rattle.command_words.specs.Asked.{IsRate}
 
--- a word is at most one rate
-word_once : (word : List ℕ) (r s : Rate) → IsRateWord word r → IsRateWord word s → r ≡ s
-word_once word r s p q =
-    let n = p.numeral.0 in
-    let spells = p.numeral.1 in
-    let same = gives_once (fraction n) r.num r.den s.num s.den (power_some _) (p.gives n spells)
-    (q.gives n spells) in
-    same_rate r s (same_positive r.num s.num (at_least_one r) (at_least_one s) same.0)
-    (same_positive r.den s.den r.positive s.positive same.1)
-
-pub rate_once : (asked : Option (List ℕ)) (r s : Rate) → IsRate asked r → IsRate asked s → r ≡ s
-rate_once None r s p q = same_rate r s (p.0 ∙ sym q.0) (p.1 ∙ sym q.1)
-rate_once (Some word) r s p q = word_once word r s p q
-
--- the rate of the decimal that a numeral spells is that of the numeral
-pub given_rate : (neg : Bool) (digits : ℕ) (exp num den : ℤ) (number : Numeral)
-    → IsSame (decimal_value neg digits exp) (fraction number)
-    → GivesRate (decimal_value neg digits exp) num den → GivesRate (fraction number) num den
-given_rate neg digits exp num den number same gives =
-    gives_same (fraction number) (decimal_value neg digits exp) num den (sym same) (power_some _)
-    (power_some _) gives
-
--- and the other way
-pub rate_given : (neg : Bool) (digits : ℕ) (exp num den : ℤ) (number : Numeral)
-    → IsSame (decimal_value neg digits exp) (fraction number)
-    → GivesRate (fraction number) num den → GivesRate (decimal_value neg digits exp) num den
-rate_given neg digits exp num den number same gives =
-    gives_same (decimal_value neg digits exp) (fraction number) num den same (power_some _)
-    (power_some _) gives
+-- at most one rate is asked for
+pub asked_rate_once : (asked : Option (List ℕ)) (r s : Rate) → IsRate asked r → IsRate asked s
+    → r ≡ s
+asked_rate_once None r s p q = same_rate r s (p.0 ∙ sym q.0) (p.1 ∙ sym q.1)
+asked_rate_once (Some word) r s p q = rate_once word r s p q

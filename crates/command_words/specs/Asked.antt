@@ -1,8 +1,7 @@
 -- What a command line asks for.
 use Rattle.std.specs.Prelude.{◌≡◌, ℕ, ◌≤◌, pos, Bool, List, ◌∷◌, Option, Some, None, codes}
-use Rattle.tick_time.specs.Numerals.{Numeral, Spells, IsNumeral, IsTooLong, fraction}
-use Rattle.tick_time.specs.Rates.{GivesRate}
 use Rattle.tick_time.specs.declared.rates.Rate.{Rate}
+use Rattle.rate_words.specs.RateWords.{IsRateWord}
 use Rattle.record_points.specs.Words.{IsWholeNumber, IsPoint}
 use Rattle.command_words.specs.Names.{IsListName, word_of}
 use Rattle.command_words.specs.Parts.{CommandPart, AreParts, spell}
@@ -10,18 +9,10 @@ use Rattle.command_words.specs.Gathered.{Given, nothing_given, add_all}
 use Rattle.command_words.specs.declared.conversions.Form.{Form}
 use Rattle.command_words.specs.declared.conversions.Form.TheVariants as form
 use Rattle.command_words.specs.declared.requests.Command.{Command}
-use Rattle.command_words.specs.declared.requests.Command.TheVariants.{ListToList, ToObjects, ToJson, Frames}
+use Rattle.command_words.specs.declared.requests.Command.TheVariants.{ListToList, ListToObjects, ToObjects, ToJson, Frames, ListFrames}
 use Rattle.command_words.specs.declared.requests.FramesAsked.{FramesAsked}
 use Rattle.command_words.specs.declared.names.Verb.{Verb}
 use Rattle.command_words.specs.declared.names.Verb.TheVariants as verbs
-
--- The word is a rate: a number of JSON (RFC 8259, section 6) that isn't too long and stands for the
--- rate.
-pub record IsRateWord (word : List ℕ) (rate : Rate) : Type 0 where
-  pub numeral : IsNumeral word
-  pub short : (number : Numeral) → Spells word number → IsTooLong number → ⊥
-  pub gives : (number : Numeral) → Spells word number
-      → GivesRate (fraction number) rate.num rate.den
 
 -- the rate of lists: the one that is asked for, else 24 frames a second
 abbrev pub IsRate : Option (List ℕ) → Rate → Type 0
@@ -35,7 +26,7 @@ IsInput None name form.Objects = IsListName name → ⊥
 IsInput None name form.List = IsListName name
 IsInput None name form.Json = ⊥
 IsInput (Some word) name form.Objects = word ≡ codes "otio"
-IsInput (Some word) name form.List = ⊥
+IsInput (Some word) name form.List = word ≡ codes "edl"
 IsInput (Some word) name form.Json = ⊥
 
 -- what an output of that name is written as where no option says so: a list where the name is that
@@ -56,19 +47,18 @@ IsOutput (Some word) target form.List = word ≡ codes "edl"
 IsOutput (Some word) target form.Json = word ≡ codes "json"
 
 -- The command: a list is written as a list at this rate, with drop-frame timecode where the flag is
--- there; objects as objects or as JSON.
+-- there, or as the timeline that it conforms to; objects as objects or as JSON.
 abbrev pub IsAskedOf : Command → Form → Form → Rate → Bool → Type 0
 IsAskedOf (ListToList rate drop) form.List form.List asked flag = (rate ≡ asked) × (drop ≡ flag)
+IsAskedOf (ListToObjects rate) form.List form.Objects asked flag = rate ≡ asked
 IsAskedOf ToObjects form.Objects form.Objects asked flag = Unit {0}
 IsAskedOf ToJson form.Objects form.Json asked flag = Unit {0}
 IsAskedOf command input output asked flag = ⊥
 
 -- What the options and the file of `convert` ask for. Other options have a value that is allowed
 -- even where the command doesn't need it.
-pub record IsConversion (command : Command) (name : List ℕ) (target : Option (List ℕ))
-    (given : Given) : Type 0 where
+pub record IsConversion (command : Command) (name : List ℕ) (given : Given) : Type 0 where
   pub file : given.file ≡ Some name
-  pub target_is : given.target ≡ target
   pub input : Form
   pub reads : IsInput given.from name input
   pub output : Form
@@ -94,35 +84,64 @@ pub record AreFrames (given : Given) (asked : FramesAsked) : Type 0 where
   pub start : IsValue IsPoint given.start asked.start
   pub count : IsValue IsCount given.count asked.count
 
--- what the options and the file of `frames` ask for: the file is no list
-pub record IsFrameList (command : Command) (name : List ℕ) (target : Option (List ℕ))
-    (given : Given) : Type 0 where
+-- The command: these frames of a timeline, or of what a list conforms to at this rate where the
+-- file's name is that of a list.
+abbrev pub IsListing : Command → List ℕ → Rate → FramesAsked → Type 0
+IsListing (Frames asked) name rate frames = (IsListName name → ⊥) × (asked ≡ frames)
+IsListing (ListFrames asked_rate asked) name rate frames =
+    IsListName name × (asked_rate ≡ rate) × (asked ≡ frames)
+IsListing command name rate frames = ⊥
+
+-- what the options and the file of `frames` ask for
+pub record IsFrameList (command : Command) (name : List ℕ) (given : Given) : Type 0 where
   pub file : given.file ≡ Some name
-  pub target_is : given.target ≡ target
-  pub no_list : IsListName name → ⊥
-  pub asked : FramesAsked
-  pub are : AreFrames given asked
-  pub means : command ≡ Frames asked
+  pub frames : FramesAsked
+  pub are : AreFrames given frames
+  pub rate : Rate
+  pub is_rate : IsRate given.rate rate
+  pub means : IsListing command name rate frames
 
 -- what the options and the file of a command ask for
-abbrev pub IsAskedBy : Verb → Command → List ℕ → Option (List ℕ) → Given → Type 0
-IsAskedBy verbs.Convert command name target given = IsConversion command name target given
-IsAskedBy verbs.Frames command name target given = IsFrameList command name target given
+abbrev pub IsAskedBy : Verb → Command → List ℕ → Given → Type 0
+IsAskedBy verbs.Convert command name given = IsConversion command name given
+IsAskedBy verbs.Frames command name given = IsFrameList command name given
 
--- The words ask for this command on the file of this name, with the output into the file of the
--- target's name, or to the standard output where there is none: the command's own word, then its
--- options and the file in any order.
+-- The media list that is read: the one that is named, where a list is conformed. Elsewhere the name
+-- has no effect, but that a list to a list is asked for without one.
+abbrev pub IsMedia : Command → Option (List ℕ) → Option (List ℕ) → Type 0
+IsMedia (ListToList rate drop) named media = (named ≡ None) × (media ≡ None)
+IsMedia (ListToObjects rate) named media = media ≡ named
+IsMedia ToObjects named media = media ≡ None
+IsMedia ToJson named media = media ≡ None
+IsMedia (Frames asked) named media = media ≡ None
+IsMedia (ListFrames rate asked) named media = media ≡ named
+
+-- the name of the standard input
+abbrev pub standard_input : List ℕ
+standard_input = codes "-"
+
+-- What is given asks for this command on the file of this name, with this media list where one is
+-- read, and with the output into the file of the target's name, or to the standard output where
+-- there is none. The standard input is read at most once.
+pub record IsRequest (verb : Verb) (command : Command) (name : List ℕ)
+    (media target : Option (List ℕ)) (given : Given) : Type 0 where
+  pub asked : IsAskedBy verb command name given
+  pub media_is : IsMedia command given.media media
+  pub once : name ≡ standard_input → media ≡ Some standard_input → ⊥
+  pub target_is : given.target ≡ target
+
+-- The words ask for this: the command's own word, then its options and the file in any order.
 pub record Ask (words : List (List ℕ)) (command : Command) (name : List ℕ)
-    (target : Option (List ℕ)) : Type 0 where
+    (media target : Option (List ℕ)) : Type 0 where
   pub verb : Verb
   pub parts : List CommandPart
   pub are_parts : AreParts verb parts
   pub words_are : words ≡ word_of verb ∷ spell parts
   pub given : Given
   pub gathered : add_all nothing_given parts ≡ Some given
-  pub asked : IsAskedBy verb command name target given
+  pub is : IsRequest verb command name media target given
 
 -- the words ask for no command
 abbrev pub AskNothing : List (List ℕ) → Type 0
-AskNothing words = (command : Command) (name : List ℕ) (target : Option (List ℕ))
-    → Ask words command name target → ⊥
+AskNothing words = (command : Command) (name : List ℕ) (media target : Option (List ℕ))
+    → Ask words command name media target → ⊥

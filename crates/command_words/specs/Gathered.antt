@@ -3,7 +3,7 @@
 use Rattle.std.specs.Prelude.{ℕ, Bool, true, false, List, [], ◌∷◌, Option, Some, None}
 use Rattle.std.specs.Option.{option_map, option_and_then}
 use Rattle.command_words.specs.Parts.{CommandPart, Valued, Flagged, File}
-use Rattle.command_words.specs.declared.names.Choice.TheVariants.{From, To, Rate, Target, Child, Start, Count}
+use Rattle.command_words.specs.declared.names.Choice.TheVariants.{From, To, Rate, Target, Child, Start, Count, Media}
 use Rattle.command_words.specs.declared.names.Flag.TheVariants.{Drop}
 use Rattle.command_words.specs.declared.lines.Line.{Line}
 
@@ -15,6 +15,7 @@ pub record Given : Type 0 where
   pub child : Option (List ℕ)
   pub start : Option (List ℕ)
   pub count : Option (List ℕ)
+  pub media : Option (List ℕ)
   pub drop : Bool
   pub file : Option (List ℕ)
 
@@ -25,9 +26,9 @@ nothing_given = record {
   rate = None;
   target = None;
   child = None;
-  start =
-      None;
+  start = None;
   count = None;
+  media = None;
   drop = false;
   file = None;
 }
@@ -50,6 +51,7 @@ add g (Valued Target name value) = once g.target (record g { target = Some value
 add g (Valued Child name value) = once g.child (record g { child = Some value })
 add g (Valued Start name value) = once g.start (record g { start = Some value })
 add g (Valued Count name value) = once g.count (record g { count = Some value })
+add g (Valued Media name value) = once g.media (record g { media = Some value })
 add g (Flagged Drop name) = once_flag g.drop (record g { drop = true })
 add g (File name) = once g.file (record g { file = Some name })
 
@@ -67,6 +69,7 @@ given_by line = record {
   child = option_map (λ s. s.now) line.child;
   start = option_map (λ s. s.now) line.start;
   count = option_map (λ s. s.now) line.count;
+  media = option_map (λ s. s.now) line.media;
   drop = line.drop;
   file = option_map (λ s. s.now) line.file;
 }

@@ -2,7 +2,7 @@
 use Rattle.std.specs.Prelude.{◌≡◌, ◌≢◌, ℕ, List, [], ◌∷◌, ◌++◌, Option, Some, None, codes, bytes_eq, if◌then◌else◌}
 use Rattle.command_words.specs.declared.names.Verb.{Verb}
 use Rattle.command_words.specs.declared.names.Verb.TheVariants.{Convert, Frames}
-use Rattle.command_words.specs.declared.names.Choice.TheVariants.{From, To, Rate, Target, Child, Start, Count}
+use Rattle.command_words.specs.declared.names.Choice.TheVariants.{From, To, Rate, Target, Child, Start, Count, Media}
 use Rattle.command_words.specs.declared.names.Flag.TheVariants.{Drop}
 use Rattle.command_words.specs.declared.names.Named.{Named}
 use Rattle.command_words.specs.declared.names.Named.TheVariants.{Valued, Flagged}
@@ -21,16 +21,17 @@ word_of Frames = codes "frames"
 abbrev pub verb_words : List (List ℕ × Verb)
 verb_words = (word_of Convert, Convert) ∷ (word_of Frames, Frames) ∷ []
 
--- the options of each command, by their names
-abbrev pub target_options : List (List ℕ × Named)
-target_options = (codes "-o", Valued Target) ∷ (codes "--output", Valued Target) ∷ []
+-- the options of each command that takes lists, by their names
+abbrev pub list_options : List (List ℕ × Named)
+list_options = (codes "--rate", Valued Rate) ∷ (codes "--media", Valued Media) ∷
+    (codes "-o", Valued Target) ∷ (codes "--output", Valued Target) ∷ []
 
 -- the options that are built for a command, by their names
 abbrev pub options_of : Verb → List (List ℕ × Named)
 options_of Convert = (codes "--from", Valued From) ∷ (codes "--to", Valued To) ∷
-    (codes "--rate", Valued Rate) ∷ (codes "--drop", Flagged Drop) ∷ target_options
+    (codes "--drop", Flagged Drop) ∷ list_options
 options_of Frames = (codes "--child", Valued Child) ∷ (codes "--start", Valued Start) ∷
-    (codes "--count", Valued Count) ∷ target_options
+    (codes "--count", Valued Count) ∷ list_options
 
 -- the word is the name of this option of the command
 abbrev pub IsNamed : Verb → Named → List ℕ → Type 0

@@ -7,7 +7,7 @@ ghost use Rattle.command_words.specs.Gathered.{given_by};
 use crate::lines::Line;
 use crate::names::is_list_name;
 use crate::rates::rate_asked;
-use crate::requests::{Command, Request};
+use crate::requests::Command;
 use text_lines::is_text;
 use tick_time::Rate;
 
@@ -22,13 +22,11 @@ pub enum Form {
     Json,
 }
 
-/// What the options and the file of `convert` ask for.
-pub fn conversion_of<'a>(line: &Line<'a>) -> Option<Request<'a>>
+/// What the options and the file of `convert` ask for: the command and the file's name.
+pub fn conversion_of<'a>(line: &Line<'a>) -> Option<(Command, &'a str)>
     ensures { let given = given_by line.now in MatchOption result
-        ((command : Command) (name : List ℕ) (target : Option (List ℕ)) →
-        IsConversion command name target given → ⊥)
-        (λ request. IsConversion request.command request.name.now
-        (option_map (λ s. s.now) request.target) given) }
+        ((command : Command) (name : List ℕ) → IsConversion command name given → ⊥)
+        (λ asked. IsConversion asked.0 asked.1.now given) }
 {
     let Some(name) = line.file else {
         return None;
@@ -43,11 +41,7 @@ pub fn conversion_of<'a>(line: &Line<'a>) -> Option<Request<'a>>
         return None;
     };
     match command_in(input, output, rate, line.drop) {
-        Some(command) => Some(Request {
-            command,
-            name,
-            target: line.target,
-        }),
+        Some(command) => Some((command, name)),
         None => None,
     }
 }
@@ -59,15 +53,25 @@ fn input_of(from: Option<&str>, name: &str) -> Option<Form>
         (λ form. IsInput asked name.now form) }
 {
     match from {
-        Some(word) => {
-            if is_text(word.as_bytes(), b"otio") {
-                Some(Form::Objects)
-            } else {
-                None
-            }
-        }
+        Some(word) => input_of_word(word),
         None => Some(form_of_name(name)),
     }
+}
+
+// What a word says that the file is.
+fn input_of_word(word: &str) -> Option<Form>
+    ensures { (name : List ℕ) → MatchOption result
+        ((form : Form) → IsInput (Some word.now) name form → ⊥)
+        (λ form. IsInput (Some word.now) name form) }
+{
+    let word = word.as_bytes();
+    if is_text(word, b"otio") {
+        return Some(Form::Objects);
+    }
+    if is_text(word, b"edl") {
+        return Some(Form::List);
+    }
+    None
 }
 
 // What a file of that name is where nothing else says so.
@@ -131,10 +135,20 @@ fn command_in(input: Form, output: Form, rate: Rate, drop: bool) -> Option<Comma
 {
     match input {
         Form::Objects => object_command(output),
-        Form::List => match output {
-            Form::List => Some(Command::ListToList { rate, drop }),
-            _ => None,
-        },
+        Form::List => list_command(output, rate, drop),
+        Form::Json => None,
+    }
+}
+
+// The command for a list.
+fn list_command(output: Form, rate: Rate, drop: bool) -> Option<Command>
+    ensures { MatchOption result
+        ((command : Command) → IsAskedOf command Form.List output rate drop → ⊥)
+        (λ command. IsAskedOf command Form.List output rate drop) }
+{
+    match output {
+        Form::Objects => Some(Command::ListToObjects { rate }),
+        Form::List => Some(Command::ListToList { rate, drop }),
         Form::Json => None,
     }
 }

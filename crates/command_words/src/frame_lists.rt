@@ -2,13 +2,15 @@
 ghost use Rattle.std.specs.Prelude.{◌≡◌, ℕ, List, Option, MatchOption};
 ghost use Rattle.std.specs.Option.{option_map};
 ghost use Rattle.record_points.specs.Words.{IsWholeNumber, IsPoint};
-ghost use Rattle.command_words.specs.Asked.{AreFrames, IsCount, IsFrameList, IsValue};
+ghost use Rattle.command_words.specs.Asked.{AreFrames, IsCount, IsFrameList, IsListing, IsValue};
 ghost use Rattle.command_words.specs.Gathered.{given_by};
 
 use crate::lines::Line;
 use crate::names::is_list_name;
-use crate::requests::{Command, FramesAsked, Request};
+use crate::rates::rate_asked;
+use crate::requests::{Command, FramesAsked};
 use record_points::{RecordPoint, point_of, whole_number};
+use tick_time::Rate;
 
 /// How many record frames a command line may ask for at least.
 const LEAST_FRAMES: u64 = 1;
@@ -16,27 +18,32 @@ const LEAST_FRAMES: u64 = 1;
 /// How many record frames a command line may ask for at most.
 const MOST_FRAMES: u64 = 1_000_000;
 
-/// What the options and the file of `frames` ask for.
-pub fn frame_list_of<'a>(line: &Line<'a>) -> Option<Request<'a>>
+/// What the options and the file of `frames` ask for: the command and the file's name.
+pub fn frame_list_of<'a>(line: &Line<'a>) -> Option<(Command, &'a str)>
     ensures { let given = given_by line.now in MatchOption result
-        ((command : Command) (name : List ℕ) (target : Option (List ℕ)) →
-        IsFrameList command name target given → ⊥)
-        (λ request. IsFrameList request.command request.name.now
-        (option_map (λ s. s.now) request.target) given) }
+        ((command : Command) (name : List ℕ) → IsFrameList command name given → ⊥)
+        (λ asked. IsFrameList asked.0 asked.1.now given) }
 {
     let Some(name) = line.file else {
         return None;
     };
-    if is_list_name(name) {
+    let Some(frames) = frames_asked(line) else {
         return None;
-    }
-    match frames_asked(line) {
-        Some(asked) => Some(Request {
-            command: Command::Frames(asked),
-            name,
-            target: line.target,
-        }),
+    };
+    match rate_asked(line.rate) {
+        Some(rate) => Some((listing_of(name, rate, frames), name)),
         None => None,
+    }
+}
+
+// The listing of a file of that name.
+fn listing_of(name: &str, rate: Rate, frames: FramesAsked) -> Command
+    ensures { IsListing result name.now rate frames }
+{
+    if is_list_name(name) {
+        Command::ListFrames { rate, frames }
+    } else {
+        Command::Frames(frames)
     }
 }
 

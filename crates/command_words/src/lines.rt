@@ -17,6 +17,7 @@ pub struct Line<'a> {
     pub child: Option<&'a str>,
     pub start: Option<&'a str>,
     pub count: Option<&'a str>,
+    pub media: Option<&'a str>,
     pub drop: bool,
     pub file: Option<&'a str>,
 }
@@ -33,6 +34,7 @@ pub fn empty_line<'a>() -> Line<'a>
         child: None,
         start: None,
         count: None,
+        media: None,
         drop: false,
         file: None,
     }
@@ -106,6 +108,10 @@ fn with_value<'a>(line: Line<'a>, choice: Choice, value: &'a str) -> Option<Line
         }),
         Choice::Count if line.count.is_none() => Some(Line {
             count: value,
+            ..line
+        }),
+        Choice::Media if line.media.is_none() => Some(Line {
+            media: value,
             ..line
         }),
         _ => None,

@@ -1,6 +1,6 @@
 // The words of a command line, one by one.
 ghost use Rattle.std.specs.Prelude.{◌≡◌, ◌↔◌, IsTrue, bytes_eq};
-ghost use Rattle.command_words.specs.Names.{meaning, verb_words, options_of, target_options, IsName, IsListName};
+ghost use Rattle.command_words.specs.Names.{meaning, verb_words, options_of, list_options, IsName, IsListName};
 
 use text_lines::strip_back;
 
@@ -30,6 +30,8 @@ pub enum Choice {
     Start,
     /// How many record frames are listed.
     Count,
+    /// The name of the media list that lists are conformed with.
+    Media,
 }
 
 /// An option without a value.
@@ -81,13 +83,10 @@ fn convert_option(word: &str) -> Option<Named>
     if is_word(word, "--to") {
         return Some(Named::Valued(Choice::To));
     }
-    if is_word(word, "--rate") {
-        return Some(Named::Valued(Choice::Rate));
-    }
     if is_word(word, "--drop") {
         return Some(Named::Flagged(Flag::Drop));
     }
-    target_option(word)
+    list_option(word)
 }
 
 // The option of `frames` of that name.
@@ -103,13 +102,19 @@ fn frames_option(word: &str) -> Option<Named>
     if is_word(word, "--count") {
         return Some(Named::Valued(Choice::Count));
     }
-    target_option(word)
+    list_option(word)
 }
 
-// The option of each command of that name.
-fn target_option(word: &str) -> Option<Named>
-    ensures { result ≡ meaning word.now target_options }
+// The option of that name of each command that takes lists.
+fn list_option(word: &str) -> Option<Named>
+    ensures { result ≡ meaning word.now list_options }
 {
+    if is_word(word, "--rate") {
+        return Some(Named::Valued(Choice::Rate));
+    }
+    if is_word(word, "--media") {
+        return Some(Named::Valued(Choice::Media));
+    }
     if is_word(word, "-o") {
         return Some(Named::Valued(Choice::Target));
     }

@@ -1,34 +1,10 @@
 // The rate that a command line asks for.
 ghost use Rattle.std.specs.Prelude.{MatchOption, None};
 ghost use Rattle.std.specs.Option.{option_map};
-ghost use Rattle.command_words.specs.Asked.{IsRate, IsRateWord};
+ghost use Rattle.command_words.specs.Asked.{IsRate};
 
-use tick_time::{Decimal, Rate, is_numeral};
-
-/// The rate that a word is.
-pub fn rate_of(word: &str) -> Option<Rate>
-    ensures { MatchOption result ((rate : Rate) → IsRateWord word.now rate →
-        ⊥) (λ rate. IsRateWord word.now rate) }
-{
-    rate_in(word.as_bytes())
-}
-
-// The rate that bytes are.
-fn rate_in(word: &[u8]) -> Option<Rate>
-    ensures { MatchOption result ((rate : Rate) → IsRateWord word.now rate →
-        ⊥) (λ rate. IsRateWord word.now rate) }
-{
-    if !is_numeral(word) {
-        return None;
-    }
-    let Ok(decimal) = Decimal::read(word) else {
-        return None;
-    };
-    match Rate::of(&decimal) {
-        Ok(rate) => Some(rate),
-        Err(_) => None,
-    }
-}
+use rate_words::rate_of;
+use tick_time::Rate;
 
 /// The rate of lists: the one that is asked for, else 24 frames a second.
 pub fn rate_asked(word: Option<&str>) -> Option<Rate>
@@ -36,7 +12,7 @@ pub fn rate_asked(word: Option<&str>) -> Option<Rate>
         IsRate asked rate → ⊥) (λ rate. IsRate asked rate) }
 {
     match word {
-        Some(word) => rate_of(word),
+        Some(word) => rate_of(word.as_bytes()),
         None => Some(film_rate()),
     }
 }

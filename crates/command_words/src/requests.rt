@@ -1,7 +1,7 @@
 // What a command line asks for.
-ghost use Rattle.std.specs.Prelude.{◌≡◌, ℕ, List, Option, map, string_bytes, MatchOption};
+ghost use Rattle.std.specs.Prelude.{◌≡◌, ◌↔◌, ℕ, List, Option, Some, map, string_bytes, IsTrue, MatchOption};
 ghost use Rattle.std.specs.Option.{option_map};
-ghost use Rattle.command_words.specs.Asked.{Ask, AskNothing, IsAskedBy};
+ghost use Rattle.command_words.specs.Asked.{Ask, AskNothing, IsAskedBy, IsMedia, IsRequest, standard_input};
 ghost use Rattle.command_words.specs.Gathered.{given_by};
 
 use crate::conversions::conversion_of;
@@ -10,6 +10,7 @@ use crate::lines::{Line, empty_line, gather};
 use crate::names::{Verb, verb_of};
 use crate::parts::first_word;
 use record_points::RecordPoint;
+use text_lines::is_text;
 use tick_time::Rate;
 
 /// What is to be done with a file.
@@ -22,12 +23,24 @@ pub enum Command {
         /// Whether the list is written with drop-frame timecode whatever it says itself.
         drop: bool,
     },
+    /// A list is conformed, and its timeline written in the current schemas and the written order.
+    ListToObjects {
+        /// The rate of the list, in frames a second.
+        rate: Rate,
+    },
     /// An object is written in the current schemas and the written order.
     ToObjects,
     /// A JSON text is written in its layout.
     ToJson,
     /// What a timeline shows is listed, a row for each record frame.
     Frames(FramesAsked),
+    /// What the timeline shows that a list conforms to is listed.
+    ListFrames {
+        /// The rate of the list, in frames a second.
+        rate: Rate,
+        /// Which record frames are listed.
+        frames: FramesAsked,
+    },
 }
 
 /// Which record frames of a timeline are listed.
@@ -49,6 +62,9 @@ pub struct Request<'a> {
     pub command: Command,
     /// The name of the file; `-` is the standard input.
     pub name: &'a str,
+    /// The name of the media list that a list is conformed with; none where none is read. `-` is
+    /// the standard input, which is read at most once.
+    pub media: Option<&'a str>,
     /// The name of the output file; none for the standard output.
     pub target: Option<&'a str>,
 }
@@ -57,7 +73,7 @@ pub struct Request<'a> {
 pub fn request_of(words: &[String]) -> Option<Request<'_>>
     ensures { let said = map (λ w. string_bytes w) words.now in MatchOption result (AskNothing said)
         (λ request. Ask said request.command request.name.now
-        (option_map (λ s. s.now) request.target)) }
+        (option_map (λ s. s.now) request.media) (option_map (λ s. s.now) request.target)) }
 {
     let Some((word, rest)) = first_word(words) else {
         return None;
@@ -71,13 +87,36 @@ pub fn request_of(words: &[String]) -> Option<Request<'_>>
     }
 }
 
-// What the options and the file of a line ask of a command.
+// What is asked for by what a line gives.
 fn request_in<'a>(verb: Verb, line: &Line<'a>) -> Option<Request<'a>>
     ensures { let given = given_by line.now in MatchOption result
-        ((command : Command) (name : List ℕ) (target : Option (List ℕ)) →
-        IsAskedBy verb command name target given → ⊥)
-        (λ request. IsAskedBy verb request.command request.name.now
-        (option_map (λ s. s.now) request.target) given) }
+        ((command : Command) (name : List ℕ) (media target : Option (List ℕ)) →
+        IsRequest verb command name media target given → ⊥)
+        (λ request. IsRequest verb request.command request.name.now
+        (option_map (λ s. s.now) request.media) (option_map (λ s. s.now) request.target) given) }
+{
+    let Some((command, name)) = command_in(verb, line) else {
+        return None;
+    };
+    let Some(media) = media_of(command, line.media) else {
+        return None;
+    };
+    if is_standard(name) && is_standard_media(media) {
+        return None;
+    }
+    Some(Request {
+        command,
+        name,
+        media,
+        target: line.target,
+    })
+}
+
+// The command that the options and the file of a line ask for, and the file's name.
+fn command_in<'a>(verb: Verb, line: &Line<'a>) -> Option<(Command, &'a str)>
+    ensures { let given = given_by line.now in MatchOption result
+        ((command : Command) (name : List ℕ) → IsAskedBy verb command name given → ⊥)
+        (λ asked. IsAskedBy verb asked.0 asked.1.now given) }
 {
     match verb {
         Verb::Convert => conversion_of(line),
@@ -85,10 +124,43 @@ fn request_in<'a>(verb: Verb, line: &Line<'a>) -> Option<Request<'a>>
     }
 }
 
-/// Law: words ask for at most one command on at most one file, with at most one output. It does
-/// nothing.
+// The media list that a command reads, where this one is named; none where it can't have one.
+fn media_of<'a>(command: Command, named: Option<&'a str>) -> Option<Option<&'a str>>
+    ensures { let given = option_map (λ s. s.now) named.entry in MatchOption result
+        ((media : Option (List ℕ)) → IsMedia command given media → ⊥)
+        (λ media. IsMedia command given (option_map (λ s. s.now) media)) }
+{
+    match command {
+        Command::ListToList { .. } => match named {
+            Some(_) => None,
+            None => Some(None),
+        },
+        Command::ListToObjects { .. } | Command::ListFrames { .. } => Some(named),
+        Command::ToObjects | Command::ToJson | Command::Frames(_) => Some(None),
+    }
+}
+
+// Whether a name is that of the standard input.
+fn is_standard(name: &str) -> bool
+    ensures { IsTrue result ↔ (name.now ≡ standard_input) }
+{
+    is_text(name.as_bytes(), b"-")
+}
+
+// Whether a media list comes from the standard input.
+fn is_standard_media(media: Option<&str>) -> bool
+    ensures { IsTrue result ↔ (option_map (λ s. s.now) media.entry ≡ Some standard_input) }
+{
+    match media {
+        Some(name) => is_standard(name),
+        None => false,
+    }
+}
+
+/// Law: words ask for at most one command on at most one file, with at most one media list and one
+/// output. It does nothing.
 pub fn one_request()
-    ensures { (words : List (List ℕ)) (one other : Command) (a b : List ℕ) (p q : Option (List ℕ)) →
-        Ask words one a p → Ask words other b q
-        → (one ≡ other) × (a ≡ b) × (p ≡ q) }
+    ensures { (words : List (List ℕ)) (one other : Command) (a b : List ℕ)
+        (m n p q : Option (List ℕ)) → Ask words one a m p → Ask words other b n q
+        → (one ≡ other) × (a ≡ b) × (m ≡ n) × (p ≡ q) }
 {}

@@ -26,6 +26,7 @@ fn lines_ask_for_lists(rt: HostRuntime) -> Result<(), Fail> {
         ("convert a.edl --rate 25 --to edl --drop", 25, true),
         ("convert --rate 29.97 --to edl a.edl", 30_000, false),
         ("convert --drop --to edl .edl", 24, true),
+        ("convert --from edl --to edl x.edl", 24, false),
     ] {
         let words = words_of(rt.alloc(), line)?;
         match request_of(words.as_slice()) {
@@ -78,13 +79,15 @@ fn other_lines_ask_for_nothing(rt: HostRuntime) -> Result<(), Fail> {
         "convert --to edl -- a.edl",
         "convert --to json a.edl",
         "convert --to edl a.json",
-        "convert --to otio a.edl",
-        "convert a.edl",
-        "convert --from edl --to edl a.edl",
-        "convert --from edl x",
         "convert --to edl x",
         "convert -o l.edl x",
         "convert --from otio --to edl a.edl",
+        "convert --from edl --to json x",
+        "convert --from json x",
+        "convert --to edl --media m a.edl",
+        "convert --from edl --media - -",
+        "convert --media m --media m a.edl",
+        "convert --media a.edl",
         "convert -o b.edl --output c.edl a.edl",
         "convert --to json --rate 29.5 x",
         "convert --to json --rate 024 x",
@@ -113,6 +116,8 @@ fn lines_ask_for_objects_and_outputs(rt: HostRuntime) -> Result<(), Fail> {
         ),
         ("convert --to json -o y x", Command::ToJson, Some("y")),
         ("convert --from otio --to json a.edl", Command::ToJson, None),
+        ("convert --media m x", Command::ToObjects, None),
+        ("convert --media - --to json -", Command::ToJson, None),
     ] {
         let words = words_of(rt.alloc(), line)?;
         match request_of(words.as_slice()) {
@@ -172,7 +177,6 @@ fn other_lines_ask_for_no_frames(rt: HostRuntime) -> Result<(), Fail> {
         "frames",
         "Frames x",
         "frames x y",
-        "frames a.edl",
         "frames -x",
         "frames --count=1 x",
         "frames x --count",
@@ -188,9 +192,10 @@ fn other_lines_ask_for_no_frames(rt: HostRuntime) -> Result<(), Fail> {
         "frames --start 01:00:00.00 x",
         "frames --start 01;00;00;00 x",
         "frames --start 01 x",
-        "frames --rate 24 x",
-        "frames --media m x",
         "frames --from otio x",
+        "frames --rate 29.5 x",
+        "frames --rate 0 a.edl",
+        "frames --media m",
         "frames --to json x",
         "frames --drop x",
         "convert --child 0 x",
@@ -198,6 +203,61 @@ fn other_lines_ask_for_no_frames(rt: HostRuntime) -> Result<(), Fail> {
         "convert --count 1 x",
     ] {
         assert!(rt; asks_for_nothing(rt.alloc(), line)?, "{line}");
+    }
+    Ok(())
+}
+
+// The numerator of the rate that a command asks for of a list that is conformed, and whether frames
+// are listed.
+fn conformed_at(command: Command) -> Option<(i64, bool)> {
+    match command {
+        Command::ListToObjects { rate } => Some((rate.num, false)),
+        Command::ListFrames { rate, .. } => Some((rate.num, true)),
+        _ => None,
+    }
+}
+
+#[test]
+fn lines_ask_for_conformed_lists(rt: HostRuntime) -> Result<(), Fail> {
+    for (line, num, media, listed) in [
+        ("convert a.edl", 24, None, false),
+        (
+            "convert --to otio --media m a.edl --drop",
+            24,
+            Some("m"),
+            false,
+        ),
+        (
+            "convert --from edl --rate 25 --media - x -o y",
+            25,
+            Some("-"),
+            false,
+        ),
+        ("convert --from edl - --media m", 24, Some("m"), false),
+        ("frames a.edl", 24, None, true),
+        (
+            "frames --rate 29.97 --media m a.edl",
+            30_000,
+            Some("m"),
+            true,
+        ),
+    ] {
+        let words = words_of(rt.alloc(), line)?;
+        let asked = match request_of(words.as_slice()) {
+            Some(request) => Some((request.media, conformed_at(request.command))),
+            None => None,
+        };
+        assert_eq!(rt; asked, Some((media, Some((num, listed)))), "{line}");
+    }
+    Ok(())
+}
+
+#[test]
+fn a_media_list_without_effect_is_not_read(rt: HostRuntime) -> Result<(), Fail> {
+    let words = words_of(rt.alloc(), "frames --media - --rate 24 -")?;
+    match request_of(words.as_slice()) {
+        Some(request) => assert!(rt; request.media.is_none()),
+        None => assert!(rt; false),
     }
     Ok(())
 }

@@ -9,6 +9,7 @@ use otio_model::{
     Children, Clip, Effect, Effects, Item, ItemOf, Items, Markers, Media, MediaMap, Missing, Stack,
     StackOf, Timeline, TrackOf, Transition, Warp,
 };
+use owned::Owned;
 use sequences::{NamedValues, Sequence, Text};
 use std::alloc::{AllocError, Global};
 use std::test::Fail;
@@ -46,15 +47,11 @@ fn hour() -> Option<Time> {
     frames(90_000, rate_25()?)
 }
 
-fn nameless(alloc: Global) -> Text {
-    Text::from_string(String::new(alloc))
-}
-
 /// Missing media of this range.
 fn missing(alloc: Global, available_range: Option<Span>) -> Media {
     Media::Missing(Missing {
         metadata: NamedValues::new(alloc),
-        name: nameless(alloc),
+        name: Text::empty(),
         available_range,
         rest: NamedValues::new(alloc),
     })
@@ -62,7 +59,7 @@ fn missing(alloc: Global, available_range: Option<Span>) -> Media {
 
 fn media(alloc: Global, available_range: Option<Span>) -> Result<MediaMap, AllocError> {
     let mut media = MediaMap::new(alloc);
-    media.put(nameless(alloc), missing(alloc, available_range))?;
+    media.put(Text::empty(), missing(alloc, available_range))?;
     Ok(media)
 }
 
@@ -86,8 +83,8 @@ fn played(
         effects,
         media_references,
         enabled: true,
-        name: nameless(alloc),
-        active_media_reference_key: nameless(alloc),
+        name: Text::empty(),
+        active_media_reference_key: Text::empty(),
         markers: Markers::new(alloc),
         metadata: NamedValues::new(alloc),
         rest: NamedValues::new(alloc),
@@ -110,8 +107,8 @@ fn track(alloc: Global, children: Children) -> Item
         children,
         source_range: None,
         enabled: true,
-        kind: nameless(alloc),
-        name: nameless(alloc),
+        kind: Text::empty(),
+        name: Text::empty(),
         effects: Effects::new(alloc),
         markers: Markers::new(alloc),
         metadata: NamedValues::new(alloc),
@@ -126,7 +123,7 @@ fn root(alloc: Global, children: Children) -> Stack
         children,
         enabled: true,
         source_range: None,
-        name: nameless(alloc),
+        name: Text::empty(),
         markers: Markers::new(alloc),
         effects: Effects::new(alloc),
         rest: NamedValues::new(alloc),
@@ -142,7 +139,7 @@ fn timeline(alloc: Global, start: Option<Time>, item: Item) -> Result<Timeline, 
     let tracks = root(alloc, one(alloc, track(alloc, inner))?);
     let metadata = NamedValues::new(alloc);
     let rest = NamedValues::new(alloc);
-    Ok(Timeline::of(alloc, metadata, nameless(alloc), start, tracks, rest))
+    Ok(Timeline::of(alloc, metadata, Text::empty(), start, tracks, rest))
 }
 
 /// What was found in a timeline.
@@ -198,7 +195,7 @@ fn judged_deeper(alloc: Global, item: Item) -> Result<Outcome, AllocError>
 fn fast(alloc: Global) -> Result<Item, AllocError>
     ensures { IfOk result (λ item. count_of item ≡ 1) }
 {
-    let effects = vec![in alloc; warp(alloc, 1_000_000_000), warp(alloc, 2_000_000)]?;
+    let effects = vec![in alloc; warp(alloc, 1_000_000_000)?, warp(alloc, 2_000_000)?]?;
     Ok(played(
         alloc,
         span(0, 24, Some(rate_24())),
@@ -228,25 +225,26 @@ fn start_of(alloc: Global, source_range: Option<Span>, media: MediaMap) -> i128 
     trimmed_start(&clip(alloc, source_range, media))
 }
 
-fn warp(alloc: Global, speed: i64) -> Effect
+fn warp(alloc: Global, speed: i64) -> Result<Effect, AllocError>
     requires low { (pos 0 -ℤ pos 1000000000) ≤ℤ speed }
     requires high { speed ≤ℤ pos 1000000000 }
 {
-    Effect::Warp(Warp {
+    let warp = Warp {
         metadata: NamedValues::new(alloc),
-        name: nameless(alloc),
-        effect_name: nameless(alloc),
+        name: Text::empty(),
+        effect_name: Text::empty(),
         time_scalar: Scalar(speed),
         rest: NamedValues::new(alloc),
-    })
+    };
+    Ok(Effect::Warp(Owned::of(alloc, warp)?))
 }
 
 #[test]
 fn a_transition_plays_as_it_is(rt: HostRuntime) -> Result<(), Fail> {
     let item = ItemOf::Transition(Transition {
         metadata: NamedValues::new(rt.alloc()),
-        name: nameless(rt.alloc()),
-        transition_type: nameless(rt.alloc()),
+        name: Text::empty(),
+        transition_type: Text::empty(),
         in_offset: None,
         out_offset: None,
         rest: NamedValues::new(rt.alloc()),

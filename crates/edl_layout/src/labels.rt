@@ -37,8 +37,8 @@ fn is_source_below_day(cross: &Cross, rate: Rate, drop: bool) -> bool
 {
     match cross {
         Cross::Cut => true,
-        Cross::Dissolve { from, .. } => is_below_day(from.src_in, rate, drop),
-        Cross::Wipe { from, .. } => is_below_day(from.src_in, rate, drop),
+        Cross::Dissolve { from, .. } => is_below_day(from.get().src_in, rate, drop),
+        Cross::Wipe { from, .. } => is_below_day(from.get().src_in, rate, drop),
     }
 }
 

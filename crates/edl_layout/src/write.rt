@@ -92,8 +92,8 @@ fn put_event<W: Out>(buffer: &mut OutBuffer, out: &mut W, event: &Event, numberi
 {
     match &event.cross {
         Cross::Cut => put_cut(buffer, out, event, numbering),
-        Cross::Dissolve { from, .. } => put_pair(buffer, out, event, from, numbering),
-        Cross::Wipe { from, .. } => put_pair(buffer, out, event, from, numbering),
+        Cross::Dissolve { from, .. } => put_pair(buffer, out, event, from.get(), numbering),
+        Cross::Wipe { from, .. } => put_pair(buffer, out, event, from.get(), numbering),
     }
 }
 

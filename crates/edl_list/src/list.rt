@@ -1,5 +1,6 @@
 //! Lists, events and their sides.
 
+use owned::Owned;
 use sequences::{Sequence, Text};
 use tick_time::Rate;
 
@@ -59,7 +60,7 @@ pub enum Cross {
         /// From 1 to 999 in a well formed list.
         frames: u16,
         /// The outgoing side.
-        from: Side,
+        from: Owned<Side>,
     },
     /// By a wipe from the outgoing side, over so many frames of the record from the event's start.
     Wipe {
@@ -68,7 +69,7 @@ pub enum Cross {
         /// From 1 to 999 in a well formed list.
         frames: u16,
         /// The outgoing side.
-        from: Side,
+        from: Owned<Side>,
     },
 }
 

@@ -2,6 +2,7 @@
 ghost use Rattle.std.specs.Prelude.{◌≤ℤ◌, pos};
 
 use crate::{Channel, Cross, Event, EventList, Reel, Side};
+use owned::Owned;
 use sequences::{Sequence, Text};
 use std::alloc::{AllocError, Global};
 use std::test::Fail;
@@ -54,12 +55,12 @@ fn events_of_each_kind(rt: HostRuntime) -> Result<(), Fail> {
     let alloc = rt.alloc();
     let dissolve = Cross::Dissolve {
         frames: 12,
-        from: side(alloc, "TAPE2", 0)?,
+        from: Owned::of(alloc, side(alloc, "TAPE2", 0)?)?,
     };
     let wipe = Cross::Wipe {
         code: 1,
         frames: 24,
-        from: black(),
+        from: Owned::of(alloc, black())?,
     };
     let list = EventList {
         title: Text::of(alloc, "of each kind")?,

@@ -5,3 +5,4 @@ pub mod Sorting
 pub mod SpanSteps
 pub mod StrictOrder
 pub mod WholeNumbers
+mod TurnSteps

@@ -1,6 +1,6 @@
 -- What the search for an overlap knows of the events so far, the spans that those of one channel
 -- take kept by their starts: no public contract cites these words.
-use Rattle.std.specs.Prelude.{◌≡◌, ◌⊎◌, ◌≤◌, ℕ, ℤ, ◌<ℤ◌, ◌≤ℤ◌, List, Option, Some, None, All, AllPairs, Any, MatchOption, nat_lt, if◌then◌else◌}
+use Rattle.std.specs.Prelude.{◌≡◌, ◌⊎◌, ◌≤◌, ℕ, ℤ, ◌<ℤ◌, ◌≤ℤ◌, List, Option, Some, None, All, AllPairs, Any, Contains, MatchOption, nat_lt, if◌then◌else◌}
 use Rattle.std.specs.Ordering.{int_cmp}
 use Rattle.std.specs.BTreeMap.{BTreeMap, get}
 use Rattle.edl_list.specs.declared.list.Channel.{Channel}
@@ -64,3 +64,21 @@ lesser_of (Some a) (Some b) = if nat_lt b a then Some b else Some a
 pub record Follow (end : ℤ) (channel : Channel) (events : List Event) : Type 0 where
   pub behind : All (λ event. event.channel ≡ channel → event.rec_out ≤ℤ end) events
   pub apart : AllPairs (AreApartOn channel) events
+
+-- the record span of an event, and its line
+abbrev pub span_of : Event → (ℤ × ℤ) × ℕ
+span_of event = ((event.rec_in, event.rec_out), event.line)
+
+-- two spans share no frame
+abbrev pub AreClear : (ℤ × ℤ) × ℕ → (ℤ × ℤ) × ℕ → Type 0
+AreClear a b = (a.0.1 ≤ℤ b.0.0) ⊎ (b.0.1 ≤ℤ a.0.0)
+
+-- the spans of the events on the channel are among these
+abbrev pub HasSpans : Channel → List Event → List ((ℤ × ℤ) × ℕ) → Type 0
+HasSpans channel events spans =
+    All (λ event. event.channel ≡ channel → Contains spans (span_of event)) events
+
+-- the spans are one behind another, and none ends behind this frame
+pub record AreInTurn (end : ℤ) (spans : List ((ℤ × ℤ) × ℕ)) : Type 0 where
+  pub behind : All (λ span. span.0.1 ≤ℤ end) spans
+  pub clear : AllPairs AreClear spans

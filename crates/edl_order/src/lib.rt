@@ -7,6 +7,7 @@ mod overlap;
 mod spans;
 #[cfg(test)]
 mod tests;
+mod turns;
 
 pub use order::in_record_order;
 pub use overlap::first_overlap;

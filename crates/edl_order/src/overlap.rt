@@ -5,6 +5,7 @@ ghost use Rattle.edl_order.specs.StateSpans.{AreApartOn, FindsOn, lesser_of};
 ghost use Rattle.edl_order.specs.Overlaps.{AreRead, IsOverlap, IsFirstOverlap};
 
 use crate::spans::{keep, meets};
+use crate::turns::{are_apart, is_on};
 use edl_list::{Channel, Event};
 use std::alloc::{AllocError, Global};
 use std::collections::BTreeMap;
@@ -41,19 +42,15 @@ fn lesser(a: Option<u32>, b: Option<u32>) -> Option<u32>
     }
 }
 
-// Whether the event is on the channel.
-fn is_on(event: &Event, channel: Channel) -> bool
-    ensures { IsTrue result ↔ (event.now.channel ≡ channel) }
-{
-    event.channel == channel
-}
-
 // The same on one channel. Where its events follow one another nothing is kept and no memory is
-// asked for.
+// asked for; where they do once they are sorted, no search is needed.
 fn overlap_on(alloc: Global, channel: Channel, events: &[Event]) -> Result<Option<u32>, AllocError>
     ensures { AreRead events.now → IfOk result (FindsOn channel events.now) }
 {
     if do_follow(channel, events) {
+        return Ok(None);
+    }
+    if are_apart(alloc, channel, events)? {
         return Ok(None);
     }
     search_on(alloc, channel, events)

@@ -1,6 +1,6 @@
 //! The latest event line, which M2 lines and notes may still change.
 
-ghost use Rattle.std.specs.Prelude.{◌≡◌, ◌++◌, List, ℕ, map, true, false, IfOk, MatchOption, OnOk};
+ghost use Rattle.std.specs.Prelude.{◌≡◌, ◌++◌, List, ℕ, Some, map, true, false, IfOk, MatchOption, OnOk};
 ghost use Rattle.edl_line.specs.Views.{reel_said};
 ghost use Rattle.edl_text.specs.Events.{where_set};
 ghost use Rattle.edl_text.specs.Sides.{reel_of as reel_named, begun as begun_by, duration as duration_of, is_cut as is_cut_kind};
@@ -11,6 +11,7 @@ use crate::frames::Frames;
 use crate::sides::{copy_side, is_reel};
 use edl_line::{Channels, Kind, ReelName};
 use edl_list::{Channel, Cross, Event, Side};
+use owned::Owned;
 use sequences::Text;
 use std::alloc::{AllocError, Global};
 
@@ -27,16 +28,29 @@ pub(crate) struct Pending {
 }
 
 /// How an event of this kind begins, with its outgoing side.
-fn begun(kind: Kind, from: Option<Side>) -> Cross
-    ensures { result ≡ begun_by kind from }
+fn begun(alloc: Global, kind: Kind, from: Option<Side>) -> Result<Cross, AllocError>
+    ensures { IfOk result (λ cross. cross ≡ begun_by kind from) }
 {
     match from {
-        None => Cross::Cut,
-        Some(from) => match kind {
-            Kind::Cut => Cross::Cut,
-            Kind::Dissolve(frames) => Cross::Dissolve { frames, from },
-            Kind::Wipe { code, frames } => Cross::Wipe { code, frames, from },
-        },
+        None => Ok(Cross::Cut),
+        Some(from) => begun_from(alloc, kind, from),
+    }
+}
+
+/// How an event of this kind begins from this side.
+fn begun_from(alloc: Global, kind: Kind, from: Side) -> Result<Cross, AllocError>
+    ensures { IfOk result (λ cross. cross ≡ begun_by kind (Some from)) }
+{
+    match kind {
+        Kind::Cut => Ok(Cross::Cut),
+        Kind::Dissolve(frames) => {
+            let from = Owned::of(alloc, from)?;
+            Ok(Cross::Dissolve { frames, from })
+        }
+        Kind::Wipe { code, frames } => {
+            let from = Owned::of(alloc, from)?;
+            Ok(Cross::Wipe { code, frames, from })
+        }
     }
 }
 
@@ -166,12 +180,12 @@ impl Pending {
     }
 
     /// The side of the line as an outgoing side: it begins and ends where the line's source ends.
-    pub(crate) fn into_from(self) -> Side
-        ensures { result ≡ from_end self.to }
+    pub(crate) fn from_side(&self, alloc: Global) -> Result<Side, AllocError>
+        ensures { IfOk result (λ side. side ≡ from_end self.now.to) }
     {
-        let mut side = self.to;
+        let mut side = copy_side(alloc, &self.to)?;
         side.src_in = side.src_out;
-        side
+        Ok(side)
     }
 
     /// The event of the line on one channel.
@@ -182,7 +196,7 @@ impl Pending {
             line: self.line,
             channel,
             to: copy_side(alloc, &self.to)?,
-            cross: begun(self.kind, copy_from(alloc, &self.from)?),
+            cross: begun(alloc, self.kind, copy_from(alloc, &self.from)?)?,
             rec_in: i64::from(self.frames.record_in),
             rec_out: i64::from(self.frames.record_out),
         })
@@ -206,16 +220,41 @@ impl Pending {
         Ok(())
     }
 
-    /// Adds the events of the line.
-    pub(crate) fn push_to(&self, alloc: Global, events: &mut Vec<Event>) -> Result<(), AllocError>
-        ensures { OnOk result (events.new.items ≡ events.old.items ++ events_given self.now) }
+    /// The event of the line on one channel, in the same memory.
+    fn into_event(self, alloc: Global, channel: Channel) -> Result<Event, AllocError>
+        ensures { IfOk result (λ event. event ≡ event_of self channel) }
+    {
+        Ok(Event {
+            line: self.line,
+            channel,
+            to: self.to,
+            cross: begun(alloc, self.kind, self.from)?,
+            rec_in: i64::from(self.frames.record_in),
+            rec_out: i64::from(self.frames.record_out),
+        })
+    }
+
+    /// Adds the events of the line; the last takes the sides of the line.
+    pub(crate) fn push_to(self, alloc: Global, events: &mut Vec<Event>) -> Result<(), AllocError>
+        ensures { OnOk result (events.new.items ≡ events.old.items ++ events_given self) }
     {
         if self.frames.record_in == self.frames.record_out {
             return Ok(());
         }
-        self.push_on(alloc, self.channels.picture, Channel::V, events)?;
-        self.push_on(alloc, self.channels.first_sound, Channel::A, events)?;
-        self.push_on(alloc, self.channels.second_sound, Channel::A2, events)?;
+        if self.channels.second_sound {
+            self.push_on(alloc, self.channels.picture, Channel::V, events)?;
+            self.push_on(alloc, self.channels.first_sound, Channel::A, events)?;
+            events.push(self.into_event(alloc, Channel::A2)?)?;
+            return Ok(());
+        }
+        if self.channels.first_sound {
+            self.push_on(alloc, self.channels.picture, Channel::V, events)?;
+            events.push(self.into_event(alloc, Channel::A)?)?;
+            return Ok(());
+        }
+        if self.channels.picture {
+            events.push(self.into_event(alloc, Channel::V)?)?;
+        }
         Ok(())
     }
 }

@@ -202,7 +202,7 @@ impl Said {
         }
         let events = in_record_order(events)?;
         Ok(EventList {
-            title: title_of(alloc, title),
+            title: title_of(title),
             rate,
             drop: first_drop.unwrap_or(false),
             events,
@@ -279,21 +279,23 @@ impl Said {
         let Some(pending) = self.pending.take() else {
             return Ok(None);
         };
-        pending.push_to(self.alloc, &mut self.events)?;
         if duration(kind) == 0 {
+            pending.push_to(self.alloc, &mut self.events)?;
             return Ok(None);
         }
-        Ok(Some(pending.into_from()))
+        let from = pending.from_side(self.alloc)?;
+        pending.push_to(self.alloc, &mut self.events)?;
+        Ok(Some(from))
     }
 }
 
 /// The title, empty where there is none.
-fn title_of(alloc: Global, title: Option<Text>) -> Text
+fn title_of(title: Option<Text>) -> Text
     ensures { result ≡ unwrap_or title [] }
 {
     match title {
         Some(title) => title,
-        None => Text::from_string(String::new(alloc)),
+        None => Text::empty(),
     }
 }
 

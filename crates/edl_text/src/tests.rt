@@ -105,6 +105,7 @@ M2 A1 000.0 00:00:05:00
         assert!(rt; second.to.speed == Some(0));
         match &second.cross {
             Cross::Dissolve { frames, from } => {
+                let from = from.get();
                 assert_eq!(rt; *frames, 12);
                 assert!(rt; from.speed == Some(240));
                 assert!(rt; from.src_in == 48 && from.src_out == 48);

@@ -9,6 +9,10 @@ use Rattle.schema_rows.specs.declared.faults.SchemaFault.{SchemaFault}
 use Rattle.schema_rows.specs.declared.faults.SchemaFault.TheVariants as schema
 use Rattle.coord.specs.declared.faults.CoordFault.{CoordFault}
 use Rattle.coord.specs.declared.faults.CoordFault.TheVariants as coord
+use Rattle.media_list.specs.declared.faults.MediaFault.{MediaFault}
+use Rattle.media_list.specs.declared.faults.MediaFault.TheVariants as media
+use Rattle.edl_frames.specs.declared.faults.ConformFault.{ConformFault}
+use Rattle.edl_frames.specs.declared.faults.ConformFault.TheVariants as conform
 use Rattle.fault_text.specs.Reasons.{refusal, number_text, item_text, field_text}
 
 -- bytes that are no JSON text
@@ -31,6 +35,26 @@ list_fault_text (edl.Overlap line) = refusal (codes "L7") (codes "Overlap") (num
 list_fault_text (edl.Reverse line) = refusal (codes "L8") (codes "Reverse") (number_text line)
 list_fault_text edl.Large = refusal (codes "L9") (codes "Large") []
 list_fault_text edl.Memory = []
+
+-- bytes that are no media list
+abbrev pub media_fault_text : MediaFault → List ℕ
+media_fault_text (media.Line line) = refusal (codes "M1") (codes "Line") (number_text line)
+media_fault_text (media.Rate line) = refusal (codes "M5") (codes "Rate") (number_text line)
+media_fault_text (media.Range line) = refusal (codes "M4") (codes "Range") (number_text line)
+media_fault_text (media.ReelTwice line) =
+    refusal (codes "M2") (codes "ReelTwice") (number_text line)
+media_fault_text (media.UrlTwice line) = refusal (codes "M3") (codes "UrlTwice") (number_text line)
+media_fault_text media.Large = refusal (codes "M6") (codes "Large") []
+media_fault_text media.Memory = []
+
+-- a list that isn't conformed
+abbrev pub conform_fault_text : ConformFault → List ℕ
+conform_fault_text (conform.NoReel line) = refusal (codes "Q1") (codes "NoReel") (number_text line)
+conform_fault_text (conform.Rate line) = refusal (codes "Q3") (codes "Rate") (number_text line)
+conform_fault_text (conform.Outside line) =
+    refusal (codes "Q2") (codes "Outside") (number_text line)
+conform_fault_text conform.Items = refusal (codes "Q4") (codes "Items") []
+conform_fault_text conform.Memory = []
 
 -- a value that stands for no object
 abbrev pub fault_text : SchemaFault → List ℕ

@@ -2,12 +2,14 @@
 
 ghost use Rattle.std.specs.Prelude.{◌≡◌, ◌≢◌, [], MatchOption};
 ghost use Rattle.fault_text.specs.Reasons.{reason_text, refusal, number_text, item_text, field_text};
-ghost use Rattle.fault_text.specs.Faults.{json_fault_text, list_fault_text, fault_text, coord_fault_text, no_timecode_text, events_text, day_text, not_timeline_text, range_text};
+ghost use Rattle.fault_text.specs.Faults.{json_fault_text, list_fault_text, media_fault_text, conform_fault_text, fault_text, coord_fault_text, no_timecode_text, events_text, day_text, not_timeline_text, range_text};
 
 use crate::reasons::{Detail, Reason};
 use coord::CoordFault;
+use edl_frames::ConformFault;
 use edl_text::EdlFault;
 use json_text::JsonFault;
+use media_list::MediaFault;
 use otio_model::Place;
 use schema_rows::SchemaFault;
 use sequences::Text;
@@ -44,6 +46,38 @@ pub fn list_reason(fault: EdlFault) -> Option<Reason>
         EdlFault::Reverse(line) => Some(line_reason("L8", "Reverse", line)),
         EdlFault::Large => Some(bare_reason("L9", "Large")),
         EdlFault::Memory => None,
+    }
+}
+
+/// What is told of bytes that are no media list, with the line; `None` exactly for want of memory.
+pub fn media_reason(fault: MediaFault) -> Option<Reason>
+    ensures { MatchOption result (fault ≡ MediaFault.Memory)
+        (λ reason. (fault ≢ MediaFault.Memory) × (reason_text reason ≡ media_fault_text fault)) }
+{
+    match fault {
+        MediaFault::Line(line) => Some(line_reason("M1", "Line", line)),
+        MediaFault::Rate(line) => Some(line_reason("M5", "Rate", line)),
+        MediaFault::Range(line) => Some(line_reason("M4", "Range", line)),
+        MediaFault::ReelTwice(line) => Some(line_reason("M2", "ReelTwice", line)),
+        MediaFault::UrlTwice(line) => Some(line_reason("M3", "UrlTwice", line)),
+        MediaFault::Large => Some(bare_reason("M6", "Large")),
+        MediaFault::Memory => None,
+    }
+}
+
+/// What is told of a list that isn't conformed, with the line of the event; `None` exactly for want
+/// of memory.
+pub fn conform_reason(fault: ConformFault) -> Option<Reason>
+    ensures { MatchOption result (fault ≡ ConformFault.Memory)
+        (λ reason. (fault ≢ ConformFault.Memory)
+        × (reason_text reason ≡ conform_fault_text fault)) }
+{
+    match fault {
+        ConformFault::NoReel(line) => Some(line_reason("Q1", "NoReel", line)),
+        ConformFault::Rate(line) => Some(line_reason("Q3", "Rate", line)),
+        ConformFault::Outside(line) => Some(line_reason("Q2", "Outside", line)),
+        ConformFault::Items => Some(bare_reason("Q4", "Items")),
+        ConformFault::Memory => None,
     }
 }
 

@@ -9,8 +9,8 @@ mod places;
 mod reasons;
 
 pub use faults::{
-    coord_reason, day_reason, events_reason, json_reason, list_reason, no_timecode_reason,
-    not_timeline_reason, range_reason, schema_reason,
+    conform_reason, coord_reason, day_reason, events_reason, json_reason, list_reason,
+    media_reason, no_timecode_reason, not_timeline_reason, range_reason, schema_reason,
 };
 pub use reasons::{Detail, Reason, put_reason};
 

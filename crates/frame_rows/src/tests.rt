@@ -48,10 +48,6 @@ fn span(start: i64, len: i64) -> Option<Span> {
     Some(Span { start, len })
 }
 
-fn nameless(alloc: Global) -> Text {
-    Text::from_string(String::new(alloc))
-}
-
 /// A clip of this name without media.
 fn clip(alloc: Global, name: Text, source_range: Option<Span>) -> Item
     ensures { count_of result ≡ 1 }
@@ -64,7 +60,7 @@ fn clip(alloc: Global, name: Text, source_range: Option<Span>) -> Item
         effects: Effects::new(alloc),
         markers: Markers::new(alloc),
         metadata: NamedValues::new(alloc),
-        active_media_reference_key: nameless(alloc),
+        active_media_reference_key: Text::empty(),
         rest: NamedValues::new(alloc),
     })
 }
@@ -74,7 +70,7 @@ fn gap(alloc: Global, source_range: Option<Span>) -> Item
 {
     ItemOf::Gap(Gap {
         source_range,
-        name: nameless(alloc),
+        name: Text::empty(),
         enabled: true,
         markers: Markers::new(alloc),
         effects: Effects::new(alloc),
@@ -101,7 +97,7 @@ fn root(alloc: Global, children: Children) -> Stack
         children,
         metadata: NamedValues::new(alloc),
         rest: NamedValues::new(alloc),
-        name: nameless(alloc),
+        name: Text::empty(),
         enabled: true,
         effects: Effects::new(alloc),
         markers: Markers::new(alloc),
@@ -121,7 +117,7 @@ fn timeline(alloc: Global, start: Option<Time>, len: i64) -> Result<Timeline, Al
     Ok(Timeline::of(
         alloc,
         NamedValues::new(alloc),
-        nameless(alloc),
+        Text::empty(),
         start,
         root(alloc, children),
         NamedValues::new(alloc),
@@ -177,8 +173,8 @@ fn clips(alloc: Global, count: i64) -> Result<Items, AllocError> {
 
 fn track(alloc: Global, children: Children) -> Item {
     ItemOf::Track(TrackOf {
-        kind: nameless(alloc),
-        name: nameless(alloc),
+        kind: Text::empty(),
+        name: Text::empty(),
         source_range: None,
         children,
         rest: NamedValues::new(alloc),
@@ -197,7 +193,7 @@ fn long_timeline(alloc: Global, count: i64) -> Result<Timeline, AllocError> {
     let tracks = root(alloc, Children::of(alloc, items)?);
     let metadata = NamedValues::new(alloc);
     let rest = NamedValues::new(alloc);
-    Ok(Timeline::of(alloc, metadata, nameless(alloc), None, tracks, rest))
+    Ok(Timeline::of(alloc, metadata, Text::empty(), None, tracks, rest))
 }
 
 /// Sends what is listed of a track of so many clips of one frame.

@@ -1,5 +1,5 @@
 -- The text of each kind of value, and of a list and of an object, member by member.
-use Rattle.std.proofs.Common.{◌≡◌, ℕ, suc, ◌+◌, ◌<◌, Bool, List, [], ◌∷◌, ◌++◌, length, get_or, map, refl, ap, ◌∙◌, append_assoc, drop, drop-cons, add-one, arith}
+use Rattle.std.proofs.Common.{◌≡◌, ℕ, suc, ◌+◌, ◌<◌, Bool, List, [], ◌∷◌, ◌++◌, length, get_or, map, refl, sym, ap, ◌∙◌, append_assoc, drop, drop-cons, add-one, arith}
 use Rattle.json_value.specs.declared.Json.{Json, Null, Bool as JsonOfBool, Num, Str, List as JsonOfList, Map as JsonOfMap}
 use Rattle.json_value.specs.declared.Json.TheOpen.{Json-F}
 use Rattle.json_value.specs.declared.Json.TheFolds.{fold-roll-Json}
@@ -46,10 +46,13 @@ item_lines-next lead head n items i d is h = rw (is, add-one, drop-cons items i 
 
 pub member_lines-next : (lead : List ℕ) (head n : ℕ) (members : List (List ℕ × Json)) (i : ℕ) (d : List ℕ × Json) → lead ≡ head ∷ 10 ∷ [] → i < length members
     → member_lines head n (drop i members)
-    ≡ (lead ++ indent n) ++ (quoted (get_or members i d).0 ++ ((58 ∷ 32 ∷ []) ++ (text_at (get_or members i d).1 n ++ member_lines 44 n (drop (i + 1) members))))
+    ≡ (lead ++ indent n) ++ ((quoted (get_or members i d).0 ++ (58 ∷ 32 ∷ [])) ++ (text_at (get_or members i d).1 n ++ member_lines 44 n (drop (i + 1) members)))
 member_lines-next lead head n members i d is h =
+    let name = quoted (get_or members i d).0 in
+    let text = text_at (get_or members i d).1 n in
     rw (is, add-one, drop-cons members i d)
-    (ap (λ r. head ∷ 10 ∷ (indent n ++ r)) (append_assoc (quoted (get_or members i d).0) (58 ∷ 32 ∷ text_at (get_or members i d).1 n) (member_lines 44 n (drop (suc i) members))))
+    (ap (λ r. head ∷ 10 ∷ (indent n ++ r)) (append_assoc name (58 ∷ 32 ∷ text) (member_lines 44 n (drop (suc i) members))
+    ∙ sym (append_assoc name (58 ∷ 32 ∷ []) (text ++ member_lines 44 n (drop (suc i) members)))))
 
 -- a list that isn't empty: its lines, and the closing bracket on a line of its own
 pub list_text-lines : (n : ℕ) (items : List Json) → 0 < length items → list_text n items ≡ item_lines 91 (n + 1) items ++ (newline n ++ 93 ∷ [])

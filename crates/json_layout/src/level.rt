@@ -36,11 +36,20 @@ pub fn inside<'a>(outer: &'a Level<'a>) -> Level<'a>
     Level::Inside(&*outer)
 }
 
-/// Hands over these bytes, and the spaces of a level behind them: four a level.
+/// Hands over these bytes, and the spaces of a level behind them: four a level. A comma and a line
+/// feed go with the spaces in one slice, where few lists and objects stand around.
 pub fn put_line<W: Out>(buffer: &mut OutBuffer, out: &mut W, lead: &[u8], level: &Level<'_>)
     ensures { HandsOver W.known W.faults out.old out.new buffer.old buffer.new
         (lead.now ++ indent (deep level.now)) }
 {
+    if lead == b",\n".as_slice() {
+        if let Level::Few(shallow) = level {
+            if let Some(line) = shallow.next_line() {
+                buffer.put(out, line);
+                return;
+            }
+        }
+    }
     buffer.put(out, lead);
     put_indent(buffer, out, level);
 }

@@ -1,5 +1,5 @@
 // JSON strings as they are written.
-ghost use Rattle.std.specs.Prelude.{◌≡◌, ◌<◌, position};
+ghost use Rattle.std.specs.Prelude.{◌≡◌, ◌<◌, ◌∷◌, ◌++◌, [], position};
 ghost use Rattle.std.specs.Char.{digit_char};
 ghost use Rattle.dev_io.specs.Buffer.{HandsOver};
 ghost use Rattle.json_layout.specs.Strings.{code_escape, escape, escaped, quoted, needs_escape};
@@ -15,6 +15,17 @@ pub fn put_string<W: Out>(buffer: &mut OutBuffer, out: &mut W, bytes: &[u8])
     buffer.put(out, b"\"");
     put_escaped(buffer, out, bytes);
     buffer.put(out, b"\"");
+}
+
+/// Hands these bytes over as the name of a member: as a JSON string, with a colon and a space
+/// behind it.
+pub fn put_name<W: Out>(buffer: &mut OutBuffer, out: &mut W, bytes: &[u8])
+    ensures { HandsOver W.known W.faults out.old out.new buffer.old buffer.new
+        (quoted bytes.now ++ 58 ∷ 32 ∷ []) }
+{
+    buffer.put(out, b"\"");
+    put_escaped(buffer, out, bytes);
+    buffer.put(out, b"\": ");
 }
 
 /// Hands these bytes over as they stand between the quotes of a JSON string (RFC 8259, section 7),

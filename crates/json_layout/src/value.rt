@@ -6,7 +6,7 @@ ghost use Rattle.json_layout.specs.Levels.{deep};
 ghost use Rattle.json_layout.specs.Layout.{layout, text_at, list_text, object_text, item_lines, member_lines};
 
 use crate::level::{Level, inside, put_line, top};
-use crate::quote::put_string;
+use crate::quote::{put_name, put_string};
 use dev_io::{Out, OutBuffer, WriteFault};
 use json_value::{Json, Members};
 
@@ -26,9 +26,9 @@ pub fn write_json<W: Out>(value: &Json, out: &mut W) -> Result<(), WriteFault>
     buffer.flush(out)
 }
 
-// Hands over the text of a value whose first line is begun.
+/// Hands over the text of a value whose first line is begun at this level.
 #[cycle(put)]
-fn put_value<W: Out>(buffer: &mut OutBuffer, out: &mut W, value: &Json, level: &Level<'_>)
+pub fn put_value<W: Out>(buffer: &mut OutBuffer, out: &mut W, value: &Json, level: &Level<'_>)
     ensures { HandsOver W.known W.faults out.old out.new buffer.old buffer.new
         (text_at value.now (deep level.now)) }
 {
@@ -70,8 +70,9 @@ fn put_items<W: Out>(buffer: &mut OutBuffer, out: &mut W, items: &[Json], level:
     }
 }
 
+/// Hands over the text of an object whose first line is begun at this level.
 #[cycle(put)]
-fn put_object<W: Out>(buffer: &mut OutBuffer, out: &mut W, members: &Members, level: &Level<'_>)
+pub fn put_object<W: Out>(buffer: &mut OutBuffer, out: &mut W, members: &Members, level: &Level<'_>)
     ensures { HandsOver W.known W.faults out.old out.new buffer.old buffer.new
         (object_text (deep level.now) members.now) }
 {
@@ -92,8 +93,7 @@ fn put_members<W: Out>(buffer: &mut OutBuffer, out: &mut W, members: &Members, l
     let mut lead: &[u8] = b"{\n";
     for member in members.as_slice() {
         put_line(buffer, out, lead, level);
-        put_string(buffer, out, member.0.as_str().as_bytes());
-        buffer.put(out, b": ");
+        put_name(buffer, out, member.0.as_str().as_bytes());
         put_value(buffer, out, &member.1, level);
         lead = b",\n";
     }

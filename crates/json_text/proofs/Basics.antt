@@ -1,7 +1,7 @@
 -- Small facts about lists of bytes and tests.
 use Rattle.std.proofs.Common.{◌≡◌, ℕ, ◌≤◌, ◌<◌, List, ◌∷◌, Bool, true, false, refl, arith, cond, eq-eqb, rules}
 use Rattle.std.proofs.lemmas.Bool.Decides.{nat_tests}
-use Rattle.std.specs.Prelude.{◌≢◌, ◌==◌, nat_lt}
+use Rattle.std.specs.Prelude.{◌≢◌, ◌==◌, ◌&&◌, nat_lt}
 
 pub head_same : {b d : ℕ} {c e : List ℕ} → b ∷ c ≡ d ∷ e → b ≡ d
 head_same h = cc h
@@ -43,3 +43,8 @@ chosen P false f g = g refl
 pub chosen₂ : {A : Type 0} (P : A → A → Type 0) (t : Bool) {x y z w : A} → (t ≡ true → P x y) → (t ≡ false → P z w) → P (cond t x z) (cond t y w)
 chosen₂ P true f g = f refl
 chosen₂ P false f g = g refl
+
+pub both : (x y : Bool) → (x && y) ≡ true → (x ≡ true) × (y ≡ true)
+both true true e = (refl, refl)
+both true false e = cc e
+both false y e = cc e

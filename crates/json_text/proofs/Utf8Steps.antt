@@ -19,7 +19,7 @@ use Rattle.json_text.specs.declared.state.Role.{Role}
 use Rattle.json_text.specs.declared.state.Role.TheVariants.{Name, Content}
 use Rattle.json_text.specs.declared.state.Level.{Level}
 use Rattle.json_text.specs.declared.state.Level.TheVariants.{List as LevelOfList, Map as LevelOfMap}
-use Rattle.json_text.proofs.Basics.{head_same, tail_same, is_byte, other_is, is_below, is_least, chosen}
+use Rattle.json_text.proofs.Basics.{both, head_same, tail_same, is_byte, other_is, is_below, is_least, chosen}
 use Rattle.json_text.proofs.Utf8Lemmas.{Within, wide_of, of_wide, order}
 use Rattle.json_text.proofs.TextSteps.{Same}
 use Rattle.json_text.proofs.OutsideStrings.{IsWhole}
@@ -76,11 +76,6 @@ whole_rest (text role t (low h' digits)) more w = (λ h. h, λ h. h)
 whole_rest (text role t (tail ranges)) more w = absurd w
 
 -- ---- the first character
-both : (x y : Bool) → (x && y) ≡ true → (x ≡ true) × (y ≡ true)
-both true true e = (refl, refl)
-both true false e = cc e
-both false y e = cc e
-
 data Begins (b : ℕ) (more : List ℕ) : Type 0 where
   ascii : b < 128 → IsUtf8 more → Begins b more
   many : (r : ℕ × ℕ) (rs : List (ℕ × ℕ)) → tails b ≡ r ∷ rs → 128 ≤ b → Inside (r ∷ rs) more → Begins b more

@@ -1,5 +1,5 @@
 -- What a reader of JSON text was fed.
-use Rattle.std.specs.Prelude.{◌≡◌, ℕ, ◌≤◌, List, ◌++◌, Some, None, Ok, length}
+use Rattle.std.specs.Prelude.{◌≡◌, ℕ, ◌≤◌, List, [], ◌++◌, Some, None, Ok, length}
 use Rattle.limits.specs.Limits.{most_bytes}
 use Rattle.json_text.specs.declared.faults.JsonFault.{JsonFault}
 use Rattle.json_text.specs.declared.reader.JsonReader.{JsonReader}
@@ -13,6 +13,7 @@ pub record HasRead (bytes : List ℕ) (reader : JsonReader) : Type 0 where
   pub sound : reader.fault ≡ None
   pub taken : length bytes ≡ reader.taken
   pub few : length bytes ≤ most_bytes
+  pub ready : reader.room ≡ None → bytes ≡ []
 
 -- The reader was fed the piece behind what it was fed before.
 abbrev pub ReadsOn : JsonReader → List ℕ → JsonReader → Type 0

@@ -5,7 +5,7 @@ ghost use Rattle.std.specs.Char as chars;
 ghost use Rattle.std.specs.Str.{is_utf8, IsAscii};
 ghost use Rattle.json_text.specs.Grammar as grammar;
 ghost use Rattle.json_text.specs.State.Machine as spec;
-ghost use Rattle.json_text.specs.State.Runs.{is_plain};
+ghost use Rattle.json_text.specs.State.Runs.{is_open};
 
 use crate::state::Place;
 use sequences::Text;
@@ -18,11 +18,11 @@ pub(crate) fn is_whitespace(byte: u8) -> bool
     byte == b' ' || byte == b'\n' || byte == b'\r' || byte == b'\t'
 }
 
-/// Whether the byte is an ASCII character that stands for itself in a string.
-pub(crate) fn is_plain(byte: u8) -> bool
-    ensures { result ≡ is_plain byte }
+/// Whether the byte stands for itself in a string, alone or in a character of several bytes.
+pub(crate) fn is_open(byte: u8) -> bool
+    ensures { result ≡ is_open byte }
 {
-    32 <= byte && byte < 128 && byte != b'"' && byte != b'\\'
+    32 <= byte && byte != b'"' && byte != b'\\'
 }
 
 /// The first bytes, up to so many.
@@ -119,7 +119,7 @@ pub(crate) fn ends(place: Place) -> bool
 }
 
 /// Whether the bytes are ASCII characters, by the largest of them.
-fn is_ascii(bytes: &[u8]) -> bool
+pub(crate) fn is_ascii(bytes: &[u8]) -> bool
     ensures { IsTrue result → IsAscii bytes.now }
 {
     let mut largest = 0;

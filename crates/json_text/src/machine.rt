@@ -73,7 +73,7 @@ impl Machine {
     pub(crate) fn place(&mut self, value: Json) -> Result<(), AllocError>
         ensures { OnOk result (state_of self.new ≡ spec.placed (levels_of self.old) value) }
     {
-        let none = no_name(self.alloc);
+        let none = no_name();
         match &mut self.inner {
             None => {
                 self.root = value;
@@ -119,7 +119,7 @@ impl Machine {
             (state_of self.new)) }
     {
         let pairs = empty(self.alloc, self.maps.pop());
-        self.open(Level::Map(pairs, no_name(self.alloc)), Hand::FirstName)
+        self.open(Level::Map(pairs, no_name()), Hand::FirstName)
     }
 
     /// How many lists and objects are open.
@@ -404,10 +404,10 @@ fn empty<T: Drop>(alloc: Global, spare: Option<Sequence<T>>) -> Sequence<T>
 }
 
 /// The name of an object none of whose names is at hand.
-fn no_name(alloc: Global) -> Text
+fn no_name() -> Text
     ensures { result ≡ [] }
 {
-    Text::from_string(String::new(alloc))
+    Text::empty()
 }
 
 impl Word {

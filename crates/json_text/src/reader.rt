@@ -1,8 +1,10 @@
 //! The reader of JSON text.
 
-ghost use Rattle.std.specs.Prelude.{◌≡◌, ◌++◌, ◌<◌, ◌≤◌, [], List, ℕ, IfOk, IfErr, OnOk, Err, None, Some, length};
+ghost use Rattle.std.specs.Prelude.{◌≡◌, ◌≢◌, ◌++◌, ◌<◌, ◌≤◌, [], List, ℕ, IfOk, IfErr, OnOk, Err, None, Some, length};
 ghost use Rattle.limits.specs.Limits.{most_bytes};
+ghost use Rattle.json_text.specs.State.Machine as spec;
 ghost use Rattle.json_text.specs.State.Runs.{named};
+ghost use Rattle.json_text.specs.State.Stands.{state_of};
 
 use crate::bytes::before;
 use crate::faults::JsonFault;
@@ -10,7 +12,8 @@ use crate::machine::Machine;
 use crate::state::{Ran, Stop};
 use json_value::Json;
 use limits::MOST_BYTES;
-use std::alloc::Global;
+use sequences::TextRoom;
+use std::alloc::{AllocError, Global};
 
 /// A reader of one text of JSON (RFC 8259), in UTF-8, that takes it in pieces of any size.
 ///
@@ -22,6 +25,8 @@ pub struct JsonReader {
     machine: Machine,
     taken: u64,
     fault: Option<JsonFault>,
+    /// Room for a numeral that is the whole value, from the first piece on.
+    room: Option<TextRoom>,
     ghost within: { taken ≤ most_bytes },
 }
 
@@ -38,6 +43,7 @@ impl JsonReader {
             machine: Machine::new(alloc),
             taken: 0,
             fault: None,
+            room: None,
         }
     }
 
@@ -68,14 +74,18 @@ impl JsonReader {
         ensures fault { IfErr result (λ fault. (bytes : List ℕ) → HasRead bytes self.old →
             Names fault (bytes ++ piece.now)) }
     {
-        let room = (MOST_BYTES - self.taken) as usize;
-        let within = before(piece, room);
+        match keep_room(self.machine.alloc, &mut self.room) {
+            Ok(()) => {}
+            Err(_) => return Err(JsonFault::Memory),
+        }
+        let most = (MOST_BYTES - self.taken) as usize;
+        let within = before(piece, most);
         match self.machine.run(within) {
             Ok(Ran::All) => {}
             Ok(Ran::Stops(index, stop)) => return Err(fault_of(stop, self.taken + index as u64)),
             Err(_) => return Err(JsonFault::Memory),
         }
-        if piece.len() > room {
+        if piece.len() > most {
             return Err(JsonFault::Large);
         }
         self.taken += piece.len() as u64;
@@ -97,15 +107,39 @@ impl JsonReader {
             machine,
             taken,
             fault,
+            room,
         } = self;
         if let Some(fault) = fault {
             return Err(fault);
         }
-        match machine.finish() {
+        match whole(machine, room) {
             Some(value) => Ok(value),
             None => Err(JsonFault::Syntax(taken)),
         }
     }
+}
+
+/// The value, where the bytes that the machine took are a whole text; `None` where there is no
+/// room.
+fn whole(machine: Machine, room: Option<TextRoom>) -> Option<Json>
+    ensures value { room ≢ None → result ≡ spec.at_last (state_of machine) }
+    ensures nothing { room ≡ None → result ≡ None }
+{
+    match room {
+        Some(room) => machine.finish(room),
+        None => None,
+    }
+}
+
+/// Makes room for one text, where there is none. An error comes where memory runs out.
+fn keep_room(alloc: Global, room: &mut Option<TextRoom>) -> Result<(), AllocError>
+    ensures { OnOk result (room.new ≢ None) }
+{
+    match room {
+        Some(_) => {}
+        None => *room = Some(TextRoom::new(alloc)?),
+    }
+    Ok(())
 }
 
 /// The fault of a byte at an offset.

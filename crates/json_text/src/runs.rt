@@ -1,18 +1,18 @@
 //! Steps of the machine that reads JSON text, over many bytes.
 
-ghost use Rattle.std.specs.Prelude.{◌≡◌, ◌≤◌, IfOk, MatchOption, length, take, drop};
+ghost use Rattle.std.specs.Prelude.{◌≡◌, ◌<◌, ◌≤◌, [], Some, IfOk, MatchOption, length, slice_index, take, drop};
+ghost use Rattle.std.specs.Str.{IsUtf8};
 ghost use Rattle.json_text.specs.State.Stands.{state_of};
 ghost use Rattle.json_text.specs.State.Machine as spec;
 ghost use Rattle.json_text.specs.Grammar.{AreBlank};
-ghost use Rattle.json_text.specs.Numeral.{AreDigits};
-ghost use Rattle.json_text.specs.State.Runs.{IsRan, Skims, ArePlain};
+ghost use Rattle.json_text.specs.State.Runs.{IsRan, Skims, AreOpen, EndsAt, place_behind};
 ghost use Rattle.json_text.specs.State.Stands.{AddsText};
 
-use crate::bytes::{after, before, ends, is_plain, is_whitespace};
+use crate::bytes::{after, before, ends, is_ascii, is_open, is_whitespace, next_place, text_from};
 use crate::machine::Machine;
-use crate::state::{Hand, Part, Place, Ran, Taken};
+use crate::state::{Hand, Level, Part, Place, Ran, Role, Taken};
 use json_value::Json;
-use sequences::Text;
+use sequences::{Text, TextRoom};
 use std::alloc::AllocError;
 
 impl Machine {
@@ -32,50 +32,126 @@ impl Machine {
         Ok(Ran::All)
     }
 
-    /// Takes the bytes that leave the machine where it is, as those of a string, digits and white
+    /// Takes bytes that need no step of their own, as those of a string, of a numeral and white
     /// space, and says how many they are.
     fn skim(&mut self, bytes: &[u8]) -> Result<usize, AllocError>
         ensures { IfOk result (λ count. Skims count (state_of self.old) bytes.now
             (state_of self.new)) }
     {
         match self.hand {
-            Hand::Text(_, part) => match part {
-                Part::Plain => self.skim_text(bytes),
+            Hand::Text(role, part) => match part {
+                Part::Plain => self.skim_text(role, bytes),
                 _ => Ok(0),
             },
             Hand::Value => Ok(blank_count(bytes)),
             Hand::NextName => Ok(blank_count(bytes)),
-            Hand::Number(place) => match place {
-                Place::Whole => self.skim_digits(bytes),
-                Place::Fraction => self.skim_digits(bytes),
-                _ => Ok(0),
-            },
+            Hand::FirstItem | Hand::FirstName | Hand::Behind => Ok(self.skim_blank(bytes)),
+            Hand::Number(place) => self.skim_number(place, bytes),
             _ => Ok(0),
         }
     }
 
-    /// Takes characters of a string that stand for themselves.
-    fn skim_text(&mut self, bytes: &[u8]) -> Result<usize, AllocError>
-        ensures added { IfOk result (λ count. AddsText count bytes.now self.old self.new) }
-        ensures plain { IfOk result (λ count. ArePlain (take count bytes.now)) }
+    /// How many of the first bytes are white space, where that may stand in the innermost list or
+    /// object.
+    fn skim_blank(&self, bytes: &[u8]) -> usize
+        ensures { Skims result (state_of self.now) bytes.now (state_of self.now) }
     {
-        let count = plain_count(bytes);
+        let Some(level) = &self.inner else {
+            return 0;
+        };
+        match self.hand {
+            Hand::FirstItem => match level {
+                Level::List(_) => blank_count(bytes),
+                Level::Map(_, _) => 0,
+            },
+            Hand::FirstName => match level {
+                Level::Map(_, _) => blank_count(bytes),
+                Level::List(_) => 0,
+            },
+            Hand::Behind => blank_count(bytes),
+            _ => 0,
+        }
+    }
+
+    /// Takes bytes of a string: a whole one with its end, or characters that stand for themselves.
+    fn skim_text(&mut self, role: Role, bytes: &[u8]) -> Result<usize, AllocError>
+        requires { self.old.hand ≡ Hand.Text role Part.Plain }
+        ensures { IfOk result (λ count. Skims count (state_of self.old) bytes.now
+            (state_of self.new)) }
+    {
+        let count = open_count(bytes);
+        if self.text.is_empty() && count < bytes.len() && bytes[count] == b'"' {
+            return match role {
+                Role::Content => self.whole_content(bytes, count),
+                Role::Name => self.whole_name(bytes, count),
+            };
+        }
+        self.skim_open(bytes, count)
+    }
+
+    /// Takes a whole string that is a value, with its end, which is at that index.
+    fn whole_content(&mut self, bytes: &[u8], count: usize) -> Result<usize, AllocError>
+        requires hand { self.old.hand ≡ Hand.Text Role.Content Part.Plain }
+        requires fresh { self.old.text.items ≡ [] }
+        requires whole { EndsAt count bytes.now }
+        ensures { IfOk result (λ taken. Skims taken (state_of self.old) bytes.now
+            (state_of self.new)) }
+    {
+        let Some(text) = text_from(self.alloc, before(bytes, count))? else {
+            return Ok(0);
+        };
+        self.place(Json::Str(text))?;
+        Ok(count + 1)
+    }
+
+    /// Takes a whole string that is a name, with its end, which is at that index.
+    fn whole_name(&mut self, bytes: &[u8], count: usize) -> Result<usize, AllocError>
+        requires hand { self.old.hand ≡ Hand.Text Role.Name Part.Plain }
+        requires fresh { self.old.text.items ≡ [] }
+        requires whole { EndsAt count bytes.now }
+        ensures { IfOk result (λ taken. Skims taken (state_of self.old) bytes.now
+            (state_of self.new)) }
+    {
+        let Some(level) = &self.inner else {
+            return Ok(0);
+        };
+        match level {
+            Level::Map(_, _) => {}
+            Level::List(_) => return Ok(0),
+        }
+        let Some(text) = text_from(self.alloc, before(bytes, count))? else {
+            return Ok(0);
+        };
+        self.names(text);
+        Ok(count + 1)
+    }
+
+    /// Takes characters of a string that stand for themselves, of so many bytes.
+    fn skim_open(&mut self, bytes: &[u8], most: usize) -> Result<usize, AllocError>
+        requires { AreOpen (take most bytes.now) }
+        ensures added { IfOk result (λ count. AddsText count bytes.now self.old self.new) }
+        ensures opens { IfOk result (λ count. AreOpen (take count bytes.now)) }
+        ensures utf8 { IfOk result (λ count. IsUtf8 (take count bytes.now)) }
+    {
+        let count = utf8_count(bytes, most);
         self.text.extend_from_slice(before(bytes, count))?;
         Ok(count)
     }
 
-    /// Takes digits of a numeral.
-    fn skim_digits(&mut self, bytes: &[u8]) -> Result<usize, AllocError>
-        ensures added { IfOk result (λ count. AddsText count bytes.now self.old self.new) }
-        ensures digits { IfOk result (λ count. AreDigits (take count bytes.now)) }
+    /// Takes bytes of a numeral.
+    fn skim_number(&mut self, place: Place, bytes: &[u8]) -> Result<usize, AllocError>
+        requires { self.old.hand ≡ Hand.Number place }
+        ensures { IfOk result (λ count. Skims count (state_of self.old) bytes.now
+            (state_of self.new)) }
     {
-        let count = digit_count(bytes);
+        let (count, next) = numeral_run(place, bytes);
         self.text.extend_from_slice(before(bytes, count))?;
+        self.hand = Hand::Number(next);
         Ok(count)
     }
 
-    /// The value, where the bytes that were taken are a whole text.
-    pub(crate) fn finish(self) -> Option<Json>
+    /// The value, where the bytes that were taken are a whole text. A numeral takes the room.
+    pub(crate) fn finish(self, room: TextRoom) -> Option<Json>
         ensures { result ≡ spec.at_last (state_of self) }
     {
         let Machine {
@@ -93,36 +169,56 @@ impl Machine {
         }
         match hand {
             Hand::Done => Some(root),
-            Hand::Number(place) if ends(place) => numeral(text),
+            Hand::Number(place) if ends(place) => numeral(room, text),
             _ => None,
         }
     }
 }
 
-/// How many of the first bytes are characters that stand for themselves in a string.
-fn plain_count(bytes: &[u8]) -> usize
+/// How many of the first bytes stand before a quote, a backslash or a control character.
+fn open_count(bytes: &[u8]) -> usize
     ensures within { result ≤ length bytes.now }
-    ensures plain { ArePlain (take result bytes.now) }
+    ensures opens { AreOpen (take result bytes.now) }
 {
     for (index, byte) in bytes.iter().enumerate() {
-        if !is_plain(*byte) {
+        if !is_open(*byte) {
             return index;
         }
     }
     bytes.len()
 }
 
-/// How many of the first bytes are digits.
-fn digit_count(bytes: &[u8]) -> usize
+/// How many of the first bytes are characters that stand for themselves, of so many bytes none of
+/// which ends them.
+fn utf8_count(bytes: &[u8], most: usize) -> usize
+    requires { AreOpen (take most bytes.now) }
     ensures within { result ≤ length bytes.now }
-    ensures digits { AreDigits (take result bytes.now) }
+    ensures opens { AreOpen (take result bytes.now) }
+    ensures utf8 { IsUtf8 (take result bytes.now) }
 {
+    let run = before(bytes, most);
+    if is_ascii(run) {
+        return run.len();
+    }
+    match std::str::from_utf8(run) {
+        Ok(_) => run.len(),
+        Err(fault) => fault.valid_up_to(),
+    }
+}
+
+/// How many of the first bytes go on in the numeral, and the place behind them.
+fn numeral_run(place: Place, bytes: &[u8]) -> (usize, Place)
+    ensures within { result.0 ≤ length bytes.now }
+    ensures goes { place_behind (Some place) (take result.0 bytes.now) ≡ Some result.1 }
+{
+    let mut last = place;
     for (index, byte) in bytes.iter().enumerate() {
-        if !byte.is_ascii_digit() {
-            return index;
+        match next_place(last, *byte) {
+            Some(next) => last = next,
+            None => return (index, last),
         }
     }
-    bytes.len()
+    (bytes.len(), last)
 }
 
 /// How many of the first bytes are white space.
@@ -138,12 +234,12 @@ fn blank_count(bytes: &[u8]) -> usize
     bytes.len()
 }
 
-/// The numeral of that spelling.
-fn numeral(spelling: Vec<u8>) -> Option<Json>
+/// The numeral of that spelling, in that room.
+fn numeral(room: TextRoom, spelling: Vec<u8>) -> Option<Json>
     ensures { result ≡ spec.numeral spelling.items }
 {
     match String::from_utf8(spelling) {
-        Ok(text) => Some(Json::Num(Text::from_string(text))),
+        Ok(text) => Some(Json::Num(Text::in_room(room, text))),
         Err(_) => None,
     }
 }

@@ -145,7 +145,7 @@ impl Machine {
     }
 
     /// Puts a name at hand in the innermost object.
-    fn names(&mut self, text: Text) -> Taken
+    pub(crate) fn names(&mut self, text: Text) -> Taken
         ensures { IsTaken result (spec.named (levels_of self.old) text) (state_of self.new) }
     {
         match &mut self.inner {

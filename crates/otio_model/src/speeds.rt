@@ -57,7 +57,7 @@ fn next_speed(speed: i128, effect: &Effect) -> i128
     ensures { result ≡ speeds.next_speed speed effect.now }
 {
     match effect {
-        Effect::Warp(warp) => times(speed, warp.time_scalar.0),
+        Effect::Warp(warp) => times(speed, warp.get().time_scalar.0),
         Effect::Freeze(_) => 0,
         _ => speed,
     }

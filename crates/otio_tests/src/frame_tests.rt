@@ -255,7 +255,7 @@ fn other_words_of_frames_are_answered_by_the_usage_text(rt: HostRuntime) -> Resu
         "frames --count 1000001 x.otio",
         "frames --child -1 x.otio",
         "frames --start 1:00:00:00 x.otio",
-        "frames x.edl",
+        "frames --rate 29.5 x.edl",
         "frames x.otio x.otio",
     ] {
         check_usage(&rt, alloc, &mut some_files(alloc)?, line)?;

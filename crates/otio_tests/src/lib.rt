@@ -5,6 +5,8 @@
 #[cfg(test)]
 mod calls;
 #[cfg(test)]
+mod conform_tests;
+#[cfg(test)]
 mod frame_tests;
 #[cfg(test)]
 mod object_tests;

@@ -16,7 +16,7 @@ const GAP: &[u8] =
 // A command line, how it ends, and what is told.
 type Case = (&'static str, Status, &'static [u8]);
 
-const CASES: [Case; 6] = [
+const CASES: [Case; 9] = [
     ("convert --to edl a.edl", Status::Done, b""),
     ("convert gap.otio", Status::Done, b""),
     ("convert --to json gap.otio", Status::Done, b""),
@@ -35,6 +35,13 @@ const CASES: [Case; 6] = [
         Status::Refused,
         b"otio: form.edl: L1 Form at 2\n",
     ),
+    ("convert --media m.txt a.edl", Status::Done, b""),
+    ("frames --media m.txt --count 2 a.edl", Status::Done, b""),
+    (
+        "convert --media twice.txt a.edl",
+        Status::Refused,
+        b"otio: twice.txt: M3 UrlTwice at 2\n",
+    ),
 ];
 
 fn some_files(alloc: Global) -> Result<MemFiles, AllocError> {
@@ -45,6 +52,8 @@ fn some_files(alloc: Global) -> Result<MemFiles, AllocError> {
     files.put("comma.json", b"[1,]")?;
     files.put("pair.json", b"[1,2]")?;
     files.put("utf8.json", b"[\"\xc3\xff\"]")?;
+    files.put("m.txt", b"TAPE1\t24\t0\t200000\ta.mov\n")?;
+    files.put("twice.txt", b"A\t24\t0\t1\tu\nB\t24\t0\t1\tu\n")?;
     Ok(files)
 }
 
@@ -60,7 +69,7 @@ fn output_in_pieces(
     let (line, status, message) = *case;
     let mut files = some_files(alloc)?;
     files.piece(most);
-    let mut out = MemOut::new(alloc, 1000)?;
+    let mut out = MemOut::new(alloc, 6000)?;
     let mut err = MemOut::new(alloc, 100)?;
     let ended = status_of(alloc, line, &mut files, &mut out, &mut err)?;
     assert_eq!(rt; ended, status, "{line}");

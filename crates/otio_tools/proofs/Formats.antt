@@ -1,10 +1,10 @@
 -- Bytes are one thing, or are refused for one reason, and never both.
-use Rattle.std.proofs.Common.{◌≡◌, ◌⊎◌, ℕ, Option, List, [], ◌∷◌, Some, None, refl, sym, ap, subst, ◌∙◌, inl, inr}
+use Rattle.std.proofs.Common.{◌≡◌, ℕ, Option, List, Some, None, refl, sym, ap, subst, ◌∙◌, inl, inr}
 use Rattle.json_text.proofs.OneText.{text_once, fault_once as json_fault_once, fault_or_text}
 use Rattle.json_value.specs.declared.Json.{Json}
 use Rattle.tick_time.specs.declared.rates.Rate.{Rate}
 use Rattle.edl_text.proofs.OneFault.{one_fault, list_or_fault}
-use Rattle.otio_model.specs.declared.roots.Object.{Object, out-Object}
+use Rattle.otio_model.specs.declared.roots.Object.{Object, Timeline as ObjectOfTimeline, out-Object}
 use Rattle.otio_model.specs.declared.roots.Object.TheOpen.{Object-F}
 use Rattle.otio_model.specs.declared.roots.Object.TheViews.{roll-Object, roll-out-Object}
 use Rattle.otio_model.specs.declared.roots.Object.TheFolds.{fold-roll-Object}
@@ -17,12 +17,15 @@ use Rattle.schema_rows.specs.Faults.{IsFirstFault}
 use Rattle.schema_write.specs.Objects.{json_of, object_step, collection_step}
 use Rattle.schema_law.proofs.SeenValues.{Folded, of_object}
 use Rattle.schema_law.proofs.Verdicts.{folded_once, has_one_fault, is_never_both}
-use Rattle.fault_text.specs.Faults.{json_fault_text, list_fault_text, fault_text}
-use Rattle.source_files.specs.Formats.{IsJson, IsObject, IsTimeline, IsNoTimeline, Holds, Refuses, RefusesJson, RefusesObject, RefusesTimeline, RefusesList}
+use Rattle.media_list.specs.Lists.{IsMediaList}
+use Rattle.media_list.proofs.OneOutcome.{fault_once as media_fault_once, list_or_fault as media_or_fault}
+use Rattle.media_rows.specs.declared.row.MediaRow.{MediaRow}
+use Rattle.fault_text.specs.Faults.{json_fault_text, list_fault_text, media_fault_text, fault_text}
+use Rattle.source_files.specs.Formats.{IsJson, IsObject, IsTimeline, IsNoTimeline, Holds, Refuses, RefusesJson, RefusesObject, RefusesTimeline, RefusesList, RefusesMedia}
 use Rattle.source_files.specs.declared.kinds.Kind.{Kind}
 use Rattle.source_files.specs.declared.kinds.Kind.TheVariants as kinds
 use Rattle.source_files.specs.declared.kinds.Content.{Content}
-use Rattle.source_files.specs.declared.kinds.Content.TheVariants.{Value, Root, Film, Events}
+use Rattle.source_files.specs.declared.kinds.Content.TheVariants.{Value, Root, Film, Events, Rows}
 
 json_reason_once : (bytes v w : List ℕ) → RefusesJson bytes v → RefusesJson bytes w → v ≡ w
 json_reason_once bytes v w p q =
@@ -109,6 +112,18 @@ pub object_json_once : (bytes : List ℕ) (a b : Object) → IsObject bytes a �
     → json_of a ≡ json_of b
 object_json_once bytes a b p q = one_json (upgraded p.value) a b p.stands (stands_too bytes a b p q)
 
+timeline_json : (t : Timeline) → json_of (ObjectOfTimeline t)
+    ≡ object_step (Object-F.Timeline (bare t))
+unfolding Rattle.otio_model.specs.declared.roots.Object.TheViews.roll-Object denote.Hole.Carrier.roll
+timeline_json t = fold-roll-Object in_json.A in_json.B in_json.object in_json.collection
+    (Object-F.Timeline t) ∙ in_json.spare t
+
+-- two timelines that differ in spare memory at the most have the same JSON
+pub bare_json : (t u : Timeline) → bare t ≡ bare u
+    → json_of (ObjectOfTimeline t) ≡ json_of (ObjectOfTimeline u)
+bare_json t u same = timeline_json t ∙ ap (λ x. object_step (Object-F.Timeline x)) same
+    ∙ sym (timeline_json u)
+
 roots_once : (bytes : List ℕ) (a b : Object) → IsObject bytes a → IsObject bytes b
     → timeline_at (out-Object a) ≡ timeline_at (out-Object b)
 roots_once bytes a b p q = one_root (upgraded p.value) a b p.stands (stands_too bytes a b p q)
@@ -148,6 +163,14 @@ list_reason_once : (rate : Rate) (bytes v w : List ℕ) → RefusesList rate byt
 list_reason_once rate bytes v w p q =
     p.2 ∙ ap list_fault_text (one_fault rate bytes p.0 q.0 p.1 q.1) ∙ sym q.2
 
+media_reason_once : (bytes v w : List ℕ) → RefusesMedia bytes v → RefusesMedia bytes w → v ≡ w
+media_reason_once bytes v w p q =
+    p.2 ∙ ap media_fault_text (media_fault_once bytes p.0 q.0 p.1 q.1) ∙ sym q.2
+
+media_or_reason : (bytes why : List ℕ) (rows : List MediaRow) → IsMediaList bytes rows
+    → RefusesMedia bytes why → ⊥
+media_or_reason bytes why rows is p = media_or_fault bytes rows p.0 is p.1
+
 -- bytes are refused for one reason
 pub reason_once : (kind : Kind) (bytes v w : List ℕ) → Refuses kind bytes v → Refuses kind bytes w
     → v ≡ w
@@ -155,6 +178,7 @@ reason_once kinds.Json bytes v w p q = json_reason_once bytes v w p q
 reason_once kinds.Object bytes v w p q = object_reason_once bytes v w p q
 reason_once kinds.Timeline bytes v w p q = timeline_reason_once bytes v w p q
 reason_once (kinds.List rate) bytes v w p q = list_reason_once rate bytes v w p q
+reason_once kinds.Media bytes v w p q = media_reason_once bytes v w p q
 
 -- bytes that hold something are not refused
 pub held_or_refused : (kind : Kind) (bytes why : List ℕ) (content : Content)
@@ -163,17 +187,26 @@ held_or_refused kinds.Json bytes why (Value value) h r = json_or_reason bytes wh
 held_or_refused kinds.Json bytes why (Root object) h r = h
 held_or_refused kinds.Json bytes why (Film timeline) h r = h
 held_or_refused kinds.Json bytes why (Events list) h r = h
+held_or_refused kinds.Json bytes why (Rows rows) h r = h
 held_or_refused kinds.Object bytes why (Root object) h r = object_or_reason bytes why object h r
 held_or_refused kinds.Object bytes why (Value value) h r = h
 held_or_refused kinds.Object bytes why (Film timeline) h r = h
 held_or_refused kinds.Object bytes why (Events list) h r = h
+held_or_refused kinds.Object bytes why (Rows rows) h r = h
 held_or_refused kinds.Timeline bytes why (Film timeline) h r =
     timeline_or_reason bytes why timeline h r
 held_or_refused kinds.Timeline bytes why (Value value) h r = h
 held_or_refused kinds.Timeline bytes why (Root object) h r = h
 held_or_refused kinds.Timeline bytes why (Events list) h r = h
+held_or_refused kinds.Timeline bytes why (Rows rows) h r = h
 held_or_refused (kinds.List rate) bytes why (Events list) h r =
     list_or_fault rate bytes list r.0 h r.1
 held_or_refused (kinds.List rate) bytes why (Value value) h r = h
 held_or_refused (kinds.List rate) bytes why (Root object) h r = h
 held_or_refused (kinds.List rate) bytes why (Film timeline) h r = h
+held_or_refused (kinds.List rate) bytes why (Rows rows) h r = h
+held_or_refused kinds.Media bytes why (Rows rows) h r = media_or_reason bytes why rows h r
+held_or_refused kinds.Media bytes why (Value value) h r = h
+held_or_refused kinds.Media bytes why (Root object) h r = h
+held_or_refused kinds.Media bytes why (Film timeline) h r = h
+held_or_refused kinds.Media bytes why (Events list) h r = h

@@ -1,5 +1,5 @@
 -- There is one answer, and without faults of devices it is given.
-use Rattle.std.proofs.Common.{◌≡◌, ◌⊎◌, ◌||◌, ◌++◌, ℕ, Bool, Option, List, [], ◌∷◌, All, Some, None, IsSome, refl, sym, ap, subst, ◌∙◌, IfSome, inl, inr, arith}
+use Rattle.std.proofs.Common.{◌≡◌, ◌||◌, ◌++◌, ℕ, Bool, Option, List, [], ◌∷◌, All, Some, None, IsSome, refl, sym, ap, subst, ◌∙◌, IfSome, inl, inr, arith}
 use Rattle.std.proofs.lemmas.List.Elements.{All-head, All-tail}
 use Rattle.std.proofs.lemmas.Grind.{common_steps}
 use Rattle.dev_io.specs.Known.{KnownFiles}
@@ -19,7 +19,7 @@ use Rattle.otio_model.specs.Timelines.{bare}
 use Rattle.schema_write.specs.Objects.{json_of}
 use Rattle.coord.proofs.OneFault.{same_fault, no_fault_of}
 use Rattle.coord.proofs.SpareLemmas.{faultless_bare, fault_bare}
-use Rattle.fault_text.specs.Faults.{coord_fault_text, day_text}
+use Rattle.fault_text.specs.Faults.{coord_fault_text, conform_fault_text, day_text}
 use Rattle.frame_rows.specs.Rows.{listing_of, listing_text}
 use Rattle.frame_rows.specs.declared.listing.Listing.{Listing}
 use Rattle.frame_rows.proofs.SpareLemmas.{listing_bare, text_bare}
@@ -27,21 +27,28 @@ use Rattle.source_files.specs.Formats.{IsJson, IsObject, IsTimeline, Holds, Refu
 use Rattle.source_files.specs.Reading.{Held, Source, IsRead, AreRead}
 use Rattle.source_files.specs.declared.kinds.Kind.TheVariants as kinds
 use Rattle.source_files.specs.declared.kinds.Content.{Content}
-use Rattle.source_files.specs.declared.kinds.Content.TheVariants.{Value, Root, Film, Events}
+use Rattle.source_files.specs.declared.kinds.Content.TheVariants.{Value, Root, Film, Events, Rows}
 use Rattle.source_files.proofs.Order.{first_once, each_or_first}
 use Rattle.command_words.specs.declared.requests.Command.{Command}
-use Rattle.command_words.specs.declared.requests.Command.TheVariants.{ListToList, ToObjects, ToJson, Frames}
+use Rattle.command_words.specs.declared.requests.Command.TheVariants.{ListToList, ListToObjects, ToObjects, ToJson, Frames, ListFrames}
 use Rattle.command_words.specs.declared.requests.FramesAsked.{FramesAsked}
-use Rattle.otio_tools.specs.Asked.{Asked, Asks, asked_for, files_of, kind_of}
+use Rattle.media_rows.specs.declared.row.MediaRow.{MediaRow}
+use Rattle.media_list.specs.Lists.{IsMediaList}
+use Rattle.media_list.proofs.OneOutcome.{list_once as media_list_once}
+use Rattle.edl_frames.specs.Shown.{MediaRows}
+use Rattle.edl_frames_law.proofs.OneTimeline.{one_timeline}
+use Rattle.edl_frames_law.proofs.OneFault.{one_fault as one_conform_fault, no_fault as no_conform_fault}
+use Rattle.otio_tools.specs.Asked.{Asked, Asks, asked_for, files_of, kind_of, media_source}
 use Rattle.otio_tools.specs.Forms.{Answer, done, refused}
 use Rattle.otio_tools.specs.Frames.{AnswersTimeline, Unsound, NoLabel, Listed}
 use Rattle.otio_tools.specs.Events.{AnswersEvents, NoTimecode, TooMany, PastDay, Spelled}
-use Rattle.otio_tools.specs.Answer.{object_json, Answers, NoCommand, OnFiles, AnswersHeld, AnswersUnread, Gone, Faulty, AnswersAsked, Unread, Judged}
+use Rattle.otio_tools.specs.Conformed.{media_in, AnswersConformed, NotConformed, Conformed}
+use Rattle.otio_tools.specs.Answer.{object_json, AnswersWritten, Answers, NoCommand, OnFiles, AnswersHeld, AnswersUnread, Gone, Faulty, AnswersAsked, Unread, Judged}
 use Rattle.otio_tools.specs.Run.{Streams, Ends, Gives, Completes}
 use Rattle.otio_tools.specs.declared.Status.{Status}
 use Rattle.otio_tools.specs.declared.Status.TheVariants.{Done, Usage, Refused, Input, Output, Memory}
 use Rattle.otio_tools.proofs.RunEnds.{asks_once, whole}
-use Rattle.otio_tools.proofs.Formats.{reason_once, held_or_refused, object_json_once, timeline_bare_once}
+use Rattle.otio_tools.proofs.Formats.{reason_once, held_or_refused, object_json_once, bare_json, timeline_bare_once}
 
 -- the timecode of a rate is there or not
 none_some : {X : Type 0} (o : Option X) → o ≡ None → IsSome o → ⊥
@@ -173,15 +180,20 @@ read_or_unread held file content a is (Faulty why p e) =
     (subst (λ x. Refuses file.kind x why)
     (there_once p.0 is.bytes (held file.name) p.1 is.there) p.2)
 
--- what one file holds
-abbrev One : Held → Source → List Content → Type 0
-One held file contents = (content : Content) × (contents ≡ content ∷ []) × IsRead held file content
+-- what a file holds, and what those behind it do
+record Reads (held : Held) (file : Source) (files : List Source)
+    (contents : List Content) : Type 0 where
+  content : Content
+  more : List Content
+  are : contents ≡ content ∷ more
+  first : IsRead held file content
+  others : AreRead held files more
 
-one_read : (held : Held) (file : Source) (contents : List Content)
-    → AreRead held (file ∷ []) contents → One held file contents
-one_read held file [] h = absurd h
-one_read held file (content ∷ []) h = (content, refl, h.0)
-one_read held file (content ∷ more ∷ rest) h = absurd h.1
+first_read : (held : Held) (file : Source) (files : List Source) (contents : List Content)
+    → AreRead held (file ∷ files) contents → Reads held file files contents
+first_read held file files [] h = absurd h
+first_read held file files (content ∷ more) h =
+    record { content = content; more = more; are = refl; first = h.0; others = h.1 }
 
 value_held : (bytes : List ℕ) (content : Content) → Holds kinds.Json bytes content
     → (value : Json) × (content ≡ Value value) × IsJson bytes value
@@ -189,6 +201,7 @@ value_held bytes (Value value) h = (value, refl, h)
 value_held bytes (Root object) h = absurd h
 value_held bytes (Film timeline) h = absurd h
 value_held bytes (Events list) h = absurd h
+value_held bytes (Rows rows) h = absurd h
 
 object_held : (bytes : List ℕ) (content : Content) → Holds kinds.Object bytes content
     → (object : Object) × (content ≡ Root object) × IsObject bytes object
@@ -196,6 +209,7 @@ object_held bytes (Root object) h = (object, refl, h)
 object_held bytes (Value value) h = absurd h
 object_held bytes (Film timeline) h = absurd h
 object_held bytes (Events list) h = absurd h
+object_held bytes (Rows rows) h = absurd h
 
 timeline_held : (bytes : List ℕ) (content : Content) → Holds kinds.Timeline bytes content
     → (timeline : Timeline) × (content ≡ Film timeline) × IsTimeline bytes timeline
@@ -203,6 +217,7 @@ timeline_held bytes (Film timeline) h = (timeline, refl, h)
 timeline_held bytes (Value value) h = absurd h
 timeline_held bytes (Root object) h = absurd h
 timeline_held bytes (Events list) h = absurd h
+timeline_held bytes (Rows rows) h = absurd h
 
 list_held : (rate : Rate) (bytes : List ℕ) (content : Content)
     → Holds (kinds.List rate) bytes content
@@ -211,80 +226,157 @@ list_held rate bytes (Events list) h = (list, refl, h)
 list_held rate bytes (Value value) h = absurd h
 list_held rate bytes (Root object) h = absurd h
 list_held rate bytes (Film timeline) h = absurd h
+list_held rate bytes (Rows rows) h = absurd h
+
+media_held : (bytes : List ℕ) (content : Content) → Holds kinds.Media bytes content
+    → (rows : List MediaRow) × (content ≡ Rows rows) × IsMediaList bytes rows
+media_held bytes (Rows rows) h = (rows, refl, h)
+media_held bytes (Value value) h = absurd h
+media_held bytes (Root object) h = absurd h
+media_held bytes (Film timeline) h = absurd h
+media_held bytes (Events list) h = absurd h
+
+-- a media list that is read is one
+rows_once : (held : Held) (file : Source) (c d : Content) → file.kind ≡ kinds.Media
+    → IsRead held file c → IsRead held file d → c ≡ d
+rows_once held file c d k p q =
+    let same = there_once q.bytes p.bytes (held file.name) q.there p.there in
+    let v = media_held p.bytes c (subst (λ x. Holds x p.bytes c) k p.holds) in
+    let w = media_held p.bytes d (subst (λ x. Holds kinds.Media x d) same
+    (subst (λ x. Holds x q.bytes d) k q.holds)) in
+    v.1 ∙ ap Rows (media_list_once p.bytes v.0 w.0 v.2 w.2) ∙ sym w.1
+
+media_once : (held : Held) (media : Option (List ℕ)) (m n : List Content)
+    → AreRead held (media_source media) m → AreRead held (media_source media) n
+    → media_in m ≡ media_in n
+media_once held None [] [] p q = refl
+media_once held None [] (d ∷ n) p q = absurd q
+media_once held None (c ∷ m) n p q = absurd p
+media_once held (Some name) [] n p q = absurd p
+media_once held (Some name) (c ∷ m) [] p q = absurd q
+media_once held (Some name) (c ∷ x ∷ m) n p q = absurd p.1
+media_once held (Some name) (c ∷ []) (d ∷ x ∷ n) p q = absurd q.1
+media_once held (Some name) (c ∷ []) (d ∷ []) p q =
+    ap (λ x. media_in (x ∷ [])) (rows_once held _ c d refl p.0 q.0)
 
 -- the JSON of objects that are written
 same_json : (a b : Object) → json_of a ≡ json_of b → object_json a ≡ object_json b
 unfolding object_json
 same_json a b e = e
 
--- what the same bytes hold has at most one answer
-content_once : (command : Command) (name bytes : List ℕ) (target : Option (List ℕ)) (c d : Content)
-    (a b : Answer)
+-- a timeline that is written has at most one answer, whatever memory it has to spare
+written_once : (target : Option (List ℕ)) (t u : Timeline) (a b : Answer) → bare t ≡ bare u
+    → AnswersWritten target t a → AnswersWritten target u b → a ≡ b
+written_once target t u a b same e f =
+    e ∙ ap (λ json. done target (layout json)) (same_json _ _ (bare_json t u same)) ∙ sym f
+
+-- a list that is conformed has at most one answer, where its timeline has
+conformed_once : (name : List ℕ) (list : EventList) (media : MediaRows)
+    (Is : Timeline → Answer → Type 0)
+    → ((t u : Timeline) (a b : Answer) → bare t ≡ bare u → Is t a → Is u b → a ≡ b)
+    → (a b : Answer) → AnswersConformed name list media Is a
+    → AnswersConformed name list media Is b → a ≡ b
+conformed_once name list media Is once a b (NotConformed f n p e) (NotConformed g m q h) =
+    e ∙ ap (λ fault. refused name (conform_fault_text fault))
+    (one_conform_fault list media f g p q n m) ∙ sym h
+conformed_once name list media Is once a b (NotConformed f n p e) (Conformed u q acc few h) =
+    absurd (no_conform_fault list media f p n acc few)
+conformed_once name list media Is once a b (Conformed t p acc few e) (NotConformed g m q h) =
+    absurd (no_conform_fault list media g q m acc few)
+conformed_once name list media Is once a b (Conformed t p acc few e) (Conformed u q bcc low h) =
+    once t u a b (one_timeline list media t u p q) e h
+
+-- the answer to what a list and a media list conform to, over the same ones
+conformed_as : (name : List ℕ) (list other : EventList) (media rows : MediaRows)
+    (Is : Timeline → Answer → Type 0) (answer : Answer) → other ≡ list → rows ≡ media
+    → AnswersConformed name other rows Is answer → AnswersConformed name list media Is answer
+conformed_as name list other media rows Is answer e f h =
+    subst (λ l. AnswersConformed name l media Is answer) e
+    (subst (λ r. AnswersConformed name other r Is answer) f h)
+
+-- what is held as a content that is known
+abbrev Answered : Command → List ℕ → Option (List ℕ) → Option (List ℕ) → List Content → Answer
+    → Content → Type 0
+Answered command name media target more answer content =
+    AnswersHeld command (files_of command name media) target (content ∷ more) answer
+
+-- what the same bytes hold, with the same media list, has at most one answer
+content_once : (command : Command) (name bytes : List ℕ) (media target : Option (List ℕ))
+    (c d : Content) (m n : List Content) (a b : Answer)
     → Holds (kind_of command) bytes c → Holds (kind_of command) bytes d
-    → AnswersHeld command (files_of command name) target (c ∷ []) a
-    → AnswersHeld command (files_of command name) target (d ∷ []) b → a ≡ b
-content_once ToJson name bytes target c d a b p q x y =
+    → media_in m ≡ media_in n
+    → Answered command name media target m a c → Answered command name media target n b d → a ≡ b
+content_once ToJson name bytes media target c d m n a b p q rows x y =
     let v = value_held bytes c p in
     let w = value_held bytes d q in
-    let first = subst (λ z. AnswersHeld ToJson (files_of ToJson name) target (z ∷ []) a) v.1 x in
-    let second = subst (λ z. AnswersHeld ToJson (files_of ToJson name) target (z ∷ []) b) w.1 y in
+    let first = subst (Answered ToJson name media target m a) v.1 x in
+    let second = subst (Answered ToJson name media target n b) w.1 y in
     first ∙ ap (λ value. done target (layout value)) (text_once bytes v.0 w.0 v.2.text w.2.text)
     ∙ sym second
-content_once ToObjects name bytes target c d a b p q x y =
+content_once ToObjects name bytes media target c d m n a b p q rows x y =
     let v = object_held bytes c p in
     let w = object_held bytes d q in
-    let first =
-    subst (λ z. AnswersHeld ToObjects (files_of ToObjects name) target (z ∷ []) a) v.1 x in
-    let second =
-    subst (λ z. AnswersHeld ToObjects (files_of ToObjects name) target (z ∷ []) b) w.1 y in
-    first ∙ ap (λ json. done target (layout json)) (same_json v.0 w.0 (object_json_once bytes v.0 w.0 v.2 w.2)) ∙ sym second
-content_once (ListToList rate drop) name bytes target c d a b p q x y =
+    let first = subst (Answered ToObjects name media target m a) v.1 x in
+    let second = subst (Answered ToObjects name media target n b) w.1 y in
+    first ∙ ap (λ json. done target (layout json))
+    (same_json v.0 w.0 (object_json_once bytes v.0 w.0 v.2 w.2)) ∙ sym second
+content_once (ListToList rate drop) name bytes media target c d m n a b p q rows x y =
     let v = list_held rate bytes c p in
     let w = list_held rate bytes d q in
-    let first =
-    subst (λ z. AnswersHeld (ListToList rate drop) (files_of (ListToList rate drop) name) target
-    (z ∷ []) a) v.1 x in
-    let second =
-    subst (λ z. AnswersHeld (ListToList rate drop) (files_of (ListToList rate drop) name) target
-    (z ∷ []) b) w.1 y in
+    let first = subst (Answered (ListToList rate drop) name media target m a) v.1 x in
+    let second = subst (Answered (ListToList rate drop) name media target n b) w.1 y in
     let same : w.0 ≡ v.0 = one_list rate bytes w.0 v.0 w.2 v.2 in
     events_once name target v.0 (drop || v.0.drop) a b first
     (subst (λ (l : EventList). AnswersEvents name target l (drop || l.drop) b) same second)
-content_once (Frames asked) name bytes target c d a b p q x y =
+content_once (ListToObjects rate) name bytes media target c d m n a b p q rows x y =
+    let v = list_held rate bytes c p in
+    let w = list_held rate bytes d q in
+    let first = subst (Answered (ListToObjects rate) name media target m a) v.1 x in
+    let second = subst (Answered (ListToObjects rate) name media target n b) w.1 y in
+    conformed_once name v.0 (media_in m) (AnswersWritten target) (written_once target) a b first
+    (conformed_as name v.0 w.0 (media_in m) (media_in n) (AnswersWritten target) b
+    (one_list rate bytes w.0 v.0 w.2 v.2) (sym rows) second)
+content_once (Frames asked) name bytes media target c d m n a b p q rows x y =
     let v = timeline_held bytes c p in
     let w = timeline_held bytes d q in
-    let first =
-    subst (λ z. AnswersHeld (Frames asked) (files_of (Frames asked) name) target (z ∷ []) a) v.1
-    x in
-    let second =
-    subst (λ z. AnswersHeld (Frames asked) (files_of (Frames asked) name) target (z ∷ []) b) w.1
-    y in
+    let first = subst (Answered (Frames asked) name media target m a) v.1 x in
+    let second = subst (Answered (Frames asked) name media target n b) w.1 y in
     timeline_once asked name target v.0 w.0 a b
     (timeline_bare_once bytes v.0 w.0 v.2 w.2) first second
+content_once (ListFrames rate asked) name bytes media target c d m n a b p q rows x y =
+    let v = list_held rate bytes c p in
+    let w = list_held rate bytes d q in
+    let first = subst (Answered (ListFrames rate asked) name media target m a) v.1 x in
+    let second = subst (Answered (ListFrames rate asked) name media target n b) w.1 y in
+    conformed_once name v.0 (media_in m) (AnswersTimeline asked name target)
+    (timeline_once asked name target) a b first
+    (conformed_as name v.0 w.0 (media_in m) (media_in n) (AnswersTimeline asked name target) b
+    (one_list rate bytes w.0 v.0 w.2 v.2) (sym rows) second)
 
--- what is asked of one file has at most one answer
-one_once : (command : Command) (name : List ℕ) (target : Option (List ℕ)) (held : Held)
+-- what is asked of one file, with one media list, has at most one answer
+one_once : (command : Command) (name : List ℕ) (media target : Option (List ℕ)) (held : Held)
     (a b : Answer)
-    → AnswersAsked (asked_for command name target) held a
-    → AnswersAsked (asked_for command name target) held b → a ≡ b
-one_once command name target held a b (Unread p) (Unread q) =
-    first_once Source Content Answer (IsRead held) (AnswersUnread held) (files_of command name) a b
-    (unread_once held) (read_or_unread held) p q
-one_once command name target held a b (Unread p) (Judged contents q h) =
+    → AnswersAsked (asked_for command name media target) held a
+    → AnswersAsked (asked_for command name media target) held b → a ≡ b
+one_once command name media target held a b (Unread p) (Unread q) =
+    first_once Source Content Answer (IsRead held) (AnswersUnread held)
+    (files_of command name media) a b (unread_once held) (read_or_unread held) p q
+one_once command name media target held a b (Unread p) (Judged contents q h) =
     absurd (each_or_first Source Content Answer (IsRead held) (AnswersUnread held)
-    (files_of command name) contents a (read_or_unread held) q p)
-one_once command name target held a b (Judged contents p h) (Unread q) =
+    (files_of command name media) contents a (read_or_unread held) q p)
+one_once command name media target held a b (Judged contents p h) (Unread q) =
     absurd (each_or_first Source Content Answer (IsRead held) (AnswersUnread held)
-    (files_of command name) contents b (read_or_unread held) p q)
-one_once command name target held a b (Judged cs p h) (Judged ds q k) =
+    (files_of command name media) contents b (read_or_unread held) p q)
+one_once command name media target held a b (Judged cs p h) (Judged ds q k) =
     let file : Source = record { name = name; kind = kind_of command } in
-    let v = one_read held file cs p in
-    let w = one_read held file ds q in
-    let same = there_once w.2.bytes v.2.bytes (held name) w.2.there v.2.there in
-    content_once command name v.2.bytes target v.0 w.0 a b v.2.holds
-    (subst (λ x. Holds (kind_of command) x w.0) same w.2.holds)
-    (subst (λ z. AnswersHeld command (files_of command name) target z a) v.1 h)
-    (subst (λ z. AnswersHeld command (files_of command name) target z b) w.1 k)
+    let v = first_read held file (media_source media) cs p in
+    let w = first_read held file (media_source media) ds q in
+    let same = there_once w.first.bytes v.first.bytes (held name) w.first.there v.first.there in
+    content_once command name v.first.bytes media target v.content w.content v.more w.more a b
+    v.first.holds (subst (λ x. Holds (kind_of command) x w.content) same w.first.holds)
+    (media_once held media v.more w.more v.others w.others)
+    (subst (λ z. AnswersHeld command (files_of command name media) target z a) v.are h)
+    (subst (λ z. AnswersHeld command (files_of command name media) target z b) w.are k)
 
 -- what words ask for has at most one answer
 asked_once : (words : List (List ℕ)) (asked : Asked) (held : Held) (a b : Answer) → Asks words asked
@@ -292,7 +384,7 @@ asked_once : (words : List (List ℕ)) (asked : Asked) (held : Held) (a b : Answ
     → AnswersAsked asked held b → a ≡ b
 asked_once words asked held a b w p q =
     let e = whole words asked w in
-    one_once asked.command w.name asked.target held a b
+    one_once asked.command w.name w.media asked.target held a b
     (subst (λ (x : Asked). AnswersAsked x held a) e p)
     (subst (λ (x : Asked). AnswersAsked x held b) e q)
 
@@ -300,9 +392,9 @@ pub answer_once : (words : List (List ℕ)) (held : Held) (a b : Answer) → Ans
     → Answers words held b → a ≡ b
 answer_once words held a b (NoCommand h e) (NoCommand k f) = e ∙ sym f
 answer_once words held a b (NoCommand h e) (OnFiles asked w l) =
-    absurd (h asked.command w.name asked.target w.ask)
+    absurd (h asked.command w.name w.media asked.target w.ask)
 answer_once words held a b (OnFiles asked w l) (NoCommand h e) =
-    absurd (h asked.command w.name asked.target w.ask)
+    absurd (h asked.command w.name w.media asked.target w.ask)
 answer_once words held a b (OnFiles asked w l) (OnFiles other v m) =
     asked_once words asked held a b w l
     (subst (λ (x : Asked). AnswersAsked x held b) (asks_once words other asked v w) m)

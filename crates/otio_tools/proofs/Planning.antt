@@ -1,15 +1,13 @@
 -- From what was read of files to what is planned.
-use Rattle.std.proofs.Common.{◌≡◌, ℕ, Bool, List, [], ◌∷◌, Some, None, Result, Ok, Err, refl, sym, subst, ap, ◌∙◌}
+use Rattle.std.proofs.Common.{◌≡◌, ◌≢◌, ◌≤◌, ◌<◌, ◌^◌, ℕ, List, [], ◌∷◌, Some, None, Result, Ok, Err, IfOk, refl, sym, subst, ap, arith}
 use Rattle.std.specs.declared.option.Option.{Option}
 use Rattle.dev_io.specs.Known.{KnownFiles}
 use Rattle.dev_io.specs.Calls.{Tells}
-use Rattle.json_value.specs.declared.Json.{Json}
-use Rattle.json_layout.specs.Layout.{layout}
 use Rattle.otio_model.specs.declared.roots.Object.{Object}
 use Rattle.schema_write.specs.Objects.{json_of}
 use Rattle.fault_text.specs.Reasons.{reason_text}
 use Rattle.tick_time.specs.declared.rates.Rate.{Rate}
-use Rattle.source_files.specs.Order.{FirstIsNot}
+use Rattle.source_files.specs.Order.{EachIs, FirstIsNot}
 use Rattle.source_files.specs.Formats.{Suits}
 use Rattle.source_files.specs.Reading.{Source, IsRead, IsUnread, IsRefused, StopsAt, HaveRead, HasStopped}
 use Rattle.source_files.specs.declared.kinds.Kind.TheVariants as kinds
@@ -23,52 +21,65 @@ use Rattle.source_files.specs.declared.faults.SourceFault.{SourceFault}
 use Rattle.source_files.proofs.Handing.{refused_by}
 use Rattle.source_files.proofs.Order.{first_for}
 use Rattle.command_words.specs.declared.requests.Command.{Command}
-use Rattle.command_words.specs.declared.requests.Command.TheVariants.{ListToList, ToObjects}
-use Rattle.otio_tools.specs.Asked.{Asked, files_of, asked_for, kind_of}
+use Rattle.media_rows.specs.declared.row.MediaRow.{MediaRow}
+use Rattle.edl_frames.specs.Shown.{MediaRows}
+use Rattle.edl_frames.specs.Conformed.{IsTimelineOf}
+use Rattle.edl_frames.specs.Refused.{IsAccepted}
+use Rattle.edl_frames.specs.Counted.{item_count}
+use Rattle.edl_frames.specs.Faults.{IsConformFault}
+use Rattle.edl_frames.specs.declared.faults.ConformFault.{ConformFault}
+use Rattle.edl_frames.specs.declared.faults.ConformFault.TheVariants as conform
+use Rattle.fault_text.specs.Faults.{conform_fault_text}
+use Rattle.edl_frames_law.proofs.ItemCounts.{timeline_count}
+use Rattle.limits.specs.Limits.{most_items}
+use Rattle.otio_model.specs.Counts.{count as count_below}
+use Rattle.otio_tools.specs.Asked.{Asked, files_of, media_source, asked_for, kind_of}
 use Rattle.otio_tools.specs.Forms.{Answer, done, absent, refused}
 use Rattle.otio_tools.specs.Answer.{object_json, AnswersHeld, AnswersUnread, Gone, Faulty, AnswersAsked, Unread, Judged}
 use Rattle.otio_tools.specs.Run.{FailsUnder}
-use Rattle.otio_tools.specs.Plan.{HasFormedList, Suffices, IsRefusedHeld, PlansHeld, PlansObject, IsStop, Plans, text_planned}
+use Rattle.otio_tools.specs.Plan.{HasFormedList, Suffices, IsRefusedHeld, PlansHeld, IsStop, Plans, AreContents, IsConformedTo, media_content, text_planned}
+use Rattle.edl_list.specs.declared.list.EventList.{EventList}
+use Rattle.otio_model.specs.declared.timelines.Timeline.{Timeline}
+use Rattle.otio_tools.specs.Conformed.{media_in, AnswersConformed, Conformed, NotConformed}
 use Rattle.otio_tools.specs.declared.planned.Planned.{Planned}
-use Rattle.otio_tools.specs.declared.planned.Planned.TheVariants.{Value}
 
-refused_held : (command : Command) (name called : List ℕ) (target : Option (List ℕ))
+refused_held : (command : Command) (name called : List ℕ) (media target : Option (List ℕ))
     (contents : List Content) (fault : ReadFault)
-    (old new : KnownFiles) → HaveRead (files_of command name) contents old new → called ≡ name
-    → IsRefusedHeld command name contents fault
-    → IsStop (asked_for command name target) called fault old new
-refused_held command name called target contents Absent old new h e p = absurd p
-refused_held command name called target contents Failed old new h e p = absurd p
-refused_held command name called target contents (Refused refusal) old new h e p =
-    refused_by (λ why. AnswersHeld command (files_of command name) target contents
+    (old new : KnownFiles) → HaveRead (files_of command name media) contents old new → called ≡ name
+    → IsRefusedHeld command name media contents fault
+    → IsStop (asked_for command name media target) called fault old new
+refused_held command name called media target contents Absent old new h e p = absurd p
+refused_held command name called media target contents Failed old new h e p = absurd p
+refused_held command name called media target contents (Refused refusal) old new h e p =
+    refused_by (λ why. AnswersHeld command (files_of command name media) target contents
     (refused name why))
-    (λ why. AnswersAsked (asked_for command name target) old.held (refused called why)) refusal
+    (λ why. AnswersAsked (asked_for command name media target) old.held (refused called why)) refusal
     (λ why a. Judged contents h.1 (subst
-    (λ n. AnswersHeld command (files_of command name) target contents (refused n why))
+    (λ n. AnswersHeld command (files_of command name media) target contents (refused n why))
     (sym e) a))
     (p target)
 
-held_in : (command : Command) (name : List ℕ) (target : Option (List ℕ)) (contents : List Content)
+held_in : (command : Command) (name : List ℕ) (media target : Option (List ℕ)) (contents : List Content)
     (result : Result Planned SourceFault)
-    (old new : KnownFiles) → HaveRead (files_of command name) contents old new
-    → PlansHeld command name contents result
-    → Plans (asked_for command name target) result old new
-held_in command name target contents (Ok planned) old new h p =
+    (old new : KnownFiles) → HaveRead (files_of command name media) contents old new
+    → PlansHeld command name media contents result
+    → Plans (asked_for command name media target) result old new
+held_in command name media target contents (Ok planned) old new h p =
     (Judged contents h.1 (p target), h.2)
-held_in command name target contents (Err stop) old new h p =
-    refused_held command name stop.name.now target contents stop.fault old new h p.0 p.1
+held_in command name media target contents (Err stop) old new h p =
+    refused_held command name stop.name.now media target contents stop.fault old new h p.0 p.1
 
 -- what is planned of what was read is owed for the files
-pub held_planned : (command : Command) (name : List ℕ) (target : Option (List ℕ))
+pub held_planned : (command : Command) (name : List ℕ) (media target : Option (List ℕ))
     (contents : List Content)
     (result : Result Planned SourceFault) (old new : Option KnownFiles)
-    → Tells (HaveRead (files_of command name) contents) old new
-    → PlansHeld command name contents result
-    → Tells (Plans (asked_for command name target) result) old new
-held_planned command name target contents result None new h p = tt
-held_planned command name target contents result (Some old) None h p = absurd h
-held_planned command name target contents result (Some old) (Some new) h p =
-    held_in command name target contents result old new h p
+    → Tells (HaveRead (files_of command name media) contents) old new
+    → PlansHeld command name media contents result
+    → Tells (Plans (asked_for command name media target) result) old new
+held_planned command name media target contents result None new h p = tt
+held_planned command name media target contents result (Some old) None h p = absurd h
+held_planned command name media target contents result (Some old) (Some new) h p =
+    held_in command name media target contents result old new h p
 
 stop_as : (asked : Asked) (stop : SourceFault) (fault : ReadFault) (old new : KnownFiles)
     → stop.fault ≡ fault
@@ -104,50 +115,141 @@ stop_planned asked stop (Some old) None h = absurd h
 stop_planned asked stop (Some old) (Some new) h = stop_in asked stop old new h
 
 -- what a file that is read as a list holds is a well formed list
-pub suits_list : (rate : Rate) (held : Content) → Suits (kinds.List rate) held → HasFormedList held
+suits_list : (rate : Rate) (held : Content) → Suits (kinds.List rate) held → HasFormedList held
 suits_list rate (content.Events list) s = s
 suits_list rate (content.Value value) s = s
 suits_list rate (content.Root object) s = s
 suits_list rate (content.Film timeline) s = s
+suits_list rate (content.Rows rows) s = s
 
 -- what a file of a command that reads a list holds is a well formed list
-pub suits_of_list : (command : Command) (rate : Rate) (drop : Bool) (held : Content)
-    → command ≡ ListToList rate drop → Suits (kind_of command) held → HasFormedList held
-suits_of_list command rate drop held e s =
-    suits_list rate held (subst (λ k. Suits (kind_of k) held) e s)
+pub suits_of_list : (command : Command) (rate : Rate) (held : Content)
+    → kind_of command ≡ kinds.List rate → Suits (kind_of command) held → HasFormedList held
+suits_of_list command rate held e s = suits_list rate held (subst (λ k. Suits k held) e s)
 
--- why there is nothing to send for the only file, told under its name
-pub refused_held_as : (command : Command) (name : List ℕ) (contents : List Content) (held : Content)
-    (refusal : Refusal) → contents ≡ held ∷ []
-    → ((file : Source) (target : Option (List ℕ)) → IsRefused (λ why.
-    AnswersHeld command (file ∷ []) target (held ∷ []) (refused file.name why)) refusal)
+-- what is read as a media list is one
+media_suits : (held : Content) → Suits kinds.Media held
+    → (rows : List MediaRow) × (held ≡ content.Rows rows)
+media_suits (content.Rows rows) s = (rows, refl)
+media_suits (content.Events list) s = absurd s
+media_suits (content.Value value) s = absurd s
+media_suits (content.Root object) s = absurd s
+media_suits (content.Film timeline) s = absurd s
+
+-- what the files of a command hold is one content, and a media list behind it at most
+pub are_contents : (command : Command) (name : List ℕ) (media : Option (List ℕ))
+    (contents : List Content)
+    → EachIs (λ source held. Suits source.kind held) (files_of command name media) contents
+    → AreContents contents
+are_contents command name None [] h = absurd h
+are_contents command name None (held ∷ []) h = (held, None, refl)
+are_contents command name None (held ∷ more ∷ rest) h = absurd h.1
+are_contents command name (Some list) [] h = absurd h
+are_contents command name (Some list) (held ∷ []) h = absurd h.1
+are_contents command name (Some list) (held ∷ rows ∷ []) h =
+    let r = media_suits rows h.1.0 in (held, Some r.0, ap (λ c. held ∷ c ∷ []) r.1)
+are_contents command name (Some list) (held ∷ rows ∷ other ∷ rest) h = absurd h.1.1
+
+-- the file of a command suits its kind
+pub first_suits : (command : Command) (name : List ℕ) (media : Option (List ℕ))
+    (contents more : List Content) (held : Content) → contents ≡ held ∷ more
+    → EachIs (λ source held. Suits source.kind held) (files_of command name media) contents
+    → Suits (kind_of command) held
+first_suits command name media [] more held e h = absurd h
+first_suits command name media (first ∷ rest) more held e h =
+    let same : first ≡ held = cc in subst (λ c. Suits (kind_of command) c) same h.0
+
+-- what is planned of what was read, or why there is nothing to send, told under the file's name
+pub held_planned_as : (command : Command) (name : List ℕ) (media : Option (List ℕ))
+    (contents more : List Content) (held : Content) (planned : Planned)
+    → contents ≡ held ∷ more
+    → ((file : Source) (files : List Source) → Suffices (λ target answer.
+    AnswersHeld command (file ∷ files) target (held ∷ more) answer) file.name (Ok planned))
+    → (target : Option (List ℕ)) → AnswersHeld command (files_of command name media) target
+    contents (done target (text_planned planned))
+held_planned_as command name media contents more held planned e h target =
+    subst (λ l. AnswersHeld command (files_of command name media) target l
+    (done target (text_planned planned))) (sym e)
+    (h (record { name = name; kind = kind_of command }) (media_source media) target)
+
+pub refused_held_as : (command : Command) (name : List ℕ) (media : Option (List ℕ))
+    (contents more : List Content) (held : Content) (refusal : Refusal)
+    → contents ≡ held ∷ more
+    → ((file : Source) (files : List Source) → Suffices (λ target answer.
+    AnswersHeld command (file ∷ files) target (held ∷ more) answer) file.name (Err refusal))
     → (target : Option (List ℕ)) → IsRefused (λ why.
-    AnswersHeld command (files_of command name) target contents (refused name why)) refusal
-refused_held_as command name contents held refusal e h target =
+    AnswersHeld command (files_of command name media) target contents (refused name why)) refusal
+refused_held_as command name media contents more held refusal e h target =
     subst (λ l. IsRefused (λ why.
-    AnswersHeld command (files_of command name) target l (refused name why)) refusal)
-    (sym e) (h (record { name = name; kind = kind_of command }) target)
+    AnswersHeld command (files_of command name media) target l (refused name why)) refusal)
+    (sym e) (h (record { name = name; kind = kind_of command }) (media_source media) target)
 
--- what was written of an object is its JSON
-pub object_made : (made : Json) (object : Object) → made ≡ json_of object → made ≡ object_json object
+-- what is written of an object is its JSON
+pub object_is : (object : Object) → object_json object ≡ json_of object
 unfolding object_json
-object_made made object w = w
-
--- what is planned of an object that a file holds is the answer to it
-pub object_planned : (object : Object) (file : Source) (result : Result Planned Refusal)
-    → PlansObject object result
-    → Suffices (λ target answer. AnswersHeld ToObjects (file ∷ []) target (content.Root object ∷ []) answer)
-    file.name result
-object_planned object file (Ok planned) e = λ target. ap (λ p. done target (text_planned p)) e
-object_planned object file (Err refusal) e = λ target.
-    subst (λ r. IsRefused (λ why. AnswersHeld ToObjects (file ∷ []) target (content.Root object ∷ []) (refused file.name why)) r)
-    (sym e) tt
+object_is object = refl
 
 -- what is planned for a command and contents that are known is planned for these
-pub held_as : (command other : Command) (held known : Content) (file : Source)
-    (result : Result Planned Refusal) → command ≡ other → held ≡ known
-    → Suffices (λ target answer. AnswersHeld other (file ∷ []) target (known ∷ []) answer) file.name result
-    → Suffices (λ target answer. AnswersHeld command (file ∷ []) target (held ∷ []) answer) file.name result
-held_as command other held known file result e f h =
-    subst (λ k. Suffices (λ target answer. AnswersHeld k (file ∷ []) target (held ∷ []) answer) file.name result) (sym e)
-    (subst (λ c. Suffices (λ target answer. AnswersHeld other (file ∷ []) target (c ∷ []) answer) file.name result) (sym f) h)
+pub held_as : (command other : Command) (held known : Content) (more : List Content)
+    (file : Source) (files : List Source) (result : Result Planned Refusal)
+    → command ≡ other → held ≡ known
+    → Suffices (λ target answer. AnswersHeld other (file ∷ files) target (known ∷ more) answer)
+    file.name result
+    → Suffices (λ target answer. AnswersHeld command (file ∷ files) target (held ∷ more) answer)
+    file.name result
+held_as command other held known more file files result e f h =
+    subst (λ k. Suffices (λ target answer.
+    AnswersHeld k (file ∷ files) target (held ∷ more) answer) file.name result) (sym e)
+    (subst (λ c. Suffices (λ target answer.
+    AnswersHeld other (file ∷ files) target (c ∷ more) answer) file.name result) (sym f) h)
+
+-- the media list behind a list is the one that was read
+pub media_is : (media : MediaRows) → media_in (media_content media) ≡ media
+media_is None = refl
+media_is (Some rows) = refl
+
+refused_conformed : (name : List ℕ) (list : EventList) (media : MediaRows)
+    (Is : Timeline → Answer → Type 0) (timeline : Timeline) (refusal : Refusal)
+    → IsConformedTo list media timeline → IsRefused (λ why. Is timeline (refused name why)) refusal
+    → IsRefused (λ why. AnswersConformed name list media Is (refused name why)) refusal
+refused_conformed name list media Is timeline (Broken reason) c h =
+    Conformed timeline c.is c.accepted c.few h
+refused_conformed name list media Is timeline Memory c h = tt
+
+-- what is planned of the timeline of a list is planned of the list
+pub of_conformed : (name : List ℕ) (list : EventList) (media : MediaRows)
+    (Is : Option (List ℕ) → Timeline → Answer → Type 0) (timeline : Timeline)
+    (result : Result Planned Refusal) → IsConformedTo list media timeline
+    → Suffices (λ target answer. Is target timeline answer) name result
+    → Suffices (λ target answer. AnswersConformed name list media (Is target) answer) name result
+of_conformed name list media Is timeline (Ok planned) c h =
+    λ target. Conformed timeline c.is c.accepted c.few (h target)
+of_conformed name list media Is timeline (Err refusal) c h =
+    λ target. refused_conformed name list media (Is target) timeline refusal c (h target)
+
+-- what a list conforms to
+pub conformed_to : (list : EventList) (media : MediaRows) (result : Result Timeline ConformFault)
+    → IfOk result (IsTimelineOf list media) → IfOk result (λ t. IsAccepted list media)
+    → IfOk result (λ t. item_count list ≤ most_items) → IfOk result (IsConformedTo list media)
+conformed_to list media (Ok timeline) is accepted few =
+    record { is = is; accepted = accepted; few = few }
+conformed_to list media (Err fault) is accepted few = tt
+
+-- it has few items
+pub few_conformed : (list : EventList) (media : MediaRows) (result : Result Timeline ConformFault)
+    → IfOk result (IsTimelineOf list media) → IfOk result (λ t. item_count list ≤ most_items)
+    → IfOk result (λ t. count_below t.tracks.children < 2 ^ 32)
+few_conformed list media (Ok timeline) is few =
+    let same = timeline_count list media timeline is in omega (arith, same, few)
+few_conformed list media (Err fault) is few = tt
+
+-- how a list that isn't conformed is refused
+pub not_conformed_as : (name : List ℕ) (list : EventList) (media : MediaRows)
+    (Is : Option (List ℕ) → Timeline → Answer → Type 0) (fault : ConformFault) (refusal : Refusal)
+    → IsConformFault list media fault
+    → IsRefused (λ why. (fault ≢ conform.Memory) × (why ≡ conform_fault_text fault)) refusal
+    → Suffices (λ target answer. AnswersConformed name list media (Is target) answer) name
+    (Err refusal)
+not_conformed_as name list media Is fault (Broken reason) is told =
+    λ target. NotConformed fault told.0 is (ap (refused name) told.1)
+not_conformed_as name list media Is fault Memory is told = λ target. tt

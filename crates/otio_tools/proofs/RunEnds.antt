@@ -12,13 +12,12 @@ use Rattle.source_files.specs.declared.faults.ReadFault.TheVariants as fault
 use Rattle.source_files.specs.declared.faults.SourceFault.{SourceFault}
 use Rattle.command_words.specs.Asked.{Ask, AskNothing}
 use Rattle.command_words.specs.declared.requests.Command.{Command}
-use Rattle.command_words.specs.declared.requests.Command.TheVariants.{ListToList, ToObjects, ToJson, Frames}
 use Rattle.command_words.proofs.Gathering.{ask_once}
-use Rattle.otio_tools.specs.Asked.{Asked, Asks, asked_for, files_of}
-use Rattle.otio_tools.specs.Forms.{Answer, done, absent, refused, usage}
+use Rattle.otio_tools.specs.Asked.{Asked, Asks, ListsFrames, asked_for}
+use Rattle.otio_tools.specs.Forms.{Answer, done, absent, usage}
 use Rattle.otio_tools.specs.Answer.{NoCommand, OnFiles, AnswersAsked}
 use Rattle.otio_tools.specs.Run.{Streams, Ends, Gives, Sends, SendsNothing, Directs, Message, ReadsAll, AsksFrames, KeepsStill}
-use Rattle.otio_tools.specs.Plan.{Plans, IsStop, AreFrames, AreRows, IsFor, Carries, Complains, Writes, IsSendCause, WritesTo, text_planned, status_unsent, message_unsent}
+use Rattle.otio_tools.specs.Plan.{Plans, IsStop, AreRows, IsFor, Carries, Complains, Writes, IsSendCause, WritesTo, text_planned, status_unsent, message_unsent}
 use Rattle.otio_tools.specs.declared.Status.{Status}
 use Rattle.otio_tools.specs.declared.Status.TheVariants.{Done, Usage, Refused, Input, Output, Memory}
 use Rattle.otio_tools.specs.declared.planned.Planned.{Planned}
@@ -32,7 +31,7 @@ nothing_added (Some a) (Some b) h =
 
 -- what is asked for with all of its parts
 pub whole : (words : List (List ℕ)) (asked : Asked) (p : Asks words asked)
-    → asked ≡ asked_for asked.command p.name asked.target
+    → asked ≡ asked_for asked.command p.name p.media asked.target
 whole words asked p = ap (λ files. record {
   command = asked.command;
   files = files;
@@ -40,22 +39,25 @@ whole words asked p = ap (λ files. record {
       asked.target;
 }) p.files
 
-same_parts : (c d : Command) (n m : List ℕ) (s t : Option (List ℕ)) → c ≡ d → n ≡ m → s ≡ t
-    → asked_for c n s ≡ asked_for d m t
-same_parts c d n m s t e f g =
-    ap (λ x. asked_for x n s) e ∙ ap (λ y. asked_for d y s) f ∙ ap (λ z. asked_for d m z) g
+same_parts : (c d : Command) (n m : List ℕ) (k l s t : Option (List ℕ)) → c ≡ d → n ≡ m → k ≡ l
+    → s ≡ t → asked_for c n k s ≡ asked_for d m l t
+same_parts c d n m k l s t e f g h =
+    ap (λ x. asked_for x n k s) e ∙ ap (λ y. asked_for d y k s) f ∙ ap (λ z. asked_for d m z s) g
+    ∙ ap (asked_for d m l) h
 
 -- words ask for at most one thing
 pub asks_once : (words : List (List ℕ)) (a b : Asked) → Asks words a → Asks words b → a ≡ b
 asks_once words a b p q =
-    let same = ask_once words a.command b.command p.name q.name a.target b.target p.ask q.ask in
-    whole words a p ∙ same_parts a.command b.command p.name q.name a.target b.target same.0 same.1
-    same.2 ∙ sym (whole words b q)
+    let same = ask_once words a.command b.command p.name q.name p.media q.media a.target b.target
+    p.ask q.ask in
+    whole words a p ∙ same_parts a.command b.command p.name q.name p.media q.media a.target
+    b.target same.0 same.1 same.2 same.3 ∙ sym (whole words b q)
 
 pub asks_for : (words : List (List ℕ)) (command : Command) (name : List ℕ)
-    (target : Option (List ℕ)) → Ask words command name target
-    → Asks words (asked_for command name target)
-asks_for words command name target w = record { name = name; ask = w; files = refl }
+    (media target : Option (List ℕ)) → Ask words command name media target
+    → Asks words (asked_for command name media target)
+asks_for words command name media target w =
+    record { name = name; media = media; ask = w; files = refl }
 
 reads_all : (words : List (List ℕ)) (asked : Asked) (new : KnownFiles) → Asks words asked
     → EndsWith asked.files new → ReadsAll words new
@@ -107,71 +109,74 @@ carried_fault words asked name old new before now d (fault.Refused WantOfMemory)
     rw c.status (inl c.output, c.message)
 
 -- a command of frames that was asked for
-asks_frames : (words : List (List ℕ)) (command : Command) (name : List ℕ) (target : Option (List ℕ))
-    → Ask words command name target
-    → AreFrames command → AsksFrames words
-asks_frames words (ListToList rate drop) name target w f = absurd f
-asks_frames words ToObjects name target w f = absurd f
-asks_frames words ToJson name target w f = absurd f
-asks_frames words (Frames asked) name target w f =
-    record { asked = asked; name = name; target = target; ask = w }
+asks_frames : (words : List (List ℕ)) (command : Command) (name : List ℕ)
+    (media target : Option (List ℕ)) → Ask words command name media target
+    → ListsFrames command → AsksFrames words
+asks_frames words command name media target w lists = record {
+  command = command;
+  lists = lists;
+  name = name;
+  media = media;
+  target = target;
+  ask = w;
+}
 
 -- who plans right and carries the plan out ends right
-carried_one : (words : List (List ℕ)) (command : Command) (name : List ℕ) (target : Option (List ℕ))
+carried_one : (words : List (List ℕ)) (command : Command) (name : List ℕ) (media target : Option (List ℕ))
     (old new : KnownFiles)
     (before now : ℕ) (d : Streams) (plan : Result Planned SourceFault) (status : Status)
-    → Ask words command name target
-    → Plans (asked_for command name target) plan old new
+    → Ask words command name media target
+    → Plans (asked_for command name media target) plan old new
     → IfOk plan (λ planned. IsFor command planned) → RaisedAt plan before now
     → Carries target plan d status → Ends words before now d status old new
-carried_one words command name target old new before now d (Ok planned) Done w p k r c = (
+carried_one words command name media target old new before now d (Ok planned) Done w p k r c = (
   record {
     answer = done target (text_planned planned);
-    owed = OnFiles (asked_for command name target) (asks_for words command name target w) p.0;
+    owed = OnFiles (asked_for command name media target) (asks_for words command name media target w) p.0;
     status = refl;
     output = c.0;
     message = c.1;
   },
-  reads_all words (asked_for command name target) new (asks_for words command name target w) p.1,
+  reads_all words (asked_for command name media target) new (asks_for words command name media target w) p.1,
 )
-carried_one words command name target old new before now d (Ok planned) Output w p k r c = record {
+carried_one words command name media target old new before now d (Ok planned) Output w p k r c = record {
   answer = done target (text_planned planned);
-  owed = OnFiles (asked_for command name target) (asks_for words command name target w) p.0;
+  owed = OnFiles (asked_for command name media target) (asks_for words command name media target w) p.0;
   status = refl;
   failed = c.0;
   output = c.1;
   message = c.2;
 }
-carried_one words command name target old new before now d (Ok planned) Usage w p k r c = absurd c
-carried_one words command name target old new before now d (Ok planned) Refused w p k r c = absurd c
-carried_one words command name target old new before now d (Ok planned) Input w p k r c = absurd c
-carried_one words command name target old new before now d (Ok planned) Memory w p k r c = (
+carried_one words command name media target old new before now d (Ok planned) Usage w p k r c = absurd c
+carried_one words command name media target old new before now d (Ok planned) Refused w p k r c = absurd c
+carried_one words command name media target old new before now d (Ok planned) Input w p k r c = absurd c
+carried_one words command name media target old new before now d (Ok planned) Memory w p k r c = (
   inr (record {
-    frames = asks_frames words command name target w (k c.0);
+    frames = asks_frames words command name media target w (k c.0);
     answer = done target (text_planned planned);
-    owed = OnFiles (asked_for command name target) (asks_for words command name target w) p.0;
+    owed = OnFiles (asked_for command name media target) (asks_for words command name media target w) p.0;
     status = refl;
     output = c.1;
   }),
   c.2,
 )
-carried_one words command name target old new before now d (Err stop) status w p k r c =
-    carried_fault words (asked_for command name target) stop.name.now old new before now d
+carried_one words command name media target old new before now d (Err stop) status w p k r c =
+    carried_fault words (asked_for command name media target) stop.name.now old new before now d
     stop.fault status
-    (asks_for words command name target w) p r c
+    (asks_for words command name media target w) p r c
 
-pub carried : (words : List (List ℕ)) (command : Command) (name : List ℕ) (target : Option (List ℕ))
+pub carried : (words : List (List ℕ)) (command : Command) (name : List ℕ) (media target : Option (List ℕ))
     (old new : Option KnownFiles)
     (before now : ℕ) (d : Streams) (plan : Result Planned SourceFault) (status : Status)
-    → Ask words command name target
-    → Tells (Plans (asked_for command name target) plan) old new
+    → Ask words command name media target
+    → Tells (Plans (asked_for command name media target) plan) old new
     → IfOk plan (λ planned. IsFor command planned)
     → RaisedAt plan before now → Carries target plan d status
     → Tells (Ends words before now d status) old new
-carried words command name target None new before now d plan status w p k r c = tt
-carried words command name target (Some old) None before now d plan status w p k r c = absurd p
-carried words command name target (Some old) (Some new) before now d plan status w p k r c =
-    carried_one words command name target old new before now d plan status w p k r c
+carried words command name media target None new before now d plan status w p k r c = tt
+carried words command name media target (Some old) None before now d plan status w p k r c = absurd p
+carried words command name media target (Some old) (Some new) before now d plan status w p k r c =
+    carried_one words command name media target old new before now d plan status w p k r c
 
 -- words that ask for nothing are answered by the usage text
 pub usage_given : (words : List (List ℕ)) (known : Option KnownFiles) (before now : ℕ) (d : Streams)
@@ -217,18 +222,18 @@ fault_still words name d (fault.Refused WantOfMemory) status c =
 
 -- what is not sent stays unsent
 pub carried_still : (words : List (List ℕ)) (command : Command) (name : List ℕ)
-    (target : Option (List ℕ)) (d : Streams)
-    (plan : Result Planned SourceFault) (status : Status) → Ask words command name target
+    (media target : Option (List ℕ)) (d : Streams)
+    (plan : Result Planned SourceFault) (status : Status) → Ask words command name media target
     → IfOk plan (λ planned. IsFor command planned)
     → Carries target plan d status → KeepsStill words d status
-carried_still words command name target d (Ok planned) Done w k c = tt
-carried_still words command name target d (Ok planned) Output w k c = c.0
-carried_still words command name target d (Ok planned) Usage w k c = absurd c
-carried_still words command name target d (Ok planned) Refused w k c = absurd c
-carried_still words command name target d (Ok planned) Input w k c = absurd c
-carried_still words command name target d (Ok planned) Memory w k c =
-    inr (asks_frames words command name target w (k c.0))
-carried_still words command name target d (Err stop) status w k c =
+carried_still words command name media target d (Ok planned) Done w k c = tt
+carried_still words command name media target d (Ok planned) Output w k c = c.0
+carried_still words command name media target d (Ok planned) Usage w k c = absurd c
+carried_still words command name media target d (Ok planned) Refused w k c = absurd c
+carried_still words command name media target d (Ok planned) Input w k c = absurd c
+carried_still words command name media target d (Ok planned) Memory w k c =
+    inr (asks_frames words command name media target w (k c.0))
+carried_still words command name media target d (Err stop) status w k c =
     (fault_still words stop.name.now d stop.fault status c).1
 
 -- no plan ends in usage

@@ -1,9 +1,10 @@
 -- The answer to words and files.
-use Rattle.std.specs.Prelude.{◌≡◌, ◌||◌, ℕ, List, [], ◌∷◌, None}
+use Rattle.std.specs.Prelude.{◌≡◌, ◌||◌, ℕ, List, ◌∷◌, None}
 use Rattle.std.specs.declared.option.Option.{Option}
 use Rattle.json_value.specs.declared.Json.{Json}
 use Rattle.json_layout.specs.Layout.{layout}
-use Rattle.otio_model.specs.declared.roots.Object.{Object}
+use Rattle.otio_model.specs.declared.roots.Object.{Object, Timeline as ObjectOfTimeline}
+use Rattle.otio_model.specs.declared.timelines.Timeline.{Timeline}
 use Rattle.schema_write.specs.Objects.{json_of}
 use Rattle.source_files.specs.Order.{FirstIsNot}
 use Rattle.source_files.specs.Reading.{Held, Source, IsRead, AreRead, IsRefusedIn}
@@ -11,27 +12,38 @@ use Rattle.source_files.specs.declared.kinds.Content.{Content}
 use Rattle.source_files.specs.declared.kinds.Content.TheVariants.{Value, Root, Film, Events}
 use Rattle.command_words.specs.Asked.{AskNothing}
 use Rattle.command_words.specs.declared.requests.Command.{Command}
-use Rattle.command_words.specs.declared.requests.Command.TheVariants.{ListToList, ToObjects, ToJson, Frames}
+use Rattle.command_words.specs.declared.requests.Command.TheVariants.{ListToList, ListToObjects, ToObjects, ToJson, Frames, ListFrames}
 use Rattle.otio_tools.specs.Asked.{Asked, Asks}
 use Rattle.otio_tools.specs.Forms.{Answer, done, refused, absent, usage}
 use Rattle.otio_tools.specs.Events.{AnswersEvents}
 use Rattle.otio_tools.specs.Frames.{AnswersTimeline}
+use Rattle.otio_tools.specs.Conformed.{media_in, AnswersConformed}
 
 -- the JSON of an object that is written, in the current schemas and the written order
 unfoldable pub object_json : Object → Json
 object_json object = json_of object
 
+-- the answer to a timeline that is written
+abbrev pub AnswersWritten : Option (List ℕ) → Timeline → Answer → Type 0
+AnswersWritten target timeline answer =
+    answer ≡ done target (layout (object_json (ObjectOfTimeline timeline)))
+
 -- The answer to a command on what its files hold, in their order: a value or an object in the one
 -- layout, a list in its one spelling, with drop-frame timecode where that is asked for or is in
--- force at its first event line, or the rows of frames. A refusal is told of one of the files.
+-- force at its first event line, the timeline that a list conforms to with the media list behind
+-- it, or the rows of frames. A refusal is told of one of the files.
 abbrev pub AnswersHeld : Command → List Source → Option (List ℕ) → List Content → Answer → Type 0
-AnswersHeld ToJson files target (Value value ∷ []) answer = answer ≡ done target (layout value)
-AnswersHeld ToObjects files target (Root object ∷ []) answer =
+AnswersHeld ToJson files target (Value value ∷ more) answer = answer ≡ done target (layout value)
+AnswersHeld ToObjects files target (Root object ∷ more) answer =
     answer ≡ done target (layout (object_json object))
-AnswersHeld (ListToList rate drop) (file ∷ []) target (Events list ∷ []) answer =
+AnswersHeld (ListToList rate drop) (file ∷ files) target (Events list ∷ more) answer =
     AnswersEvents file.name target list (drop || list.drop) answer
-AnswersHeld (Frames asked) (file ∷ []) target (Film timeline ∷ []) answer =
+AnswersHeld (ListToObjects rate) (file ∷ files) target (Events list ∷ more) answer =
+    AnswersConformed file.name list (media_in more) (AnswersWritten target) answer
+AnswersHeld (Frames asked) (file ∷ files) target (Film timeline ∷ more) answer =
     AnswersTimeline asked file.name target timeline answer
+AnswersHeld (ListFrames rate asked) (file ∷ files) target (Events list ∷ more) answer =
+    AnswersConformed file.name list (media_in more) (AnswersTimeline asked file.name target) answer
 AnswersHeld command files target contents answer = ⊥
 
 -- the answer to a file that isn't there, or whose bytes are nothing of what they are read as

@@ -3,6 +3,7 @@ pub mod Forms
 pub mod Asked
 pub mod Events
 pub mod Frames
+pub mod Conformed
 pub mod Answer
 pub mod Run
 pub mod Plan

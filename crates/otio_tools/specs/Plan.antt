@@ -1,5 +1,5 @@
 -- What is planned before anything is sent, and how it is carried out.
-use Rattle.std.specs.Prelude.{◌≡◌, ◌<◌, ◌≤◌, ◌^◌, ℕ, Bool, List, [], Some, None, Result, Ok, Err, MatchResult}
+use Rattle.std.specs.Prelude.{◌≡◌, ◌<◌, ◌≤◌, ◌^◌, ℕ, Bool, List, [], ◌∷◌, Some, None, Result, Ok, Err, MatchResult}
 use Rattle.std.specs.declared.option.Option.{Option}
 use Rattle.json_layout.specs.Layout.{layout}
 use Rattle.edl_list.specs.Formed.{IsWellFormed}
@@ -7,7 +7,6 @@ use Rattle.edl_list.specs.declared.list.EventList.{EventList}
 use Rattle.edl_layout.specs.Labelled.{IsFirstPast}
 use Rattle.edl_layout.specs.Spelling.{spelling}
 use Rattle.otio_model.specs.Counts.{count as count_below}
-use Rattle.otio_model.specs.declared.roots.Object.{Object}
 use Rattle.otio_model.specs.declared.timelines.Timeline.{Timeline}
 use Rattle.coord.specs.Soundness.{IsFaultless}
 use Rattle.frame_rows.specs.Rows.{listing_text}
@@ -15,7 +14,7 @@ use Rattle.frame_rows.specs.declared.listing.RowFault.{RowFault}
 use Rattle.frame_rows.specs.declared.listing.RowFault.TheVariants.{Sink, Memory as NoMemory}
 use Rattle.fault_text.specs.Reasons.{reason_text}
 use Rattle.source_files.specs.Order.{FirstIsNot}
-use Rattle.source_files.specs.Reading.{Held, IsRead, IsRefused, EndsWith}
+use Rattle.source_files.specs.Reading.{IsRead, IsRefused, EndsWith}
 use Rattle.source_files.specs.declared.kinds.Content.{Content}
 use Rattle.source_files.specs.declared.kinds.Content.TheVariants as content
 use Rattle.source_files.specs.declared.faults.Refusal.{Refusal}
@@ -24,10 +23,14 @@ use Rattle.source_files.specs.declared.faults.ReadFault.{ReadFault}
 use Rattle.source_files.specs.declared.faults.ReadFault.TheVariants.{Absent, Failed, Refused}
 use Rattle.source_files.specs.declared.faults.SourceFault.{SourceFault}
 use Rattle.command_words.specs.declared.requests.Command.{Command}
-use Rattle.command_words.specs.declared.requests.Command.TheVariants.{ListToList, ToObjects, ToJson, Frames}
 use Rattle.dev_io.specs.Known.{KnownFiles, KnownOut}
 use Rattle.dev_io.specs.Causes.{Rose}
-use Rattle.otio_tools.specs.Asked.{Asked, files_of}
+use Rattle.limits.specs.Limits.{most_items}
+use Rattle.edl_frames.specs.Shown.{MediaRows}
+use Rattle.edl_frames.specs.Conformed.{IsTimelineOf}
+use Rattle.edl_frames.specs.Refused.{IsAccepted}
+use Rattle.edl_frames.specs.Counted.{item_count}
+use Rattle.otio_tools.specs.Asked.{Asked, ListsFrames, files_of}
 use Rattle.otio_tools.specs.Forms.{Answer, done, refused, absent, message_of, read_failed}
 use Rattle.otio_tools.specs.Events.{CanBeWritten}
 use Rattle.otio_tools.specs.Answer.{object_json, AnswersHeld, AnswersAsked}
@@ -35,12 +38,13 @@ use Rattle.otio_tools.specs.Run.{Streams, Sends, Directs, DirectsFront, DirectsP
 use Rattle.otio_tools.specs.declared.Status.{Status}
 use Rattle.otio_tools.specs.declared.Status.TheVariants as status
 use Rattle.otio_tools.specs.declared.planned.Planned.{Planned}
-use Rattle.otio_tools.specs.declared.planned.Planned.TheVariants.{Events, Value, Rows}
+use Rattle.otio_tools.specs.declared.planned.Planned.TheVariants.{Events, Value, Root, Rows}
 
 -- the text of what is to be sent
 abbrev pub text_planned : Planned → List ℕ
 text_planned (Events list drop) = spelling list drop
 text_planned (Value value) = layout value
+text_planned (Root object) = layout (object_json object)
 text_planned (Rows timeline listing) = listing_text timeline listing
 
 -- What is planned of contents is the answer, or why there is nothing to send, told of the file of
@@ -51,26 +55,39 @@ Suffices Is name (Ok planned) = (target : Option (List ℕ))
 Suffices Is name (Err refusal) =
     (target : Option (List ℕ)) → IsRefused (λ why. Is target (refused name why)) refusal
 
--- what is planned of an object is its JSON; want of memory is free
-abbrev pub PlansObject : Object → Result Planned Refusal → Type 0
-PlansObject object (Ok planned) = planned ≡ Value (object_json object)
-PlansObject object (Err refusal) = refusal ≡ Memory
-
 -- what is planned of what the file of that name holds; why there is nothing to send is told of that
 -- file
-abbrev pub IsRefusedHeld : Command → List ℕ → List Content → ReadFault → Type 0
-IsRefusedHeld command name contents Absent = ⊥
-IsRefusedHeld command name contents Failed = ⊥
-IsRefusedHeld command name contents (Refused refusal) = (target : Option (List ℕ))
-    → IsRefused (λ why. AnswersHeld command (files_of command name) target contents
+abbrev pub IsRefusedHeld : Command → List ℕ → Option (List ℕ) → List Content → ReadFault → Type 0
+IsRefusedHeld command name media contents Absent = ⊥
+IsRefusedHeld command name media contents Failed = ⊥
+IsRefusedHeld command name media contents (Refused refusal) = (target : Option (List ℕ))
+    → IsRefused (λ why. AnswersHeld command (files_of command name media) target contents
     (refused name why)) refusal
 
-abbrev pub PlansHeld : Command → List ℕ → List Content → Result Planned SourceFault → Type 0
-PlansHeld command name contents (Ok planned) = (target : Option (List ℕ))
-    → AnswersHeld command (files_of command name) target contents
+abbrev pub PlansHeld : Command → List ℕ → Option (List ℕ) → List Content
+    → Result Planned SourceFault → Type 0
+PlansHeld command name media contents (Ok planned) = (target : Option (List ℕ))
+    → AnswersHeld command (files_of command name media) target contents
     (done target (text_planned planned))
-PlansHeld command name contents (Err stop) =
-    (stop.name.now ≡ name) × IsRefusedHeld command name contents stop.fault
+PlansHeld command name media contents (Err stop) =
+    (stop.name.now ≡ name) × IsRefusedHeld command name media contents stop.fault
+
+-- the timeline of a list, which is accepted and makes few items
+pub record IsConformedTo (list : EventList) (media : MediaRows)
+    (timeline : Timeline) : Type 0 where
+  pub is : IsTimelineOf list media timeline
+  pub accepted : IsAccepted list media
+  pub few : item_count list ≤ most_items
+
+-- what a media list adds to what was read
+abbrev pub media_content : MediaRows → List Content
+media_content None = []
+media_content (Some rows) = content.Rows rows ∷ []
+
+-- one content, and a media list behind it at most
+abbrev pub AreContents : List Content → Type 0
+AreContents contents =
+    (first : Content) × (media : MediaRows) × (contents ≡ first ∷ media_content media)
 
 -- why there is nothing to send: the answer, or the first file of which a call failed
 abbrev pub IsStop : Asked → List ℕ → ReadFault → KnownFiles → KnownFiles → Type 0
@@ -94,6 +111,7 @@ HasFormedList (content.Events list) = IsWellFormed list
 HasFormedList (content.Value value) = ⊥
 HasFormedList (content.Root object) = ⊥
 HasFormedList (content.Film timeline) = ⊥
+HasFormedList (content.Rows rows) = ⊥
 
 -- a list that can be written in this mode
 pub record IsWritableIn (list : EventList) (drop : Bool) : Type 0 where
@@ -110,22 +128,18 @@ pub record CanBeShown (timeline : Timeline) : Type 0 where
 abbrev pub Fits : Planned → Type 0
 Fits (Events list drop) = IsWritableIn list drop
 Fits (Value value) = Unit {0}
+Fits (Root object) = Unit {0}
 Fits (Rows timeline listing) = CanBeShown timeline
-
-abbrev pub AreFrames : Command → Type 0
-AreFrames (ListToList rate drop) = ⊥
-AreFrames ToObjects = ⊥
-AreFrames ToJson = ⊥
-AreFrames (Frames asked) = Unit {0}
 
 abbrev pub AreRows : Planned → Type 0
 AreRows (Events list drop) = ⊥
 AreRows (Value value) = ⊥
+AreRows (Root object) = ⊥
 AreRows (Rows timeline listing) = Unit {0}
 
 -- rows are planned for frames alone
 abbrev pub IsFor : Command → Planned → Type 0
-IsFor command planned = AreRows planned → AreFrames command
+IsFor command planned = AreRows planned → ListsFrames command
 
 -- the text was sent to the target; or a prefix of it, and the stream failed; or a prefix of rows,
 -- and memory ran out

@@ -7,9 +7,8 @@ use Rattle.dev_io.specs.Causes.{Rose}
 use Rattle.source_files.specs.Order.{FirstIsNot}
 use Rattle.source_files.specs.Reading.{Held, Source, IsRead, IsFailureOf, EndsWith}
 use Rattle.command_words.specs.Asked.{Ask}
-use Rattle.command_words.specs.declared.requests.Command.TheVariants.{Frames}
-use Rattle.command_words.specs.declared.requests.FramesAsked.{FramesAsked}
-use Rattle.otio_tools.specs.Asked.{Asked, Asks}
+use Rattle.command_words.specs.declared.requests.Command.{Command}
+use Rattle.otio_tools.specs.Asked.{Asked, Asks, ListsFrames}
 use Rattle.otio_tools.specs.Forms.{Answer, read_failed}
 use Rattle.otio_tools.specs.Answer.{Answers}
 use Rattle.otio_tools.specs.declared.Status.{Status}
@@ -102,10 +101,12 @@ pub record Stops (words : List (List ℕ)) (held : Held) (d : Streams) : Type 0 
 
 -- the words ask for frames
 pub record AsksFrames (words : List (List ℕ)) : Type 0 where
-  pub asked : FramesAsked
+  pub command : Command
+  pub lists : ListsFrames command
   pub name : List ℕ
+  pub media : Option (List ℕ)
   pub target : Option (List ℕ)
-  pub ask : Ask words (Frames asked) name target
+  pub ask : Ask words command name media target
 
 -- The answer was an output, the rows of frames, and memory ran out over them: a prefix was sent.
 pub record Breaks (words : List (List ℕ)) (held : Held) (d : Streams) : Type 0 where

@@ -5,6 +5,7 @@ ghost use Rattle.edl_layout.specs.Spelling.{spelling};
 ghost use Rattle.json_layout.specs.Layout.{layout};
 ghost use Rattle.frame_rows.specs.Rows.{listing_text};
 ghost use Rattle.command_words.specs.Asked.{Ask, AskNothing};
+ghost use Rattle.otio_tools.specs.Answer.{object_json};
 ghost use Rattle.otio_tools.specs.Texts.{text_at};
 ghost use Rattle.otio_tools.specs.Run.{Completes, Ends, Says, KeepsStill, no_memory, streams};
 ghost use Rattle.otio_tools.specs.Plan.{AreRows, CanBeShown, Carries, Complains, Fits, HasSendCause, IsWritableIn, Writes, WritesTo, text_planned, message_about, message_unsent, status_of, status_unsent};
@@ -20,9 +21,11 @@ use edl_list::EventList;
 use frame_rows::{Listing, RowFault, write_rows};
 use json_layout::write_json;
 use json_value::Json;
-use otio_model::Timeline;
+use object_layout::write_object;
+use otio_model::{Object, Timeline};
 use source_files::{ReadFault, Refusal, SourceFault};
 use std::alloc::Global;
+use std::mem;
 
 const USAGE: &[u8] = b"otio: usage
   otio convert [--from F] [--to T] [--rate R] [--drop] [--media LIST] [-o OUT] FILE
@@ -36,19 +39,22 @@ const USAGE: &[u8] = b"otio: usage
 
 /// Does what the words behind the program's name ask for, and says how it ended.
 ///
-/// `convert FILE`, where FILE ends with `.edl`, reads a CMX 3600 list, at 24 frames a second or at
-/// the rate that `--rate` gives, and with `--to edl` sends its one spelling, with drop-frame
-/// timecode where `--drop` stands or the list has it. For any other FILE, or with `--from otio`, it
-/// reads an object of OpenTimelineIO, old names and versions included, and sends its layout in the
-/// current schemas; with `--to json` it sends the layout of the JSON text, and reads no schema.
+/// `convert FILE`, where FILE ends with `.edl` or `--from edl` stands, reads a CMX 3600 list, at 24
+/// frames a second or at the rate that `--rate` gives, and sends the timeline that it conforms to,
+/// with the media of the media list that `--media` names. Refused are a reel that isn't listed
+/// there, media of another rate, a frame outside the media, and too many items. With `--to edl` it
+/// sends the one spelling of the list, with drop-frame timecode where `--drop` stands or the list
+/// has it. For any other FILE, or with `--from otio`, it reads an object of OpenTimelineIO, old
+/// names and versions included, and sends its layout in the current schemas; with `--to json` it
+/// sends the layout of the JSON text, and reads no schema.
 ///
-/// `frames FILE` reads an object too, and sends a row for each record frame and root child of a
-/// sound timeline: the frame's number, the child's index and what it shows. `--child` asks for one
-/// child alone, and where there is none of that index no row is sent. `--start` is the first frame,
-/// by its number or by a timecode label at the record rate, else that of the timeline. `--count` is
-/// how many frames, else all up to the end of the longest child, at most 100 000. Refused are an
-/// object that is no timeline, a timeline that isn't sound, and then a label that is none at the
-/// record rate.
+/// `frames FILE` reads an object too, or a list, which it conforms in the same way, and sends a row
+/// for each record frame and root child of a sound timeline: the frame's number, the child's index
+/// and what it shows. `--child` asks for one child alone, and where there is none of that index no
+/// row is sent. `--start` is the first frame, by its number or by a timecode label at the record
+/// rate, else that of the timeline. `--count` is how many frames, else all up to the end of the
+/// longest child, at most 100 000. Refused are an object that is no timeline, a timeline that isn't
+/// sound, and then a label that is none at the record rate.
 ///
 /// `-o OUT` aims `out` at that file before anything is sent.
 /// Each status but `Done` sends one message to `err`; where `err` fails, a prefix of it was sent,
@@ -105,18 +111,20 @@ fn serve<F: Files, W: Out, E: Out>(
 ) -> Status
     requires { IsFresh (W.known out.old) }
     ensures ends { (words : List (List ℕ)) →
-        Ask words request.entry.command request.entry.name.now (text_at request.entry.target) →
+        Ask words request.entry.command request.entry.name.now (text_at request.entry.media)
+        (text_at request.entry.target) →
         let sent = streams W.faults W.known E.faults E.known out.old out.new err.old err.new in
         Tells (Ends words (F.faults files.old) (F.faults files.new) sent result)
         (F.known files.old) (F.known files.new) }
     ensures still { (words : List (List ℕ)) →
-        Ask words request.entry.command request.entry.name.now (text_at request.entry.target) →
+        Ask words request.entry.command request.entry.name.now (text_at request.entry.media)
+        (text_at request.entry.target) →
         let sent = streams W.faults W.known E.faults E.known out.old out.new err.old err.new in
         KeepsStill words sent result }
     ensures asked { result ≢ Status.Usage }
     ensures calm { result ≢ Status.Input → F.faults files.new ≡ F.faults files.old }
 {
-    let planned = plan(alloc, request.command, request.name, files);
+    let planned = plan(alloc, request.command, request.name, request.media, files);
     carry_out(alloc, request.target, planned, out, err)
 }
 
@@ -134,7 +142,11 @@ fn carry_out<W: Out, E: Out>(
         (streams W.faults W.known E.faults E.known out.old out.new err.old err.new) result }
 {
     match planned {
-        Ok(planned) => send(alloc, target, &planned, out, err),
+        Ok(planned) => {
+            let status = send(alloc, target, &planned, out, err);
+            mem::forget(planned);
+            status
+        }
         Err(stop) => complain(stop, err),
     }
 }
@@ -206,6 +218,7 @@ fn write_planned<W: Out>(alloc: Global, planned: &Planned, out: &mut W) -> Resul
     match planned {
         Planned::Events(list, drop) => write_events(list, *drop, out),
         Planned::Value(value) => write_value(value, out),
+        Planned::Root(object) => write_root(object, out),
         Planned::Rows(timeline, listing) => write_frames(alloc, timeline, listing, out),
     }
 }
@@ -229,6 +242,18 @@ fn write_value<W: Out>(value: &Json, out: &mut W) -> Result<(), RowFault>
     ensures cause { HasSendCause ⊥ (W.faults out.old) (W.faults out.new) result }
 {
     match write_json(value, out) {
+        Ok(()) => Ok(()),
+        Err(_) => Err(RowFault::Sink),
+    }
+}
+
+// Sends an object.
+fn write_root<W: Out>(object: &Object, out: &mut W) -> Result<(), RowFault>
+    ensures told { Tells (SendsAll (layout (object_json object.now)) result) (W.known out.old)
+        (W.known out.new) }
+    ensures cause { HasSendCause ⊥ (W.faults out.old) (W.faults out.new) result }
+{
+    match write_object(object, out) {
         Ok(()) => Ok(()),
         Err(_) => Err(RowFault::Sink),
     }

@@ -7,6 +7,7 @@ ghost use Rattle.otio_tools.specs.Answer.{Answers};
 ghost use Rattle.otio_tools.specs.Forms.{Answer};
 
 mod command;
+mod conformed;
 mod frames;
 mod list;
 mod planned;

@@ -11,6 +11,7 @@ use edl_list::EventList;
 use fault_text::{day_reason, events_reason, no_timecode_reason};
 use smpte_tc::{TcFault, label};
 use source_files::Refusal;
+use std::mem;
 use tick_time::Rate;
 
 /// How many events a list that is written may have.
@@ -59,6 +60,7 @@ fn write_in_mode(list: EventList, drop: bool) -> Result<Planned, Refusal>
         return Err(Refusal::Broken(no_timecode_reason()));
     }
     if list.events.len() > MOST_EVENTS {
+        mem::forget(list);
         return Err(Refusal::Broken(events_reason()));
     }
     match first_label_past_day(&list, drop) {

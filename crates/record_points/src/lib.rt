@@ -7,5 +7,6 @@ mod points;
 #[cfg(test)]
 mod tests;
 
+pub use forms::is_label_form;
 pub use numbers::whole_number;
-pub use points::{RecordPoint, frame_at, one_point, point_of};
+pub use points::{RecordPoint, frame_at, frame_of_label, one_point, point_of};

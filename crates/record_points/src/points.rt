@@ -75,8 +75,9 @@ fn frame_number(number: u64) -> Option<i64>
     }
 }
 
-// The frame number of the day that a label names at a rate.
-fn frame_of_label(label: &[u8], rate: Rate) -> Option<i64>
+/// The frame number of the day that a label names at a rate; none exactly where the bytes are no
+/// label at that rate, as [`frame_at`] says. `;` before the frames means drop-frame.
+pub fn frame_of_label(label: &[u8], rate: Rate) -> Option<i64>
     ensures frame { result ≡ option_map pos (frame_named rate false label.now) }
     ensures bound { IfSome result IsFrame }
 {

@@ -7,6 +7,7 @@ ghost use Rattle.schema_rows.specs.Defaults as defaults;
 
 use crate::faults::field_fault;
 use otio_model::{Children, Effects, Place, Stack, StackOf};
+use owned::Owned;
 use schema_rows::{Field, Kind, RowResult, SchemaFault, Value};
 use sequences::{NamedValues, Sequence, Text};
 use std::alloc::{AllocError, Global};
@@ -61,7 +62,7 @@ fn default_of(alloc: Global, kind: Kind) -> Result<Option<Value>, AllocError>
         Kind::Media => Ok(Some(Value::Media(NamedValues::new(alloc)))),
         Kind::Stack => {
             let stack = empty_tracks(alloc)?;
-            Ok(Some(Value::Stack(stack)))
+            Ok(Some(Value::Stack(Owned::of(alloc, stack)?)))
         }
         Kind::Objects => Ok(Some(Value::Objects(Sequence::new(alloc)))),
         Kind::Rate => Ok(None),

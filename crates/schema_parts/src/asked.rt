@@ -21,7 +21,8 @@ use crate::builders::{
 use crate::faults::{not_object_fault, unknown_fault};
 use crate::finding::found_object;
 use json_value::{Json, copy_json};
-use otio_model::{Effect, Item, ItemOf, Marker, Media, Missing, Object, Place};
+use otio_model::{Effect, Item, ItemOf, Marker, Media, Missing, Object, Place, Stack};
+use owned::Owned;
 use schema_rows::{Fields, Matched, RowResult, Schema, SchemaFault, Value};
 use sequences::{NamedValues, Text};
 use std::alloc::{AllocError, Global};
@@ -78,28 +79,28 @@ fn object_from(alloc: Global, fields: Fields) -> Result<Object, SchemaFault>
 }
 
 #[tactic(auto, using(crate::proofs::Asking::known_are))]
-fn effect_from(fields: Fields) -> Effect
+fn effect_from(alloc: Global, fields: Fields) -> Result<Effect, AllocError>
     requires family { IsAmong families.EFFECTS fields.schema }
     requires kinds { HaveKinds (rows_of fields.schema) fields.values }
-    ensures { readings.effect_reading result ≡ readings.known fields }
+    ensures { IfOk result (λ effect. readings.effect_reading effect ≡ readings.known fields) }
 {
     match fields.schema {
-        Schema::Warp => Effect::Warp(warp_of(fields)),
-        Schema::Freeze => Effect::Freeze(freeze_of(fields)),
-        Schema::TimeEffect => Effect::Plain(plain_of(fields, true)),
-        Schema::Effect => Effect::Plain(plain_of(fields, false)),
+        Schema::Warp => Ok(Effect::Warp(Owned::of(alloc, warp_of(fields))?)),
+        Schema::Freeze => Ok(Effect::Freeze(Owned::of(alloc, freeze_of(fields))?)),
+        Schema::TimeEffect => Ok(Effect::Plain(Owned::of(alloc, plain_of(fields, true))?)),
+        Schema::Effect => Ok(Effect::Plain(Owned::of(alloc, plain_of(fields, false))?)),
         _ => unreachable!(),
     }
 }
 
 #[tactic(auto, using(crate::proofs::Asking::known_are))]
-fn marker_from(fields: Fields) -> Marker
+fn marker_from(alloc: Global, fields: Fields) -> Result<Marker, AllocError>
     requires family { IsAmong families.MARKERS fields.schema }
     requires kinds { HaveKinds (rows_of fields.schema) fields.values }
-    ensures { readings.marker_reading result ≡ readings.known fields }
+    ensures { IfOk result (λ marker. readings.marker_reading marker ≡ readings.known fields) }
 {
     match fields.schema {
-        Schema::Marker => Marker::Known(mark_of(fields)),
+        Schema::Marker => Ok(Marker::Known(Owned::of(alloc, mark_of(fields))?)),
         _ => unreachable!(),
     }
 }
@@ -161,6 +162,15 @@ pub fn root_of(
     }
 }
 
+/// The stack of these fields, in memory of its own.
+fn owned_stack(alloc: Global, fields: Fields) -> Result<Owned<Stack>, AllocError>
+    requires { HaveKinds rows.stack_rows fields.values }
+    ensures values { IfOk result (λ made. (readings.stack_fields made).values ≡ fields.values) }
+    ensures rest { IfOk result (λ made. (readings.stack_fields made).rest ≡ fields.rest) }
+{
+    Owned::of(alloc, stack_of(alloc, fields)?)
+}
+
 /// The root stack of a timeline; S1 or S2 where the value is none.
 pub fn tracks_of(alloc: Global, value: &Json, place: &Place, found: Matched) -> RowResult
     requires found { MatchOption found (IsForeign families.STACKS value.now)
@@ -170,7 +180,7 @@ pub fn tracks_of(alloc: Global, value: &Json, place: &Place, found: Matched) -> 
         Refuses_reading (child families.STACKS) place.now value.now fault) }
 {
     match found {
-        Some(fields) => match stack_of(alloc, fields) {
+        Some(fields) => match owned_stack(alloc, fields) {
             Ok(stack) => Ok(Value::Stack(stack)),
             Err(_) => Err(SchemaFault::Memory),
         },
@@ -187,7 +197,10 @@ pub fn effect_of(alloc: Global, value: &Json, found: Matched) -> Result<Effect, 
     ensures memory { IfErr result (λ fault. fault ≡ SchemaFault.Memory) }
 {
     match found {
-        Some(fields) => Ok(effect_from(fields)),
+        Some(fields) => match effect_from(alloc, fields) {
+            Ok(effect) => Ok(effect),
+            Err(_) => Err(SchemaFault::Memory),
+        },
         None => match copy_json(alloc, value) {
             Ok(copy) => Ok(Effect::Kept(copy)),
             Err(_) => Err(SchemaFault::Memory),
@@ -204,7 +217,10 @@ pub fn marker_of(alloc: Global, value: &Json, found: Matched) -> Result<Marker, 
     ensures memory { IfErr result (λ fault. fault ≡ SchemaFault.Memory) }
 {
     match found {
-        Some(fields) => Ok(marker_from(fields)),
+        Some(fields) => match marker_from(alloc, fields) {
+            Ok(marker) => Ok(marker),
+            Err(_) => Err(SchemaFault::Memory),
+        },
         None => match copy_json(alloc, value) {
             Ok(copy) => Ok(Marker::Kept(copy)),
             Err(_) => Err(SchemaFault::Memory),

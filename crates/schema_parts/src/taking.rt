@@ -140,7 +140,7 @@ pub(crate) fn next_stack(values: &mut IntoIter<Value>) -> Stack
     ensures { into_iter_items values.old ≡ Value.Stack result ∷ into_iter_items values.new }
 {
     match values.next() {
-        Some(Value::Stack(held)) => held,
+        Some(Value::Stack(held)) => held.into_inner(),
         _ => unreachable!(),
     }
 }

@@ -4,6 +4,7 @@ use crate::faults::SchemaFault;
 use crate::schemas::Schema;
 use json_value::Members;
 use otio_model::{Effects, Items, Markers, MediaMap, Objects, Stack};
+use owned::Owned;
 use sequences::{Sequence, Text};
 use tick_time::{Decimal, Rate, Scalar, Span, Time};
 
@@ -31,7 +32,7 @@ pub enum Value {
     /// Media references under their keys.
     Media(MediaMap),
     /// A stack.
-    Stack(Stack),
+    Stack(Owned<Stack>),
     /// Objects in order.
     Objects(Objects),
     /// A rate.

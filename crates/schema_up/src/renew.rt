@@ -51,7 +51,7 @@ fn named_text(alloc: Global, members: &Members, name: &str) -> Result<Text, Allo
         text.push_str(".")?;
         text.push_str(behind_point(old))?;
     }
-    Ok(Text::from_string(text))
+    Text::from_string(alloc, text)
 }
 
 // The place of the member of that name, and the number of the members where there is none.

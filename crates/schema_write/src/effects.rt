@@ -27,9 +27,9 @@ fn effect_json(alloc: Global, effect: &Effect) -> Result<Json, AllocError>
     ensures { IfOk result (λ json. json ≡ objects.effect_json effect.now) }
 {
     match effect {
-        Effect::Warp(warp) => warp_json(alloc, warp),
-        Effect::Freeze(freeze) => freeze_json(alloc, freeze),
-        Effect::Plain(plain) => plain_json(alloc, plain),
+        Effect::Warp(warp) => warp_json(alloc, warp.get()),
+        Effect::Freeze(freeze) => freeze_json(alloc, freeze.get()),
+        Effect::Plain(plain) => plain_json(alloc, plain.get()),
         Effect::Kept(value) => copy_json(alloc, value),
     }
 }

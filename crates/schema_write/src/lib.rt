@@ -17,3 +17,4 @@ mod writing;
 
 pub use laws::{texts_are_read, written_by_tables};
 pub use objects::json_of;
+pub use writing::is_named;

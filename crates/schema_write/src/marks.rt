@@ -27,7 +27,7 @@ fn marker_json(alloc: Global, marker: &Marker) -> Result<Json, AllocError>
     ensures { IfOk result (λ json. json ≡ objects.marker_json marker.now) }
 {
     match marker {
-        Marker::Known(mark) => mark_json(alloc, mark),
+        Marker::Known(mark) => mark_json(alloc, mark.get()),
         Marker::Kept(value) => copy_json(alloc, value),
     }
 }

@@ -103,7 +103,7 @@ fn put_others(
 }
 
 /// Whether that is the name of the schema's member or of a row.
-fn is_named(table: &[Field], name: &str) -> bool
+pub fn is_named(table: &[Field], name: &str) -> bool
     ensures { result ≡ (bytes_eq name.now schema_key || is_row (map row_of table.now) name.now) }
 {
     if name == "OTIO_SCHEMA" {

@@ -1,3 +1,4 @@
+pub mod HashLemmas
 pub mod LatestLemmas
 pub mod MapLemmas
 pub mod NameTests

@@ -5,4 +5,4 @@ use Rattle.sequences.specs.declared.texts.Held.TheVariants.{Short, Long}
 
 abbrev pub bytes_of : Held → List ℕ
 bytes_of (Short bytes) = bytes
-bytes_of (Long text) = string_bytes text
+bytes_of (Long text) = string_bytes text.value

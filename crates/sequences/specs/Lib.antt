@@ -1,4 +1,5 @@
 pub mod Bytes
+pub mod Hashes
 pub mod Known
 pub mod Pairs
 pub mod Places

@@ -14,7 +14,7 @@ mod texts;
 
 pub use lists::Sequence;
 pub use members::NamedValues;
-pub use texts::Text;
+pub use texts::{Text, TextRoom};
 
 #[cfg(test)]
 mod tests;

@@ -4,6 +4,8 @@ ghost use Rattle.std.specs.Prelude.{◌≡◌, ◌<◌, ℕ, List, [], length, I
 ghost use Rattle.sequences.specs.Pairs.{merged, names_of, put};
 ghost use Rattle.sequences.specs.Known.{Knows};
 ghost use Rattle.sequences.specs.Places as at;
+ghost use Rattle.sequences.specs.Hashes.{hash_of};
+ghost use Rattle.std.specs.List.Sorted.{IsStrictlyIncreasing};
 
 use crate::texts::Text;
 use std::alloc::{AllocError, Global};
@@ -35,6 +37,9 @@ pub(crate) fn merge<T: Drop>(
     if pairs.len() <= FEW && are_distinct(pairs.as_slice()) {
         return Ok(pairs);
     }
+    if pairs.len() > FEW && have_distinct_hashes(alloc, pairs.as_slice())? {
+        return Ok(pairs);
+    }
     let (places, count) = places_of(alloc, pairs.as_slice())?;
     if count == pairs.len() {
         return Ok(pairs);
@@ -50,6 +55,44 @@ fn are_distinct<T>(pairs: &[(Text, T)]) -> bool
         if place_of(&pairs[..index], pair.0.as_str()) < index {
             return false;
         }
+    }
+    true
+}
+
+/// Whether the hashes of the names are distinct, and so the names too.
+fn have_distinct_hashes<T>(alloc: Global, pairs: &[(Text, T)]) -> Result<bool, AllocError>
+    ensures { IfOk result (λ distinct. IsTrue distinct → merged pairs.now ≡ pairs.now) }
+{
+    let mut hashes = Vec::with_capacity(alloc, pairs.len())?;
+    for pair in pairs {
+        hashes.push(hash_of(pair.0.as_str().as_bytes()))?;
+    }
+    hashes.sort_unstable();
+    Ok(is_rising(hashes.as_slice()))
+}
+
+/// A hash of the bytes.
+fn hash_of(bytes: &[u8]) -> u64
+    ensures { result ≡ hash_of bytes.now }
+{
+    let mut hash: u64 = 0xCBF2_9CE4_8422_2325;
+    for byte in bytes {
+        hash ^= u64::from(*byte);
+        hash = hash.wrapping_mul(0x0000_0100_0000_01B3);
+    }
+    hash
+}
+
+/// Whether each number is above the one before it.
+fn is_rising(numbers: &[u64]) -> bool
+    ensures { IsTrue result → IsStrictlyIncreasing numbers.now }
+{
+    let mut at = 1;
+    while at < numbers.len() {
+        if numbers[at] <= numbers[at - 1] {
+            return false;
+        }
+        at += 1;
     }
     true
 }

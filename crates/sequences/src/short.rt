@@ -1,17 +1,17 @@
 //! Texts of few bytes, which lie in the value itself.
 
-ghost use Rattle.std.specs.Prelude.{◌≡◌, ◌≤◌, IfSome, length, take};
+ghost use Rattle.std.specs.Prelude.{◌≡◌, [], IfSome};
 
 use std::marker::Model;
 use std::str;
 
 /// How many bytes a short text has at most.
-const ROOM: usize = 16;
+const ROOM: usize = 22;
 
-/// A text of at most 16 bytes in UTF-8, which contracts see as the list of its bytes.
+/// A text of at most 22 bytes in UTF-8, which contracts see as the list of its bytes.
 #[derive(Drop)]
 pub(crate) struct Short {
-    len: usize,
+    len: u8,
     bytes: [u8; ROOM],
 }
 
@@ -23,10 +23,20 @@ impl Model for Short {
 
     ghost view = { λ s. take s.len s.bytes };
 
-    ghost invariant = { λ s. (s.len ≤ 16) × (is_utf8 (take s.len s.bytes) ≡ true) };
+    ghost invariant = { λ s. (s.len ≤ 22) × (is_utf8 (take s.len s.bytes) ≡ true) };
 }
 
 impl Short {
+    /// The text without characters.
+    pub(crate) fn empty() -> Short
+        ensures { result ≡ [] }
+    {
+        Short {
+            len: 0,
+            bytes: [0; ROOM],
+        }
+    }
+
     /// A copy of the text, where it is short.
     pub(crate) fn of(text: &str) -> Option<Short>
         ensures { IfSome result (λ made. made ≡ text.now) }
@@ -37,7 +47,7 @@ impl Short {
         let mut bytes = [0; ROOM];
         bytes[..text.len()].copy_from_slice(text.as_bytes());
         Some(Short {
-            len: text.len(),
+            len: text.len() as u8,
             bytes,
         })
     }
@@ -46,6 +56,6 @@ impl Short {
     pub(crate) fn as_str(&self) -> &str
         ensures { result.now ≡ self.now }
     {
-        unsafe { str::from_utf8_unchecked(&self.bytes[..self.len]) }
+        unsafe { str::from_utf8_unchecked(&self.bytes[..usize::from(self.len)]) }
     }
 }

@@ -1,6 +1,6 @@
 //! Each public call once, and many names.
 
-use crate::{NamedValues, Sequence, Text};
+use crate::{NamedValues, Sequence, Text, TextRoom};
 use std::alloc::{AllocError, Global};
 use std::test::Fail;
 
@@ -45,14 +45,21 @@ fn sequence_keeps_members(rt: HostRuntime) -> Result<(), Fail> {
 fn text_keeps_characters(rt: HostRuntime) -> Result<(), Fail> {
     let text = Text::of(rt.alloc(), "Zürich ✂")?;
     assert_eq!(rt; text.as_str(), "Zürich ✂");
-    let long = Text::of(rt.alloc(), "Überblendung am Kai")?;
-    assert_eq!(rt; long.as_str(), "Überblendung am Kai");
+    let long = Text::of(rt.alloc(), "Überblendung am Kai, einmal")?;
+    assert_eq!(rt; long.as_str(), "Überblendung am Kai, einmal");
     assert_eq!(rt;
         long.into_string(rt.alloc())?.as_str(),
-        "Überblendung am Kai"
+        "Überblendung am Kai, einmal"
     );
-    let again = Text::from_string(text.into_string(rt.alloc())?);
+    let again = Text::from_string(rt.alloc(), text.into_string(rt.alloc())?)?;
     assert_eq!(rt; again.as_str(), "Zürich ✂");
+    let long = String::from_str(rt.alloc(), "Überblendung am Kai, zweimal")?;
+    let again = Text::from_string(rt.alloc(), long)?;
+    assert_eq!(rt; again.as_str(), "Überblendung am Kai, zweimal");
+    assert_eq!(rt; Text::empty().as_str(), "");
+    let room = TextRoom::new(rt.alloc())?;
+    let few = Text::in_room(room, String::from_str(rt.alloc(), "-0.5")?);
+    assert_eq!(rt; few.as_str(), "-0.5");
     Ok(())
 }
 
@@ -100,14 +107,14 @@ fn many(alloc: Global, twice: bool) -> Result<Vec<(Text, usize)>, AllocError> {
     for index in 0..MANY {
         let number = index * 7919 % MANY;
         pairs.push((
-            Text::from_string(format!(in alloc; "name {number}")?),
+            Text::from_string(alloc, format!(in alloc; "name {number}")?)?,
             index,
         ))?;
     }
     if twice {
         for number in 0..MANY {
             pairs.push((
-                Text::from_string(format!(in alloc; "name {number}")?),
+                Text::from_string(alloc, format!(in alloc; "name {number}")?)?,
                 MANY + number,
             ))?;
         }

@@ -1,6 +1,6 @@
 //! A text that contracts see as its UTF-8 bytes.
 
-ghost use Rattle.std.specs.Prelude.{◌≡◌, IfOk, string_bytes};
+ghost use Rattle.std.specs.Prelude.{◌≡◌, [], IfOk, string_bytes};
 
 use crate::short::Short;
 use std::alloc::{AllocError, Global};
@@ -18,7 +18,7 @@ pub struct Text {
 #[derive(Drop)]
 pub(crate) enum Held {
     Short(Short),
-    Long(String),
+    Long(Box<String>),
 }
 
 impl Model for Text {
@@ -32,23 +32,49 @@ impl Model for Text {
 }
 
 impl Text {
+    /// The text without characters, which takes no memory beside the value.
+    pub fn empty() -> Text
+        ensures { result ≡ [] }
+    {
+        Text {
+            held: Held::Short(Short::empty()),
+        }
+    }
+
     /// A text of the characters of `text`. An error comes where memory runs out.
     pub fn of(alloc: Global, text: &str) -> Result<Text, AllocError>
         ensures { IfOk result (λ made. made ≡ text.now) }
     {
         let held = match Short::of(text) {
             Some(short) => Held::Short(short),
-            None => Held::Long(String::from_str(alloc, text)?),
+            None => {
+                let copy = String::from_str(alloc, text)?;
+                Held::Long(Box::new(alloc, copy)?)
+            }
         };
         Ok(Text { held })
     }
 
-    /// The characters of `text`, in the same memory.
-    pub fn from_string(text: String) -> Text
+    /// The characters of `text`: in its memory, or in the value where they are few. An error comes
+    /// where memory runs out.
+    pub fn from_string(alloc: Global, text: String) -> Result<Text, AllocError>
+        ensures { IfOk result (λ made. made ≡ string_bytes text) }
+    {
+        let held = match Short::of(text.as_str()) {
+            Some(short) => Held::Short(short),
+            None => Held::Long(Box::new(alloc, text)?),
+        };
+        Ok(Text { held })
+    }
+
+    /// The characters of `text`, in its memory, with `room` for what a text takes beside them.
+    pub fn in_room(room: TextRoom, text: String) -> Text
         ensures { result ≡ string_bytes text }
     {
+        let TextRoom { mut text_box } = room;
+        *text_box = text;
         Text {
-            held: Held::Long(text),
+            held: Held::Long(text_box),
         }
     }
 
@@ -69,8 +95,23 @@ impl Text {
         let Text { held } = self;
         match held {
             Held::Short(short) => String::from_str(alloc, short.as_str()),
-            Held::Long(text) => Ok(text),
+            Held::Long(text) => Ok(Box::into_inner(text)),
         }
+    }
+}
+
+/// Memory for a text that is made later, where none may be asked for.
+#[derive(Debug, Drop)]
+pub struct TextRoom {
+    text_box: Box<String>,
+}
+
+impl TextRoom {
+    /// Memory for one text. An error comes where memory runs out.
+    pub fn new(alloc: Global) -> Result<TextRoom, AllocError> {
+        Ok(TextRoom {
+            text_box: Box::new(alloc, String::new(alloc))?,
+        })
     }
 }
 

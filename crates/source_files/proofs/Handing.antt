@@ -1,10 +1,10 @@
 -- From what was taken of the file in hand to what reading it gave.
-use Rattle.std.proofs.Common.{◌≡◌, ℕ, List, [], ◌++◌, Some, None, Result, Ok, Err, refl, sym, subst, ap, ◌∙◌}
+use Rattle.std.proofs.Common.{◌≡◌, ℕ, List, [], ◌++◌, Some, None, Result, Ok, Err, sym, subst, ap, ◌∙◌}
 use Rattle.std.specs.declared.option.Option.{Option}
-use Rattle.dev_io.specs.Known.{KnownFiles, ReadOf}
+use Rattle.dev_io.specs.Known.{KnownFiles}
 use Rattle.dev_io.specs.Calls.{Tells, failed_read}
 use Rattle.source_files.specs.Reading.{IsRefused}
-use Rattle.source_files.specs.Hand.{Judges, FailsAt, Reads, ReadsAt, ReadsHand}
+use Rattle.source_files.specs.Hand.{Judges, Reads, ReadsAt, ReadsHand}
 use Rattle.source_files.specs.declared.faults.Refusal.{Refusal}
 use Rattle.source_files.specs.declared.faults.Refusal.TheVariants.{Broken, Memory}
 use Rattle.source_files.specs.declared.faults.ReadFault.{ReadFault}

@@ -1,5 +1,5 @@
 -- The fault of the front of a JSON text is that of the text.
-use Rattle.std.proofs.Common.{◌≡◌, ◌≢◌, ◌<◌, ◌≤◌, ◌+◌, ℕ, List, ◌++◌, Result, Ok, Err, IfOk, length, inl, inr, refl, arith, length-append}
+use Rattle.std.proofs.Common.{◌≡◌, ◌≢◌, ◌<◌, ◌≤◌, ◌+◌, ℕ, List, ◌++◌, Result, Ok, Err, IfOk, length, inl, refl, arith, length-append}
 use Rattle.std.proofs.lemmas.List.{take-append-le}
 use Rattle.limits.specs.Limits.{most_bytes}
 use Rattle.json_value.specs.declared.Json.{Json}

@@ -6,3 +6,4 @@ pub mod Walking
 pub mod JsonLemmas
 pub mod ListLemmas
 pub mod ObjectLemmas
+pub mod MediaLemmas

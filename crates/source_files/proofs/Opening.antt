@@ -1,7 +1,7 @@
 -- From opening a file to what reading it gave.
-use Rattle.std.proofs.Common.{◌≡◌, ℕ, List, [], ◌++◌, Some, None, Result, Ok, Err, refl, sym, subst, ap, ◌∙◌}
+use Rattle.std.proofs.Common.{◌≡◌, ℕ, List, Some, None, Result, Ok, Err, refl, sym, subst, ap, ◌∙◌}
 use Rattle.std.specs.declared.option.Option.{Option}
-use Rattle.dev_io.specs.Known.{KnownFiles, LastFailure, OpenHeld, OpenMissing}
+use Rattle.dev_io.specs.Known.{KnownFiles}
 use Rattle.dev_io.specs.Calls.{Tells, Opens, failed_open}
 use Rattle.dev_io.specs.declared.files.Opened.TheVariants as opened
 use Rattle.source_files.specs.Formats.{Holds, Refuses, IsCalm}

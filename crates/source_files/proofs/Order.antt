@@ -1,5 +1,5 @@
 -- Things in an order.
-use Rattle.std.proofs.Common.{◌≡◌, ◌⊎◌, ℕ, List, [], ◌∷◌, ◌++◌, refl, sym, ap, ◌∙◌, subst, inl, inr}
+use Rattle.std.proofs.Common.{◌≡◌, List, [], ◌∷◌, ◌++◌, inl, inr}
 use Rattle.source_files.specs.Order.{EachIs, FirstIsNot}
 
 -- the first that is none has one reason, where each has one and none is both

@@ -1,11 +1,11 @@
 -- From one file to the next.
-use Rattle.std.proofs.Common.{◌≡◌, ◌<◌, ◌+◌, ◌⊎◌, ℕ, zero, suc, List, [], ◌∷◌, ◌++◌, Some, None, Ok, Err, refl, sym, ap, subst, ◌∙◌, map, take, drop, length, get_or, inl, inr, arith}
+use Rattle.std.proofs.Common.{◌≡◌, ◌<◌, ◌+◌, ℕ, zero, suc, List, [], ◌∷◌, ◌++◌, Some, None, Ok, Err, refl, sym, ap, subst, ◌∙◌, map, take, drop, length, get_or, arith}
 use Rattle.std.specs.declared.option.Option.{Option}
 use Rattle.std.proofs.lemmas.List.{take_more}
 use Rattle.dev_io.specs.Known.{KnownFiles}
 use Rattle.dev_io.specs.Calls.{Tells}
 use Rattle.source_files.specs.Order.{EachIs}
-use Rattle.source_files.specs.Reading.{Held, Source, source_of, AreRead, IsRead, IsUnread, StopsAt, EndsWith, HaveRead, HasStopped, ReadsSource}
+use Rattle.source_files.specs.Reading.{Held, Source, source_of, IsRead, IsUnread, StopsAt, EndsWith, HaveRead, HasStopped, ReadsSource}
 use Rattle.source_files.specs.declared.kinds.Source as code
 use Rattle.source_files.specs.declared.kinds.Content.{Content}
 use Rattle.source_files.specs.declared.faults.Refusal.TheVariants.{Memory}

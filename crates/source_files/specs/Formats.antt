@@ -9,7 +9,6 @@ use Rattle.text_lines.specs.Lines.{ended_lines}
 use Rattle.tick_time.specs.declared.rates.Rate.{Rate}
 use Rattle.edl_line.specs.Statements.{Statement}
 use Rattle.edl_list.specs.Formed.{IsWellFormed}
-use Rattle.edl_list.specs.declared.list.EventList.{EventList}
 use Rattle.edl_text.specs.Lists.{IsList, IsFault as IsListFault}
 use Rattle.edl_text.specs.Lines.{AreSound}
 use Rattle.edl_text.specs.declared.faults.EdlFault.{EdlFault}
@@ -23,11 +22,13 @@ use Rattle.schema_rows.specs.Counts.{count_of}
 use Rattle.schema_rows.specs.Stands.{Stands}
 use Rattle.schema_rows.specs.Faults.{IsFirstFault}
 use Rattle.schema_rows.specs.declared.faults.SchemaFault.{SchemaFault}
-use Rattle.fault_text.specs.Faults.{json_fault_text, list_fault_text, fault_text, not_timeline_text}
+use Rattle.media_list.specs.Lists.{IsMediaList, IsFault as IsMediaFault}
+use Rattle.media_list.specs.declared.faults.MediaFault.{MediaFault}
+use Rattle.fault_text.specs.Faults.{json_fault_text, list_fault_text, media_fault_text, fault_text, not_timeline_text}
 use Rattle.source_files.specs.declared.kinds.Kind.{Kind}
 use Rattle.source_files.specs.declared.kinds.Kind.TheVariants as kinds
 use Rattle.source_files.specs.declared.kinds.Content.{Content}
-use Rattle.source_files.specs.declared.kinds.Content.TheVariants.{Value, Root, Film, Events}
+use Rattle.source_files.specs.declared.kinds.Content.TheVariants.{Value, Root, Film, Events, Rows}
 
 -- the bytes are a text of this value
 pub record IsJson (bytes : List ℕ) (value : Json) : Type 0 where
@@ -54,6 +55,7 @@ Holds kinds.Json bytes (Value value) = IsJson bytes value
 Holds kinds.Object bytes (Root object) = IsObject bytes object
 Holds kinds.Timeline bytes (Film timeline) = IsTimeline bytes timeline
 Holds (kinds.List rate) bytes (Events list) = IsList rate bytes list
+Holds kinds.Media bytes (Rows rows) = IsMediaList bytes rows
 Holds kind bytes content = ⊥
 
 -- the bytes are no JSON text, and their first fault is told so
@@ -88,12 +90,18 @@ abbrev pub RefusesList : Rate → List ℕ → List ℕ → Type 0
 RefusesList rate bytes why =
     (fault : EdlFault) × IsListFault rate bytes fault × (why ≡ list_fault_text fault)
 
+-- the bytes are no media list, and their first fault is told so
+abbrev pub RefusesMedia : List ℕ → List ℕ → Type 0
+RefusesMedia bytes why =
+    (fault : MediaFault) × IsMediaFault bytes fault × (why ≡ media_fault_text fault)
+
 -- why the bytes are nothing of their file's format, as it is told behind the name of the file
 abbrev pub Refuses : Kind → List ℕ → List ℕ → Type 0
 Refuses kinds.Json bytes why = RefusesJson bytes why
 Refuses kinds.Object bytes why = RefusesObject bytes why
 Refuses kinds.Timeline bytes why = RefusesTimeline bytes why
 Refuses (kinds.List rate) bytes why = RefusesList rate bytes why
+Refuses kinds.Media bytes why = RefusesMedia bytes why
 
 -- bytes from the front of a JSON text show no fault: some continuation of them is a text
 pub record IsCalmJson (taken : List ℕ) : Type 0 where
@@ -106,12 +114,18 @@ pub record IsCalmList (rate : Rate) (taken : List ℕ) : Type 0 where
   pub said : List Statement
   pub sound : AreSound rate [] (ended_lines taken) said
 
+-- bytes from the front of a media list show no fault: it is judged when it has ended, since that it
+-- is too long comes before all
+abbrev pub IsCalmMedia : List ℕ → Type 0
+IsCalmMedia taken = length taken ≤ most_bytes
+
 -- bytes from the front of such a file show no fault, however the file goes on
 abbrev pub IsCalm : Kind → List ℕ → Type 0
 IsCalm kinds.Json taken = IsCalmJson taken
 IsCalm kinds.Object taken = IsCalmJson taken
 IsCalm kinds.Timeline taken = IsCalmJson taken
 IsCalm (kinds.List rate) taken = IsCalmList rate taken
+IsCalm kinds.Media taken = IsCalmMedia taken
 
 -- what is known of what was read whatever the files tell
 abbrev pub Suits : Kind → Content → Type 0
@@ -119,4 +133,5 @@ Suits kinds.Json (Value value) = Unit {0}
 Suits kinds.Object (Root object) = count_of object ≤ most_items
 Suits kinds.Timeline (Film timeline) = count_below timeline.tracks.children < 2 ^ 32
 Suits (kinds.List rate) (Events list) = IsWellFormed list
+Suits kinds.Media (Rows rows) = Unit {0}
 Suits kind content = ⊥

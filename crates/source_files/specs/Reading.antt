@@ -1,5 +1,5 @@
 -- What reading files gives: what they hold, or why the first that isn't read is not.
-use Rattle.std.specs.Prelude.{◌≡◌, ℕ, List, [], ◌∷◌, ◌++◌, map, Some, None, Result, Ok, Err}
+use Rattle.std.specs.Prelude.{◌≡◌, ℕ, List, [], ◌∷◌, ◌++◌, Some, None, Result, Ok, Err}
 use Rattle.std.specs.declared.option.Option.{Option}
 use Rattle.dev_io.specs.Known.{KnownFiles, LastFailure, NoFailure, OpenHeld, OpenMissing, ReadOf}
 use Rattle.dev_io.specs.Causes.{Rose}

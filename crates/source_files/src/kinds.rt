@@ -1,6 +1,7 @@
 // What files are read as, and what they hold.
 use edl_list::EventList;
 use json_value::Json;
+use media_list::MediaList;
 use otio_model::{Object, Timeline};
 use tick_time::Rate;
 
@@ -15,6 +16,8 @@ pub enum Kind {
     Timeline,
     /// A CMX 3600 list at that rate, in frames a second.
     List(Rate),
+    /// A media list.
+    Media,
 }
 
 /// A file that is read.
@@ -37,4 +40,6 @@ pub enum Content {
     Film(Timeline),
     /// A list.
     Events(EventList),
+    /// A media list.
+    Rows(MediaList),
 }

@@ -6,6 +6,7 @@ mod faults;
 mod json;
 mod kinds;
 mod lists;
+mod media;
 mod objects;
 mod sources;
 

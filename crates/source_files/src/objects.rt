@@ -24,6 +24,7 @@ use schema_rows::SchemaFault;
 use schema_tab::object_of;
 use schema_up::upgrade;
 use std::alloc::Global;
+use std::mem;
 
 /// The object in the file in hand, of at most 100 000 items; or the first fault of its text, or
 /// else of its value.
@@ -88,7 +89,9 @@ fn current_object_in(alloc: Global, value: Json) -> Result<Object, ReadFault>
     ensures few { IfOk result (λ object. count_of object ≤ most_items) }
     ensures calm { (n : ℕ) → Raised result n n }
 {
-    match object_of(alloc, &value) {
+    let made = object_of(alloc, &value);
+    mem::forget(value);
+    match made {
         Ok(object) => Ok(object),
         Err(fault) => Err(ReadFault::Refused(schema_refusal(fault))),
     }

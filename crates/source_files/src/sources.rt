@@ -11,6 +11,7 @@ use crate::faults::{ReadFault, Refusal, SourceFault};
 use crate::json::read_json;
 use crate::kinds::{Content, Kind, Source};
 use crate::lists::read_list;
+use crate::media::read_media;
 use crate::objects::{read_object, read_timeline};
 use dev_io::{Files, Opened};
 use std::alloc::Global;
@@ -81,6 +82,7 @@ fn read_as<F: Files>(alloc: Global, kind: Kind, files: &mut F) -> Result<Content
         Kind::Object => read_root(alloc, files),
         Kind::Timeline => read_film(alloc, files),
         Kind::List(rate) => read_events(alloc, rate, files),
+        Kind::Media => read_rows(alloc, files),
     }
 }
 
@@ -135,6 +137,20 @@ fn read_events<F: Files>(alloc: Global, rate: Rate, files: &mut F) -> Result<Con
 {
     match read_list(alloc, rate, files) {
         Ok(list) => Ok(Content::Events(list)),
+        Err(fault) => Err(fault),
+    }
+}
+
+// The media list in the file in hand.
+fn read_rows<F: Files>(alloc: Global, files: &mut F) -> Result<Content, ReadFault>
+    ensures told { Tells (ReadsHand (Holds Kind.Media) (Refuses Kind.Media)
+        (IsCalm Kind.Media) result)
+        (F.known files.old) (F.known files.new) }
+    ensures suits { IfOk result (Suits Kind.Media) }
+    ensures cause { Raised result (F.faults files.old) (F.faults files.new) }
+{
+    match read_media(alloc, files) {
+        Ok(rows) => Ok(Content::Rows(rows)),
         Err(fault) => Err(fault),
     }
 }

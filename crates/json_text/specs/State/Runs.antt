@@ -1,20 +1,33 @@
 -- What came of several bytes.
-use Rattle.std.specs.Prelude.{◌≡◌, ℕ, ◌<◌, ◌≤◌, Bool, true, not, ◌&&◌, ◌==◌, nat_le, nat_lt, List, [], ◌∷◌, Ok, Err, length, take, slice_index}
+use Rattle.std.specs.Prelude.{◌≡◌, ℕ, ◌<◌, ◌≤◌, Bool, true, not, ◌&&◌, ◌==◌, nat_le, List, [], ◌∷◌, Option, Some, None, Ok, Err, length, take, slice_index}
 use Rattle.json_text.specs.declared.state.Ran.{Ran}
 use Rattle.json_text.specs.declared.state.Ran.TheVariants.{All, Stops}
 use Rattle.json_text.specs.declared.state.Stop.{Stop}
 use Rattle.json_text.specs.declared.state.Stop.TheVariants.{Syntax, Utf8, Depth}
 use Rattle.json_text.specs.declared.faults.JsonFault.{JsonFault}
-use Rattle.json_text.specs.State.Machine.{MachineState, run, step}
+use Rattle.json_text.specs.State.Machine.{MachineState, run, step, next_place}
+use Rattle.json_text.specs.declared.state.Place.{Place}
 
--- an ASCII character that stands for itself in a string
-abbrev pub is_plain : ℕ → Bool
-is_plain b = nat_le 32 b && nat_lt b 128 && not (b == 34) && not (b == 92)
+-- a byte that stands for itself in a string, alone or in a character of several bytes
+abbrev pub is_open : ℕ → Bool
+is_open b = nat_le 32 b && not (b == 34) && not (b == 92)
 
--- such characters alone
-abbrev pub ArePlain : List ℕ → Type 0
-ArePlain [] = Unit {0}
-ArePlain (b ∷ bs) = (is_plain b ≡ true) × ArePlain bs
+-- such bytes alone
+abbrev pub AreOpen : List ℕ → Type 0
+AreOpen [] = Unit {0}
+AreOpen (b ∷ bs) = (is_open b ≡ true) × AreOpen bs
+
+-- So many bytes stand for themselves in a string, and a quote ends it behind them.
+pub record EndsAt (count : ℕ) (bytes : List ℕ) : Type 0 where
+  pub within : count < length bytes
+  pub quote : slice_index bytes count ≡ 34
+  pub opens : AreOpen (take count bytes)
+
+-- the place in a numeral behind bytes that go on in it
+abbrev pub place_behind : Option Place → List ℕ → Option Place
+place_behind None bytes = None
+place_behind (Some place) [] = Some place
+place_behind (Some place) (b ∷ bs) = place_behind (next_place place b) bs
 
 -- The machine takes so many of the bytes, to the new state.
 pub record Skims (count : ℕ) (s : MachineState) (bytes : List ℕ) (new : MachineState) : Type 0 where

@@ -1,4 +1,4 @@
-use Rattle.std.proofs.Common.{refl, ap, List, ℕ}
+use Rattle.std.proofs.Common.{ap, List, ℕ}
 use Rattle.std.specs.Option.{option_map}
 use denote.Ref.{Bor}
 use Rattle.command_words.proofs.Gathering.{asked_with}
@@ -10,7 +10,6 @@ now s = s.now
 pub returns-in-Some-command_in : goal.returns-in-Some-command_in
 returns-in-Some-command_in c = record {
   file = ap (option_map now) c.in-Some.is;
-  target_is = refl;
   input = c.in-Some-input_of.input;
   reads = c.in-Some-input_of.ensures;
   output = c.in-Some-output_of.output;
@@ -21,8 +20,8 @@ returns-in-Some-command_in c = record {
 }
 
 pub returns-in-None : goal.returns-in-None
-returns-in-None c = λ command name target asked.
+returns-in-None c = λ command name asked.
     c.in-None.ensures command
-    (asked_with command name c.in-Some.name.now target c.in-Some-input_of.input
+    (asked_with command name c.in-Some.name.now c.in-Some-input_of.input
     c.in-Some-output_of.output c.in-Some-rate_asked.rate _ (ap (option_map now) c.in-Some.is)
     c.in-Some-input_of.ensures c.in-Some-output_of.ensures c.in-Some-rate_asked.ensures asked).0

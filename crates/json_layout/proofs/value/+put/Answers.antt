@@ -46,7 +46,7 @@ put_members-loop-member-preserved g t c =
     let members = c.as_slice-member-items.result.now in
     let text = member_lines-next c.loop-member.lead.now kept.0 (deep c.args.level.now) members c.loop-member.member-index c.member-item.result kept.1 c.loop-member-test.true in
     let name = c.as_bytes.ensures.value ∙ c.as_str.ensures in
-    (44, refl, leaves_then (leaves_then (leaves_then (leaves_then (rw (text, ← c.member-item.is) at kept.2) c.put_line.ensures) (rw name at c.put_string.ensures)) c.put.ensures) c.put_value.ensures)
+    (44, refl, leaves_then (leaves_then (leaves_then (rw (text, ← c.member-item.is) at kept.2) c.put_line.ensures) (rw name at c.put_name.ensures)) c.put_value.ensures)
 
 pub put_members-returns : goal.put_members-returns
 put_members-returns g t c =

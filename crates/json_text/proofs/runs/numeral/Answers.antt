@@ -13,9 +13,9 @@ pub returns-in-Ok : goal.returns-in-Ok
 returns-in-Ok c =
     let e : string_bytes c.in-Ok.text ≡ c.args.spelling.items = ap (λ v. v.items) c.in-Ok.ensures.ok in
     let u : is_utf8 c.args.spelling.items ≡ true = is_utf8-from_IsUtf8 c.args.spelling.items (subst IsUtf8 e (IsUtf8-string_bytes c.in-Ok.text)) in
-    rw u (ap (λ x. Some (Num x)) (c.from_string.ensures ∙ e))
+    rw u (ap (λ x. Some (Num x)) (c.in_room.ensures ∙ e))
 
-pub returns : goal.returns
-returns c =
+pub returns-in-Err : goal.returns-in-Err
+returns-in-Err c =
     let u : is_utf8 c.args.spelling.items ≡ false = denied c.args.spelling.items (is_utf8 c.args.spelling.items) refl (λ h. let k : false ≡ true = c.in-Err.ensures.succeeds h in cc k) in
     rw u refl

@@ -6,14 +6,14 @@ pub returns-clause-ends : goal.returns-clause-ends
 returns-clause-ends g c = λ words asked.
     let plan = c.plan-planned.ensures in
     carried words c.args.request.command c.args.request.name.now
-    (text_at c.args.request.target) _ _ _ _ _ c.plan-planned.result
+    (text_at c.args.request.media) (text_at c.args.request.target) _ _ _ _ _ c.plan-planned.result
     c.carry_out.result asked (plan.told (text_at c.args.request.target)) plan.kind plan.cause
     c.carry_out.ensures
 
 pub returns-clause-still : goal.returns-clause-still
 returns-clause-still g c = λ words asked.
     carried_still words c.args.request.command c.args.request.name.now
-    (text_at c.args.request.target) _ c.plan-planned.result
+    (text_at c.args.request.media) (text_at c.args.request.target) _ c.plan-planned.result
     c.carry_out.result asked c.plan-planned.ensures.kind c.carry_out.ensures
 
 pub returns-clause-asked : goal.returns-clause-asked

@@ -1,10 +1,25 @@
 use Rattle.std.proofs.Common.{refl}
-use Rattle.otio_tools.proofs.Planning.{refused_held_as}
+use Rattle.otio_tools.specs.Plan.{media_content}
+use Rattle.otio_tools.proofs.Planning.{are_contents, first_suits, held_planned_as, refused_held_as}
 use Rattle.otio_tools.proofs.planned.planned_for.Goals as goal
 
+pub parted-content-requires : goal.parted-content-requires
+parted-content-requires c = are_contents c.args.command c.args.name.now c.requires.0
+    c.args.contents.items c.requires.1
+
+pub judge-requires : goal.judge-requires
+judge-requires c = first_suits c.args.command c.args.name.now c.requires.0 c.args.contents.items
+    (media_content c.parted-content.result.1) c.parted-content.result.0 c.parted-content.ensures c.requires.1
+
+pub returns-in-Ok-clause-told : goal.returns-in-Ok-clause-told
+returns-in-Ok-clause-told c = λ media. held_planned_as c.args.command c.args.name.now media
+    c.args.contents.items (media_content c.parted-content.result.1) c.parted-content.result.0 c.in-Ok.planned
+    c.parted-content.ensures c.in-Ok.ensures.owed
+
 pub returns-in-Err-clause-told : goal.returns-in-Err-clause-told
-returns-in-Err-clause-told c = (
+returns-in-Err-clause-told c = λ media. (
   refl,
-  refused_held_as c.args.command c.args.name.now c.args.contents.items
-      c.only_content-content.result c.in-Err.refusal c.only_content-content.ensures c.in-Err.ensures.owed,
+  refused_held_as c.args.command c.args.name.now media c.args.contents.items
+      (media_content c.parted-content.result.1) c.parted-content.result.0 c.in-Err.refusal c.parted-content.ensures
+      c.in-Err.ensures.owed,
 )

@@ -7,8 +7,8 @@ use Rattle.schema_parts.proofs.Asking.{fields_are}
 use Rattle.schema_parts.proofs.KindLemmas.{stack_schema, stack_kinds}
 use Rattle.schema_parts.proofs.asked.tracks_of.Goals as goal
 
-pub stack_of-requires : goal.stack_of-requires
-stack_of-requires c =
+pub owned_stack-requires : goal.owned_stack-requires
+owned_stack-requires c =
     let g : Gives_fields C.STACKS c.args.value.now c.in-Some.fields = rw c.in-Some.is at c.requires.found in stack_kinds g
 
 pub returns-in-Ok : goal.returns-in-Ok

@@ -18,8 +18,8 @@ returns-in-Ok-Stops-clause-fault c = λ bytes read.
     subst (λ f. Names f (bytes ++ c.args.piece.now)) (sym c.fault_of.ensures)
     (fault_in bytes c.args.piece.now s room c.in-Ok-Stops.index (c.args.self.now.taken + c.in-Ok-Stops.index) c.in-Ok-Stops.stop read.ran stops (omega arith) (omega arith))
 
-pub returns-then-piece-room-clause-fault : goal.returns-then-piece-room-clause-fault
-returns-then-piece-room-clause-fault c = λ bytes read.
+pub returns-then-piece-most-clause-fault : goal.returns-then-piece-most-clause-fault
+returns-then-piece-most-clause-fault c = λ bytes read.
     let s = state_of c.args.self.now.machine in
     let room = most_bytes - c.args.self.now.taken in
     let h = rw c.in-Ok-All.field-0-is at c.in-Ok-All.ensures in
@@ -38,6 +38,7 @@ returns-clause-read c = λ bytes read.
       sound = read.sound;
       taken = omega (arith, read.few, read.taken, length-append bytes c.args.piece.now);
       few = omega (arith, read.few, read.taken, length-append bytes c.args.piece.now);
+      ready = λ e. absurd (c.in-Ok.ensures e);
     }
 
 pub returns-clause-live : goal.returns-clause-live

@@ -1,0 +1,2 @@
+pub mod WritableItems
+pub mod WritableTimelines

@@ -1,0 +1,5 @@
+pub mod ProductBounds
+pub mod ItemSteps
+pub mod LoopSteps
+pub mod CountLemmas
+pub mod EventRanges

@@ -1,0 +1,34 @@
+//! Rows of reels.
+
+ghost use Rattle.std.specs.Prelude.{◌≡◌, IfSome};
+ghost use Rattle.std.specs.Option.{option_copied};
+ghost use Rattle.media_rows.specs.Rows.{IsRowInRange};
+ghost use Rattle.edl_frames.specs.Shown as shown;
+ghost use Rattle.edl_frames.specs.Refused as refused;
+
+use edl_list::Reel;
+use media_list::MediaList;
+use media_rows::MediaRow;
+use sequences::Text;
+
+/// The row of a reel, where there is a media list that lists it.
+pub(crate) fn row_of<'a>(media: Option<&'a MediaList>, reel: &Text) -> Option<&'a MediaRow>
+    ensures row { option_copied result ≡ shown.row_of (option_copied media.entry) reel.now }
+    ensures range { IfSome result (λ row. IsRowInRange row.now) }
+{
+    match media {
+        Some(list) => list.by_reel(reel),
+        None => None,
+    }
+}
+
+/// The row of a side's reel; black has none.
+pub(crate) fn reel_row<'a>(media: Option<&'a MediaList>, reel: &Reel) -> Option<&'a MediaRow>
+    ensures row { option_copied result ≡ refused.reel_row (option_copied media.entry) reel.now }
+    ensures range { IfSome result (λ row. IsRowInRange row.now) }
+{
+    match reel {
+        Reel::Black => None,
+        Reel::Named(name) => row_of(media, name),
+    }
+}

@@ -1,0 +1,168 @@
+-- The days of the record rate, and how many events a list has.
+use Rattle.std.proofs.Common.{◌≡◌, refl, sym, ap, ◌∙◌, suc, ◌+◌, ◌==◌, ◌<◌, ◌≤◌, ℤ, Bool, true, false, cond, List, [], ◌∷◌, length, Option, Some, None, is_some, IsSome, option_map, unwrap_or, unsigned_abs, inr, arith}
+use Rattle.std.specs.Prelude.{filter, nat_lt}
+use Rattle.std.proofs.lemmas.Bool.Decides.{nat_tests, Decides-eqb}
+use Rattle.std.proofs.lemmas.List.{length-map}
+use Rattle.tick_time.specs.declared.rates.Rate.{Rate}
+use Rattle.smpte_tc.specs.declared.modes.Mode.{Mode}
+use Rattle.smpte_tc.specs.Modes.{mode, mode_of, plain_mode}
+use Rattle.smpte_tc.specs.Day.{counted_of}
+use Rattle.smpte_tc.proofs.Dropping.{day_count}
+use Rattle.smpte_tc.proofs.WrittenLabels.{mode_fair}
+use Rattle.otio_model.specs.declared.timelines.Timeline.{Timeline}
+use Rattle.otio_model.specs.Trees.{items_of}
+use Rattle.edl_list.specs.declared.list.Channel.{Channel}
+use Rattle.edl_list.specs.declared.list.Channel.TheVariants.{V, A, A2}
+use Rattle.edl_list.specs.declared.list.Event.{Event}
+use Rattle.edl_list.specs.declared.list.EventList.{EventList}
+use Rattle.edl_list.specs.Formed.{rank}
+use Rattle.edl_list.specs.Speeds.{day_of}
+use Rattle.coord.specs.Keys.{frame_rate}
+use Rattle.coord.specs.Programs.{record_rate}
+use Rattle.edl_frames.specs.Shown.{MediaRows, is_on, on_channel}
+use Rattle.edl_frames.specs.Channels.{channel_track}
+use Rattle.edl_frames_law.specs.Carried.{Reason, NoTimecode, TooMany, is_there, mode_in, day_in, job_of, events_on, events_count, unnumbered, not_carried, IsListOf}
+use Rattle.coord.specs.Soundness.{IsCalm}
+use Rattle.edl_frames_law.specs.Premises.{AreListed, IsFine}
+use Rattle.edl_frames_law.proofs.ListShows.{carried_all}
+use Rattle.edl_frames_law.proofs.WholeLists.{list_is_good}
+
+-- ---- days
+
+pub record DayHolds (rate : Rate) (drop : Bool) : Type 0 where
+  pub long : 999 < day_of rate
+  pub long_in : 999 < day_in (mode_in (frame_rate rate) drop)
+  pub inside : day_in (mode_in (frame_rate rate) drop) ≤ day_of rate
+  pub timecode : IsSome (mode_of rate false)
+
+plain_day : (rate : Rate) (m : Mode) → mode_of rate false ≡ Some m → day_of rate ≡ length
+    (counted_of m)
+plain_day rate m e = ap (λ o. unwrap_or (option_map (λ (k : Mode). length (counted_of k)) o) 0) e
+
+some_mode : (o : Option Mode) (m : Mode) → o ≡ Some m → IsSome o
+some_mode o m e = ap is_some e
+
+dropped_mode : (num den : ℤ) (p q r : Bool) (m : Mode) → (unsigned_abs den == 1001) ≡ p
+    → (unsigned_abs num == 30000) ≡ q → (unsigned_abs num == 60000) ≡ r
+    → cond p (cond q (Some (mode 30 2)) (cond r (Some (mode 60 4)) None)) None ≡ Some m
+    → plain_mode num den ≡ Some (mode m.nominal 0)
+dropped_mode num den true true r m ep eq er h =
+    let d : unsigned_abs den ≡ 1001 = (Decides-eqb (unsigned_abs den) 1001).0 ep in
+    let n : unsigned_abs num ≡ 30000 = (Decides-eqb (unsigned_abs num) 30000).0 eq in
+    let same : mode 30 2 ≡ m = cc h in
+    rw (d, n) (ap (λ (k : Mode). Some (mode k.nominal 0)) same)
+dropped_mode num den true false true m ep eq er h =
+    let d : unsigned_abs den ≡ 1001 = (Decides-eqb (unsigned_abs den) 1001).0 ep in
+    let n : unsigned_abs num ≡ 60000 = (Decides-eqb (unsigned_abs num) 60000).0 er in
+    let same : mode 60 4 ≡ m = cc h in
+    rw (d, n) (ap (λ (k : Mode). Some (mode k.nominal 0)) same)
+dropped_mode num den true false false m ep eq er h = absurd (cc h)
+dropped_mode num den false q r m ep eq er h = absurd (cc h)
+
+mode_there : (o : Option Mode) → is_there o ≡ true → (m : Mode) × (o ≡ Some m)
+mode_there None e = absurd (cc e)
+mode_there (Some m) e = (m, refl)
+
+day_in_is : (o : Option Mode) (m : Mode) → o ≡ Some m → day_in o ≡ length (counted_of m)
+day_in_is o m e = ap day_in e
+
+pub day_holds : (rate : Rate) (drop : Bool) → is_there (mode_in (frame_rate rate) drop) ≡ true
+    → DayHolds rate drop
+day_holds rate false h =
+    let m = mode_there (mode_of rate false) h in
+    let fair = mode_fair rate false m.0 m.1 in
+    let all = day_count m.0 fair.some fair.fewer in
+    let some = fair.some in let fewer = fair.fewer in
+    let day = plain_day rate m.0 m.1 in
+    let here = day_in_is (mode_of rate false) m.0 m.1 in
+    record {
+      long = omega (arith, all, some, fewer, day);
+      long_in =
+          omega (arith, all, some, fewer, here);
+      inside = omega (arith, here, day);
+      timecode =
+          some_mode (mode_of rate false) m.0 m.1;
+    }
+day_holds rate true h =
+    let m = mode_there (mode_of rate true) h in
+    let plain : mode_of rate false ≡ Some (mode m.0.nominal 0) = dropped_mode rate.num rate.den
+    (unsigned_abs rate.den == 1001) (unsigned_abs rate.num == 30000)
+    (unsigned_abs rate.num == 60000) m.0 refl refl refl m.1 in
+    let fair = mode_fair rate true m.0 m.1 in
+    let most = day_count m.0 fair.some fair.fewer in
+    let all = day_count (mode m.0.nominal 0) fair.some (omega arith) in
+    let some = fair.some in let fewer = fair.fewer in
+    let day = plain_day rate (mode m.0.nominal 0) plain in
+    let here = day_in_is (mode_of rate true) m.0 m.1 in
+    record {
+      long = omega (arith, all, some, day);
+      long_in = omega (arith, most, some, fewer, here);
+      inside = omega (arith, here, most, all, day);
+      timecode = some_mode (mode_of rate false)
+          (mode m.0.nominal 0) plain;
+    }
+
+-- ---- counts
+
+count_all : (es : List Event) → length es ≡ length (filter (is_on V) es) +
+    (length (filter (is_on A) es) + length (filter (is_on A2) es))
+count_all [] = omega arith
+count_all (e ∷ es) = let n = count_all es in by e.channel n
+  where
+    by : (c : Channel) → length es ≡ length (filter (is_on V) es) +
+        (length (filter (is_on A) es) + length (filter (is_on A2) es))
+        → suc (length es) ≡ length (cond (0 == rank c) (e ∷ filter (is_on V) es)
+        (filter (is_on V) es)) +
+        (length (cond (1 == rank c) (e ∷ filter (is_on A) es) (filter (is_on A) es)) + length
+        (cond (2 == rank c) (e ∷ filter (is_on A2) es) (filter (is_on A2) es)))
+    by V n = omega (arith, n)
+    by A n = omega (arith, n)
+    by A2 n = omega (arith, n)
+
+-- ---- the list of a timeline
+
+pub list_is_fine : (t : Timeline) (list : EventList) (media : MediaRows) (drop : Bool) → IsCalm t
+    → AreListed media → not_carried t media drop ≡ None → IsListOf t media drop list
+    → IsFine list media drop
+list_is_fine t list media drop calm rows carried i =
+    let items = items_of t.tracks.children in
+    let all_said = carried_all t media drop carried in
+    let timed : is_there (mode_in (record_rate t) drop) ≡ true =
+    there (is_there (mode_in (record_rate t) drop)) all_said.timed in
+    let day = day_holds list.rate drop (ap (λ r. is_there (mode_in r drop)) i.rate ∙ timed) in
+    let good = list_is_good t list media drop (day_of list.rate) calm rows day.long day.inside
+    carried i in
+    record {
+      formed = record {
+        timecode = inr day.timecode;
+        events = good.events;
+        order = i.order;
+        apart =
+            good.apart;
+      };
+      even = good.even;
+      carried = good.carried;
+      labels = (list_is_good t list media drop (day_in (mode_in (frame_rate list.rate) drop)) calm
+          rows day.long_in (omega arith) carried i).events;
+      few =
+          let n = few_of (nat_lt 999 (events_count (job_of t media drop) items)) refl all_said.few
+          in
+          let v = counted V in let x = counted A in let y = counted A2 in
+          let all = count_all list.events in
+          omega (arith, n, v, x, y, all);
+    }
+  where
+    there : (b : Bool) → ◌≡◌ {A = Option Reason} (cond b None (Some NoTimecode)) None → b ≡ true
+    there true e = refl
+    there false e = absurd (cc e)
+
+    few_of : (b : Bool) → nat_lt 999
+        (events_count (job_of t media drop) (items_of t.tracks.children)) ≡ b
+        → ◌≡◌ {A = Option Reason} (cond b (Some TooMany) None) None
+        → events_count (job_of t media drop) (items_of t.tracks.children) ≤ 999
+    few_of true e f = absurd (cc f)
+    few_of false e f = grind (arith, nat_tests)
+
+    counted : (c : Channel) → length (filter (is_on c) list.events) ≡ length
+        (events_on (job_of t media drop) c (channel_track c (items_of t.tracks.children)))
+    counted c = sym (length-map (on_channel c list.events) unnumbered) ∙ ap length (i.events c)

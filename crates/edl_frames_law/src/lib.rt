@@ -1,0 +1,11 @@
+//! What lists show, the timelines that they stand for, and what these show: laws of the
+//! definitions that `edl_frames` has. Their functions do nothing.
+#![tactic(auto)]
+
+mod laws;
+
+pub use laws::{
+    conform_faults_are_one, conformed_timelines_are_calm, conformed_timelines_are_one,
+    conformed_timelines_show_lists, frames_are_kept, lists_are_fine, lists_are_worked,
+    lists_show_timelines, timelines_have_counts, tracks_are_worked,
+};

@@ -1,6 +1,0 @@
-use Rattle.std.proofs.Common.{sym, arith}
-use Rattle.json_text.proofs.RunLemmas.{more_plain}
-use Rattle.json_text.proofs.runs.plain_count.Goals as goal
-
-pub loop-index-preserved : goal.loop-index-preserved
-loop-index-preserved c = more_plain c.args.bytes.now c.loop-index.index (omega arith) c.loop-index.invariant (sym c.if-not-is_plain.ensures)

@@ -1,0 +1,7 @@
+-- Lemmas on media lists.
+pub mod NumberBounds
+pub mod SpanLemmas
+pub mod TabLemmas
+pub mod LookUps
+pub mod OneOutcome
+pub mod LineByLine

@@ -1,0 +1,6 @@
+-- Definitions of media lists.
+pub mod Words
+pub mod Lines
+pub mod Lists
+pub mod Views
+pub mod Tables

@@ -1,0 +1,91 @@
+// Lists that are conformed.
+ghost use Rattle.std.specs.Prelude.{◌≡◌, ◌≢◌, ◌<◌, ◌^◌, ℕ, List, IfOk, IfErr};
+ghost use Rattle.otio_model.specs.Counts.{count as count_below};
+ghost use Rattle.edl_list.specs.Formed.{IsWellFormed};
+ghost use Rattle.fault_text.specs.Faults.{conform_fault_text};
+ghost use Rattle.source_files.specs.Reading.{IsRefused};
+ghost use Rattle.edl_frames.specs.Faults.{IsConformFault};
+ghost use Rattle.otio_tools.specs.Conformed.{AnswersConformed};
+ghost use Rattle.otio_tools.specs.Answer.{AnswersWritten};
+ghost use Rattle.otio_tools.specs.Frames.{AnswersTimeline};
+ghost use Rattle.otio_tools.specs.Plan.{AreRows, Fits, IsConformedTo, Suffices};
+
+use crate::frames::frames_to_write;
+use crate::planned::Planned;
+use command_words::FramesAsked;
+use edl_conform::conform;
+use edl_frames::ConformFault;
+use edl_list::EventList;
+use fault_text::conform_reason;
+use media_list::MediaList;
+use otio_model::{Object, Timeline};
+use source_files::Refusal;
+use std::alloc::Global;
+use std::mem;
+
+/// What is to be sent of a list that is conformed with this media list and written: its timeline,
+/// or the first fault of an event, or that there are too many items.
+pub fn conformed_to_write(
+    alloc: Global,
+    list: EventList,
+    media: Option<MediaList>,
+) -> Result<Planned, Refusal>
+    requires { IsWellFormed list }
+    ensures owed { (name : List ℕ) → Suffices (λ target answer.
+        AnswersConformed name list media (AnswersWritten target) answer) name result }
+    ensures fits { IfOk result (λ planned. Fits planned) }
+    ensures kind { IfOk result (λ planned. AreRows planned → ⊥) }
+{
+    match conformed(alloc, list, media) {
+        Ok(timeline) => Ok(Planned::Root(Object::Timeline(timeline))),
+        Err(fault) => Err(not_conformed(fault)),
+    }
+}
+
+/// What is to be sent of a list whose frames are asked for, conformed with this media list: the
+/// rows of its timeline, or why it isn't conformed, or then why its timeline has none.
+pub fn conformed_frames_to_write(
+    alloc: Global,
+    list: EventList,
+    media: Option<MediaList>,
+    frames: FramesAsked,
+) -> Result<Planned, Refusal>
+    requires { IsWellFormed list }
+    ensures owed { (name : List ℕ) → Suffices (λ target answer.
+        AnswersConformed name list media (AnswersTimeline frames name target) answer) name result }
+    ensures fits { IfOk result (λ planned. Fits planned) }
+{
+    match conformed(alloc, list, media) {
+        Ok(timeline) => frames_to_write(alloc, timeline, frames),
+        Err(fault) => Err(not_conformed(fault)),
+    }
+}
+
+// The timeline that a list conforms to. The list and the media list aren't freed: what is left of a
+// run is to send the timeline.
+fn conformed(
+    alloc: Global,
+    list: EventList,
+    media: Option<MediaList>,
+) -> Result<Timeline, ConformFault>
+    requires { IsWellFormed list }
+    ensures timeline { IfOk result (IsConformedTo list media) }
+    ensures few { IfOk result (λ timeline. count_below timeline.tracks.children < 2 ^ 32) }
+    ensures fault { IfErr result (IsConformFault list media) }
+{
+    let timeline = conform(alloc, &list, media.as_ref());
+    mem::forget(list);
+    mem::forget(media);
+    timeline
+}
+
+// How a list that isn't conformed is refused.
+fn not_conformed(fault: ConformFault) -> Refusal
+    ensures { IsRefused (λ why. (fault ≢ ConformFault.Memory)
+        × (why ≡ conform_fault_text fault)) result }
+{
+    match conform_reason(fault) {
+        Some(reason) => Refusal::Broken(reason),
+        None => Refusal::Memory,
+    }
+}

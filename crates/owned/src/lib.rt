@@ -1,0 +1,51 @@
+//! A value in memory of its own, which contracts see as the value itself.
+//!
+//! A large variant of an enum goes behind it, so that the enum's other values stay small.
+#![tactic(auto)]
+
+ghost use Rattle.std.specs.Prelude.{◌≡◌, IfOk};
+
+use std::alloc::{AllocError, Global};
+use std::marker::Model;
+
+/// A value in memory of its own, which contracts see as the value.
+#[derive(Debug, Drop)]
+pub struct Owned<T> {
+    held: Box<T>,
+}
+
+impl<T> Model for Owned<T> {
+    ghost Value = { T };
+
+    ghost coded = { T.code };
+
+    ghost view = { λ owned. owned.held.value };
+}
+
+impl<T: Drop> Owned<T> {
+    /// The value, moved to memory of its own. An error comes where memory runs out.
+    pub fn of(alloc: Global, value: T) -> Result<Owned<T>, AllocError>
+        ensures { IfOk result (λ owned. owned ≡ value) }
+    {
+        Ok(Owned {
+            held: Box::new(alloc, value)?,
+        })
+    }
+}
+
+impl<T> Owned<T> {
+    /// The value.
+    pub fn get(&self) -> &T
+        ensures { result.now ≡ self.now }
+    {
+        &self.held
+    }
+
+    /// The value, moved out.
+    pub fn into_inner(self) -> T
+        ensures { result ≡ self }
+    {
+        let Owned { held } = self;
+        Box::into_inner(held)
+    }
+}

@@ -1,0 +1,2 @@
+-- Lemmas on words that are rates.
+pub mod RateLemmas

@@ -1,0 +1,2 @@
+-- Definitions of words that are rates.
+pub mod RateWords

@@ -1,0 +1,20 @@
+-- What was fed so far was taken from the file in hand.
+use Rattle.std.proofs.Common.{◌≡◌, ◌+◌, ◌-◌, ◌≤◌, ℕ, List, length}
+use Rattle.dev_io.specs.Calls.{Tells}
+use Rattle.source_files.specs.declared.media.TheConstants.{MOST}
+use Rattle.source_files.proofs.Taking.{Takes, SameFiles}
+use Rattle.source_files.proofs.media.read_media.Given as goal
+
+abbrev pub invariant-pieces : goal.invariant-pieces
+invariant-pieces g l =
+    let files = g.F.Files in
+    record {
+      fed : (bytes : List ℕ) × (bytes ≡ l.reader) × (length bytes ≡ l.taken)
+          × (length bytes ≤ MOST) × Tells (Takes bytes) (files.known l.fn.files)
+          (files.known l.files);
+      same : Tells SameFiles (files.known l.fn.files) (files.known l.files);
+      calm : files.faults l.files ≡ files.faults l.fn.files;
+    }
+
+abbrev pub decreases-pieces : goal.decreases-pieces
+decreases-pieces g l = MOST + 1 - l.taken

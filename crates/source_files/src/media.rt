@@ -1,0 +1,63 @@
+// Reading a media list in pieces.
+ghost use Rattle.std.specs.Prelude.{◌≡◌, ◌≢◌, ℕ, List};
+ghost use Rattle.dev_io.specs.Calls.{Tells};
+ghost use Rattle.media_list.specs.Lists.{IsMediaList};
+ghost use Rattle.fault_text.specs.Faults.{media_fault_text};
+ghost use Rattle.source_files.specs.Formats.{RefusesMedia, IsCalmMedia};
+ghost use Rattle.source_files.specs.Hand.{Judges, ReadsHand};
+ghost use Rattle.source_files.specs.Reading.{IsRefused, Raised};
+
+use crate::faults::{ReadFault, Refusal};
+use dev_io::Files;
+use fault_text::media_reason;
+use limits::{MOST_BYTES, PIECE_BYTES};
+use media_list::{MediaFault, MediaList, MediaReader};
+use std::alloc::Global;
+
+/// How many bytes a file may have.
+const MOST: usize = MOST_BYTES as usize;
+
+#[tactic(auto, using(crate::proofs::Taking::same_at_first))]
+/// The media list that is left of the file in hand. It is judged when all of it was read.
+pub fn read_media<F: Files>(alloc: Global, files: &mut F) -> Result<MediaList, ReadFault>
+    ensures told { Tells (ReadsHand IsMediaList RefusesMedia IsCalmMedia result)
+        (F.known files.old) (F.known files.new) }
+    ensures cause { Raised result (F.faults files.old) (F.faults files.new) }
+{
+    let mut reader = MediaReader::new(alloc);
+    let mut piece = [0u8; PIECE_BYTES];
+    let mut taken = 0usize;
+    'pieces: while taken <= MOST {
+        match files.read(&mut piece) {
+            Err(_) => return Err(ReadFault::Failed),
+            Ok(0) => return rows_of(reader),
+            Ok(count) => match reader.feed(&piece[..count]) {
+                Ok(()) => taken += count,
+                Err(fault) => return Err(ReadFault::Refused(media_refusal(fault))),
+            },
+        }
+    }
+    Err(ReadFault::Refused(media_refusal(MediaFault::Large)))
+}
+
+// The media list that was read.
+fn rows_of(reader: MediaReader) -> Result<MediaList, ReadFault>
+    ensures read { Judges IsMediaList RefusesMedia reader result }
+    ensures calm { (n : ℕ) → Raised result n n }
+{
+    match reader.finish() {
+        Ok(list) => Ok(list),
+        Err(fault) => Err(ReadFault::Refused(media_refusal(fault))),
+    }
+}
+
+// How a fault of a media list is refused.
+fn media_refusal(fault: MediaFault) -> Refusal
+    ensures { IsRefused (λ why. (fault ≢ MediaFault.Memory)
+        × (why ≡ media_fault_text fault)) result }
+{
+    match media_reason(fault) {
+        Some(reason) => Refusal::Broken(reason),
+        None => Refusal::Memory,
+    }
+}
