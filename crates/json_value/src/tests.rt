@@ -53,6 +53,6 @@ fn copies_deep_values(rt: HostRuntime) -> Result<(), Fail> {
 
 #[test]
 fn values_are_small(rt: HostRuntime) {
-    assert_eq!(rt; std::mem::size_of::<Json>(), 40);
-    assert_eq!(rt; std::mem::size_of::<(Text, Json)>(), 72);
+    assert_eq!(rt; std::mem::size_of::<Json>(), 32);
+    assert_eq!(rt; std::mem::size_of::<(Text, Json)>(), 56);
 }
