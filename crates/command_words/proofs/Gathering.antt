@@ -11,7 +11,7 @@ use Rattle.command_words.specs.declared.conversions.Form.{Form}
 use Rattle.command_words.specs.declared.conversions.Form.TheVariants as form
 use Rattle.command_words.specs.declared.lines.Line.{Line}
 use Rattle.command_words.specs.declared.requests.Command.{Command}
-use Rattle.command_words.specs.declared.requests.Command.TheVariants.{ListToList, ListToObjects, ToObjects, ToJson, Frames, ListFrames}
+use Rattle.command_words.specs.declared.requests.Command.TheVariants.{ListToList, ListToObjects, TimelineToList, ToObjects, ToJson, Frames, ListFrames}
 use Rattle.command_words.specs.declared.requests.FramesAsked.{FramesAsked}
 use Rattle.command_words.specs.declared.names.Verb.{Verb}
 use Rattle.command_words.specs.declared.names.Verb.TheVariants as verbs
@@ -150,7 +150,7 @@ pub asked_with : (command : Command) (called name : List ℕ) (input output : Fo
     (given : Given) → given.file ≡ Some name → IsInput given.from name input
     → IsOutput given.to given.target output → IsRate given.rate rate
     → IsConversion command called given
-    → IsAskedOf command input output rate given.drop × (called ≡ name)
+    → IsAskedOf command input output rate given.drop given.wide × (called ≡ name)
 asked_with command called name input output rate given file reads writes is a =
     let same : called ≡ name = let e = sym a.file ∙ file in cc in
     let read : a.input ≡ input = input_once given.from name a.input input
@@ -158,9 +158,9 @@ asked_with command called name input output rate given file reads writes is a =
     let wrote : a.output ≡ output =
     output_once given.to given.target a.output output a.writes writes in
     let once = asked_rate_once given.rate a.rate rate a.is_rate is in (
-      subst (λ i. IsAskedOf command i output rate given.drop) read
-          (subst (λ o. IsAskedOf command a.input o rate given.drop) wrote
-          (subst (λ r. IsAskedOf command a.input a.output r given.drop) once a.means)),
+      subst (λ i. IsAskedOf command i output rate given.drop given.wide) read
+          (subst (λ o. IsAskedOf command a.input o rate given.drop given.wide) wrote
+          (subst (λ r. IsAskedOf command a.input a.output r given.drop given.wide) once a.means)),
       same,
     )
 
@@ -229,49 +229,58 @@ request_asks verb words rest parts g (Some request) w a s e m =
     (name_of request.target) w a s e m
 
 -- the command for what is read and what is written
-abbrev asked_for : Form → Form → Rate → Bool → Option Command
-asked_for form.List form.List rate drop = Some (ListToList rate drop)
-asked_for form.List form.Objects rate drop = Some (ListToObjects rate)
-asked_for form.Objects form.Objects rate drop = Some ToObjects
-asked_for form.Objects form.Json rate drop = Some ToJson
-asked_for input output rate drop = None
+abbrev asked_for : Form → Form → Rate → Bool → Bool → Option Command
+asked_for form.List form.List rate drop wide = Some (ListToList rate drop wide)
+asked_for form.List form.Objects rate drop wide = Some (ListToObjects rate)
+asked_for form.Objects form.List rate drop wide = Some (TimelineToList drop wide)
+asked_for form.Objects form.Objects rate drop wide = Some ToObjects
+asked_for form.Objects form.Json rate drop wide = Some ToJson
+asked_for input output rate drop wide = None
 
-asked_is : (command : Command) (input output : Form) (rate : Rate) (drop : Bool)
-    → IsAskedOf command input output rate drop → asked_for input output rate drop ≡ Some command
-asked_is (ListToList r f) form.Objects output rate drop p = absurd p
-asked_is (ListToList r f) form.List form.Objects rate drop p = absurd p
-asked_is (ListToList r f) form.List form.List rate drop p = let e = p.0 in let h = p.1 in cc
-asked_is (ListToList r f) form.List form.Json rate drop p = absurd p
-asked_is (ListToList r f) form.Json output rate drop p = absurd p
-asked_is (ListToObjects r) form.Objects output rate drop p = absurd p
-asked_is (ListToObjects r) form.List form.Objects rate drop p = let e = p in cc
-asked_is (ListToObjects r) form.List form.List rate drop p = absurd p
-asked_is (ListToObjects r) form.List form.Json rate drop p = absurd p
-asked_is (ListToObjects r) form.Json output rate drop p = absurd p
-asked_is ToObjects form.Objects form.Objects rate drop p = refl
-asked_is ToObjects form.Objects form.List rate drop p = absurd p
-asked_is ToObjects form.Objects form.Json rate drop p = absurd p
-asked_is ToObjects form.List output rate drop p = absurd p
-asked_is ToObjects form.Json output rate drop p = absurd p
-asked_is ToJson form.Objects form.Objects rate drop p = absurd p
-asked_is ToJson form.Objects form.List rate drop p = absurd p
-asked_is ToJson form.Objects form.Json rate drop p = refl
-asked_is ToJson form.List output rate drop p = absurd p
-asked_is ToJson form.Json output rate drop p = absurd p
-asked_is (Frames asked) input output rate drop p = absurd p
-asked_is (ListFrames r asked) input output rate drop p = absurd p
+asked_is : (command : Command) (input output : Form) (rate : Rate) (drop wide : Bool)
+    → IsAskedOf command input output rate drop wide
+    → asked_for input output rate drop wide ≡ Some command
+asked_is (ListToList r f w) form.Objects output rate drop wide p = absurd p
+asked_is (ListToList r f w) form.List form.Objects rate drop wide p = absurd p
+asked_is (ListToList r f w) form.List form.List rate drop wide p =
+    let e = p.0 in let h = p.1 in let k = p.2 in cc
+asked_is (ListToList r f w) form.List form.Json rate drop wide p = absurd p
+asked_is (ListToList r f w) form.Json output rate drop wide p = absurd p
+asked_is (ListToObjects r) form.Objects output rate drop wide p = absurd p
+asked_is (ListToObjects r) form.List form.Objects rate drop wide p = let e = p in cc
+asked_is (ListToObjects r) form.List form.List rate drop wide p = absurd p
+asked_is (ListToObjects r) form.List form.Json rate drop wide p = absurd p
+asked_is (ListToObjects r) form.Json output rate drop wide p = absurd p
+asked_is (TimelineToList f w) form.Objects form.Objects rate drop wide p = absurd p
+asked_is (TimelineToList f w) form.Objects form.List rate drop wide p =
+    let e = p.0 in let h = p.1 in cc
+asked_is (TimelineToList f w) form.Objects form.Json rate drop wide p = absurd p
+asked_is (TimelineToList f w) form.List output rate drop wide p = absurd p
+asked_is (TimelineToList f w) form.Json output rate drop wide p = absurd p
+asked_is ToObjects form.Objects form.Objects rate drop wide p = refl
+asked_is ToObjects form.Objects form.List rate drop wide p = absurd p
+asked_is ToObjects form.Objects form.Json rate drop wide p = absurd p
+asked_is ToObjects form.List output rate drop wide p = absurd p
+asked_is ToObjects form.Json output rate drop wide p = absurd p
+asked_is ToJson form.Objects form.Objects rate drop wide p = absurd p
+asked_is ToJson form.Objects form.List rate drop wide p = absurd p
+asked_is ToJson form.Objects form.Json rate drop wide p = refl
+asked_is ToJson form.List output rate drop wide p = absurd p
+asked_is ToJson form.Json output rate drop wide p = absurd p
+asked_is (Frames asked) input output rate drop wide p = absurd p
+asked_is (ListFrames r asked) input output rate drop wide p = absurd p
 
 -- one file, one output and one rate make at most one command
-asked_once : (c d : Command) (input output : Form) (rate : Rate) (drop : Bool)
-    → IsAskedOf c input output rate drop → IsAskedOf d input output rate drop → c ≡ d
-asked_once c d input output rate drop p q = let e : Some c ≡ Some d =
-    sym (asked_is c input output rate drop p) ∙ asked_is d input output rate drop q in cc
+asked_once : (c d : Command) (input output : Form) (rate : Rate) (drop wide : Bool)
+    → IsAskedOf c input output rate drop wide → IsAskedOf d input output rate drop wide → c ≡ d
+asked_once c d input output rate drop wide p q = let e : Some c ≡ Some d =
+    sym (asked_is c input output rate drop wide p) ∙ asked_is d input output rate drop wide q in cc
 
 convert_once : (c d : Command) (a b : List ℕ) (given : Given) → IsConversion c a given
     → IsConversion d b given → (c ≡ d) × (a ≡ b)
 convert_once c d a b given p q =
     let h = asked_with d b a p.input p.output p.rate given p.file p.reads p.writes p.is_rate q in
-    (asked_once c d p.input p.output p.rate given.drop p.means h.0, sym h.1)
+    (asked_once c d p.input p.output p.rate given.drop given.wide p.means h.0, sym h.1)
 
 -- an option asks for at most one value
 value_once : {A : Type 0} (Is : List ℕ → A → Type 0)
@@ -315,16 +324,19 @@ one_listing (Frames x) (ListFrames r y) name rate frames p q = absurd (p.0 q.0)
 one_listing (ListFrames r x) (Frames y) name rate frames p q = absurd (q.0 p.0)
 one_listing (ListFrames r x) (ListFrames s y) name rate frames p q =
     ap (λ z. ListFrames z x) (p.1 ∙ sym q.1) ∙ ap (ListFrames s) (p.2 ∙ sym q.2)
-one_listing (Frames x) (ListToList r f) name rate frames p q = absurd q
+one_listing (Frames x) (ListToList r f w) name rate frames p q = absurd q
 one_listing (Frames x) (ListToObjects r) name rate frames p q = absurd q
+one_listing (Frames x) (TimelineToList f w) name rate frames p q = absurd q
 one_listing (Frames x) ToObjects name rate frames p q = absurd q
 one_listing (Frames x) ToJson name rate frames p q = absurd q
-one_listing (ListFrames r x) (ListToList s f) name rate frames p q = absurd q
+one_listing (ListFrames r x) (ListToList s f w) name rate frames p q = absurd q
 one_listing (ListFrames r x) (ListToObjects s) name rate frames p q = absurd q
+one_listing (ListFrames r x) (TimelineToList f w) name rate frames p q = absurd q
 one_listing (ListFrames r x) ToObjects name rate frames p q = absurd q
 one_listing (ListFrames r x) ToJson name rate frames p q = absurd q
-one_listing (ListToList r f) d name rate frames p q = absurd p
+one_listing (ListToList r f w) d name rate frames p q = absurd p
 one_listing (ListToObjects r) d name rate frames p q = absurd p
+one_listing (TimelineToList f w) d name rate frames p q = absurd p
 one_listing ToObjects d name rate frames p q = absurd p
 one_listing ToJson d name rate frames p q = absurd p
 
@@ -356,8 +368,9 @@ by_once verbs.Frames c d a b given p q = frames_once c d a b given p q
 -- a command reads at most one media list
 media_once : (c : Command) (named m n : Option (List ℕ)) → IsMedia c named m → IsMedia c named n
     → m ≡ n
-media_once (ListToList r f) named m n p q = p.1 ∙ sym q.1
+media_once (ListToList r f w) named m n p q = p.1 ∙ sym q.1
 media_once (ListToObjects r) named m n p q = p ∙ sym q
+media_once (TimelineToList f w) named m n p q = p ∙ sym q
 media_once ToObjects named m n p q = p ∙ sym q
 media_once ToJson named m n p q = p ∙ sym q
 media_once (Frames asked) named m n p q = p ∙ sym q

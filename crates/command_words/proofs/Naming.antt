@@ -38,7 +38,7 @@ list_are = (
 are_options : (verb : Verb) → AreOptions (options_of verb)
 are_options Convert = (
   dashed 45 (codes "from"),
-  (dashed 45 (codes "to"), (dashed 45 (codes "drop"), list_are)),
+  (dashed 45 (codes "to"), (dashed 45 (codes "drop"), (dashed 45 (codes "wide"), list_are))),
 )
 are_options Frames = (
   dashed 45 (codes "child"),

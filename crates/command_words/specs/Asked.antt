@@ -9,7 +9,7 @@ use Rattle.command_words.specs.Gathered.{Given, nothing_given, add_all}
 use Rattle.command_words.specs.declared.conversions.Form.{Form}
 use Rattle.command_words.specs.declared.conversions.Form.TheVariants as form
 use Rattle.command_words.specs.declared.requests.Command.{Command}
-use Rattle.command_words.specs.declared.requests.Command.TheVariants.{ListToList, ListToObjects, ToObjects, ToJson, Frames, ListFrames}
+use Rattle.command_words.specs.declared.requests.Command.TheVariants.{ListToList, ListToObjects, TimelineToList, ToObjects, ToJson, Frames, ListFrames}
 use Rattle.command_words.specs.declared.requests.FramesAsked.{FramesAsked}
 use Rattle.command_words.specs.declared.names.Verb.{Verb}
 use Rattle.command_words.specs.declared.names.Verb.TheVariants as verbs
@@ -46,14 +46,18 @@ IsOutput (Some word) target form.Objects = word ≡ codes "otio"
 IsOutput (Some word) target form.List = word ≡ codes "edl"
 IsOutput (Some word) target form.Json = word ≡ codes "json"
 
--- The command: a list is written as a list at this rate, with drop-frame timecode where the flag is
--- there, or as the timeline that it conforms to; objects as objects or as JSON.
-abbrev pub IsAskedOf : Command → Form → Form → Rate → Bool → Type 0
-IsAskedOf (ListToList rate drop) form.List form.List asked flag = (rate ≡ asked) × (drop ≡ flag)
-IsAskedOf (ListToObjects rate) form.List form.Objects asked flag = rate ≡ asked
-IsAskedOf ToObjects form.Objects form.Objects asked flag = Unit {0}
-IsAskedOf ToJson form.Objects form.Json asked flag = Unit {0}
-IsAskedOf command input output asked flag = ⊥
+-- The command: a list is written as a list at this rate, or as the timeline that it conforms to;
+-- objects as a list, as objects or as JSON. Lists are written with drop-frame timecode and in the
+-- wide layout where the two flags are there.
+abbrev pub IsAskedOf : Command → Form → Form → Rate → Bool → Bool → Type 0
+IsAskedOf (ListToList rate drop wide) form.List form.List asked drops widens =
+    (rate ≡ asked) × (drop ≡ drops) × (wide ≡ widens)
+IsAskedOf (ListToObjects rate) form.List form.Objects asked drops widens = rate ≡ asked
+IsAskedOf (TimelineToList drop wide) form.Objects form.List asked drops widens =
+    (drop ≡ drops) × (wide ≡ widens)
+IsAskedOf ToObjects form.Objects form.Objects asked drops widens = Unit {0}
+IsAskedOf ToJson form.Objects form.Json asked drops widens = Unit {0}
+IsAskedOf command input output asked drops widens = ⊥
 
 -- What the options and the file of `convert` ask for. Other options have a value that is allowed
 -- even where the command doesn't need it.
@@ -65,7 +69,7 @@ pub record IsConversion (command : Command) (name : List ℕ) (given : Given) : 
   pub writes : IsOutput given.to given.target output
   pub rate : Rate
   pub is_rate : IsRate given.rate rate
-  pub means : IsAskedOf command input output rate given.drop
+  pub means : IsAskedOf command input output rate given.drop given.wide
 
 -- what an option asks for by its value; nothing where it isn't given
 abbrev pub IsValue : {A : Type 0} → (List ℕ → A → Type 0) → Option (List ℕ) → Option A → Type 0
@@ -106,11 +110,13 @@ abbrev pub IsAskedBy : Verb → Command → List ℕ → Given → Type 0
 IsAskedBy verbs.Convert command name given = IsConversion command name given
 IsAskedBy verbs.Frames command name given = IsFrameList command name given
 
--- The media list that is read: the one that is named, where a list is conformed. Elsewhere the name
--- has no effect, but that a list to a list is asked for without one.
+-- The media list that is read: the one that is named, where a list is conformed or a timeline is
+-- written as a list. Elsewhere the name has no effect, but that a list to a list is asked for
+-- without one.
 abbrev pub IsMedia : Command → Option (List ℕ) → Option (List ℕ) → Type 0
-IsMedia (ListToList rate drop) named media = (named ≡ None) × (media ≡ None)
+IsMedia (ListToList rate drop wide) named media = (named ≡ None) × (media ≡ None)
 IsMedia (ListToObjects rate) named media = media ≡ named
+IsMedia (TimelineToList drop wide) named media = media ≡ named
 IsMedia ToObjects named media = media ≡ None
 IsMedia ToJson named media = media ≡ None
 IsMedia (Frames asked) named media = media ≡ None

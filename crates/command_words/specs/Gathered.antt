@@ -4,7 +4,7 @@ use Rattle.std.specs.Prelude.{ℕ, Bool, true, false, List, [], ◌∷◌, Optio
 use Rattle.std.specs.Option.{option_map, option_and_then}
 use Rattle.command_words.specs.Parts.{CommandPart, Valued, Flagged, File}
 use Rattle.command_words.specs.declared.names.Choice.TheVariants.{From, To, Rate, Target, Child, Start, Count, Media}
-use Rattle.command_words.specs.declared.names.Flag.TheVariants.{Drop}
+use Rattle.command_words.specs.declared.names.Flag.TheVariants.{Drop, Wide}
 use Rattle.command_words.specs.declared.lines.Line.{Line}
 
 pub record Given : Type 0 where
@@ -17,6 +17,7 @@ pub record Given : Type 0 where
   pub count : Option (List ℕ)
   pub media : Option (List ℕ)
   pub drop : Bool
+  pub wide : Bool
   pub file : Option (List ℕ)
 
 abbrev pub nothing_given : Given
@@ -30,6 +31,7 @@ nothing_given = record {
   count = None;
   media = None;
   drop = false;
+  wide = false;
   file = None;
 }
 
@@ -53,6 +55,7 @@ add g (Valued Start name value) = once g.start (record g { start = Some value })
 add g (Valued Count name value) = once g.count (record g { count = Some value })
 add g (Valued Media name value) = once g.media (record g { media = Some value })
 add g (Flagged Drop name) = once_flag g.drop (record g { drop = true })
+add g (Flagged Wide name) = once_flag g.wide (record g { wide = true })
 add g (File name) = once g.file (record g { file = Some name })
 
 -- what is given with more parts, each in its turn
@@ -71,5 +74,6 @@ given_by line = record {
   count = option_map (λ s. s.now) line.count;
   media = option_map (λ s. s.now) line.media;
   drop = line.drop;
+  wide = line.wide;
   file = option_map (λ s. s.now) line.file;
 }

@@ -3,7 +3,7 @@ use Rattle.std.specs.Prelude.{◌≡◌, ◌≢◌, ℕ, List, [], ◌∷◌, �
 use Rattle.command_words.specs.declared.names.Verb.{Verb}
 use Rattle.command_words.specs.declared.names.Verb.TheVariants.{Convert, Frames}
 use Rattle.command_words.specs.declared.names.Choice.TheVariants.{From, To, Rate, Target, Child, Start, Count, Media}
-use Rattle.command_words.specs.declared.names.Flag.TheVariants.{Drop}
+use Rattle.command_words.specs.declared.names.Flag.TheVariants.{Drop, Wide}
 use Rattle.command_words.specs.declared.names.Named.{Named}
 use Rattle.command_words.specs.declared.names.Named.TheVariants.{Valued, Flagged}
 
@@ -29,7 +29,7 @@ list_options = (codes "--rate", Valued Rate) ∷ (codes "--media", Valued Media)
 -- the options that are built for a command, by their names
 abbrev pub options_of : Verb → List (List ℕ × Named)
 options_of Convert = (codes "--from", Valued From) ∷ (codes "--to", Valued To) ∷
-    (codes "--drop", Flagged Drop) ∷ list_options
+    (codes "--drop", Flagged Drop) ∷ (codes "--wide", Flagged Wide) ∷ list_options
 options_of Frames = (codes "--child", Valued Child) ∷ (codes "--start", Valued Start) ∷
     (codes "--count", Valued Count) ∷ list_options
 

@@ -40,7 +40,7 @@ pub fn conversion_of<'a>(line: &Line<'a>) -> Option<(Command, &'a str)>
     let Some(rate) = rate_asked(line.rate) else {
         return None;
     };
-    match command_in(input, output, rate, line.drop) {
+    match command_in(input, output, rate, line.drop, line.wide) {
         Some(command) => Some((command, name)),
         None => None,
     }
@@ -128,40 +128,40 @@ fn default_output(target: Option<&str>) -> Form
 }
 
 // The command by what is read and what is written.
-fn command_in(input: Form, output: Form, rate: Rate, drop: bool) -> Option<Command>
+fn command_in(input: Form, output: Form, rate: Rate, drop: bool, wide: bool) -> Option<Command>
     ensures { MatchOption result
-        ((command : Command) → IsAskedOf command input output rate drop → ⊥)
-        (λ command. IsAskedOf command input output rate drop) }
+        ((command : Command) → IsAskedOf command input output rate drop wide → ⊥)
+        (λ command. IsAskedOf command input output rate drop wide) }
 {
     match input {
-        Form::Objects => object_command(output),
-        Form::List => list_command(output, rate, drop),
+        Form::Objects => object_command(output, drop, wide),
+        Form::List => list_command(output, rate, drop, wide),
         Form::Json => None,
     }
 }
 
 // The command for a list.
-fn list_command(output: Form, rate: Rate, drop: bool) -> Option<Command>
+fn list_command(output: Form, rate: Rate, drop: bool, wide: bool) -> Option<Command>
     ensures { MatchOption result
-        ((command : Command) → IsAskedOf command Form.List output rate drop → ⊥)
-        (λ command. IsAskedOf command Form.List output rate drop) }
+        ((command : Command) → IsAskedOf command Form.List output rate drop wide → ⊥)
+        (λ command. IsAskedOf command Form.List output rate drop wide) }
 {
     match output {
         Form::Objects => Some(Command::ListToObjects { rate }),
-        Form::List => Some(Command::ListToList { rate, drop }),
+        Form::List => Some(Command::ListToList { rate, drop, wide }),
         Form::Json => None,
     }
 }
 
 // The command for objects.
-fn object_command(output: Form) -> Option<Command>
-    ensures { (rate : Rate) (drop : Bool) → MatchOption result
-        ((command : Command) → IsAskedOf command Form.Objects output rate drop → ⊥)
-        (λ command. IsAskedOf command Form.Objects output rate drop) }
+fn object_command(output: Form, drop: bool, wide: bool) -> Option<Command>
+    ensures { (rate : Rate) → MatchOption result
+        ((command : Command) → IsAskedOf command Form.Objects output rate drop wide → ⊥)
+        (λ command. IsAskedOf command Form.Objects output rate drop wide) }
 {
     match output {
         Form::Objects => Some(Command::ToObjects),
         Form::Json => Some(Command::ToJson),
-        Form::List => None,
+        Form::List => Some(Command::TimelineToList { drop, wide }),
     }
 }

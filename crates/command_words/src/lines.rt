@@ -19,6 +19,7 @@ pub struct Line<'a> {
     pub count: Option<&'a str>,
     pub media: Option<&'a str>,
     pub drop: bool,
+    pub wide: bool,
     pub file: Option<&'a str>,
 }
 
@@ -36,6 +37,7 @@ pub fn empty_line<'a>() -> Line<'a>
         count: None,
         media: None,
         drop: false,
+        wide: false,
         file: None,
     }
 }
@@ -71,6 +73,13 @@ fn with_flag<'a>(line: Line<'a>, flag: Flag) -> Option<Line<'a>>
                 None
             } else {
                 Some(Line { drop: true, ..line })
+            }
+        }
+        Flag::Wide => {
+            if line.wide {
+                None
+            } else {
+                Some(Line { wide: true, ..line })
             }
         }
     }

@@ -39,6 +39,8 @@ pub enum Choice {
 pub enum Flag {
     /// Lists are written with drop-frame timecode.
     Drop,
+    /// Lists are written in the wide layout.
+    Wide,
 }
 
 /// What the name of an option stands for.
@@ -85,6 +87,9 @@ fn convert_option(word: &str) -> Option<Named>
     }
     if is_word(word, "--drop") {
         return Some(Named::Flagged(Flag::Drop));
+    }
+    if is_word(word, "--wide") {
+        return Some(Named::Flagged(Flag::Wide));
     }
     list_option(word)
 }

@@ -22,11 +22,20 @@ pub enum Command {
         rate: Rate,
         /// Whether the list is written with drop-frame timecode whatever it says itself.
         drop: bool,
+        /// Whether the list is written in the wide layout.
+        wide: bool,
     },
     /// A list is conformed, and its timeline written in the current schemas and the written order.
     ListToObjects {
         /// The rate of the list, in frames a second.
         rate: Rate,
+    },
+    /// A timeline is written as the list of its events, in its one spelling.
+    TimelineToList {
+        /// Whether the list is written with drop-frame timecode.
+        drop: bool,
+        /// Whether the list is written in the wide layout.
+        wide: bool,
     },
     /// An object is written in the current schemas and the written order.
     ToObjects,
@@ -62,8 +71,9 @@ pub struct Request<'a> {
     pub command: Command,
     /// The name of the file; `-` is the standard input.
     pub name: &'a str,
-    /// The name of the media list that a list is conformed with; none where none is read. `-` is
-    /// the standard input, which is read at most once.
+    /// The name of the media list that a list is conformed with, or that the media of a timeline
+    /// are looked up in where that is written as a list; none where none is read. `-` is the
+    /// standard input, which is read at most once.
     pub media: Option<&'a str>,
     /// The name of the output file; none for the standard output.
     pub target: Option<&'a str>,
@@ -136,6 +146,7 @@ fn media_of<'a>(command: Command, named: Option<&'a str>) -> Option<Option<&'a s
             None => Some(None),
         },
         Command::ListToObjects { .. } | Command::ListFrames { .. } => Some(named),
+        Command::TimelineToList { .. } => Some(named),
         Command::ToObjects | Command::ToJson | Command::Frames(_) => Some(None),
     }
 }

@@ -21,24 +21,70 @@ fn asks_for_nothing(alloc: Global, line: &str) -> Result<bool, AllocError> {
 
 #[test]
 fn lines_ask_for_lists(rt: HostRuntime) -> Result<(), Fail> {
-    for (line, num, drop) in [
-        ("convert --to edl a.edl", 24, false),
-        ("convert a.edl --rate 25 --to edl --drop", 25, true),
-        ("convert --rate 29.97 --to edl a.edl", 30_000, false),
-        ("convert --drop --to edl .edl", 24, true),
-        ("convert --from edl --to edl x.edl", 24, false),
+    for (line, num, drop, wide) in [
+        ("convert --to edl a.edl", 24, false, false),
+        ("convert a.edl --rate 25 --to edl --drop", 25, true, false),
+        (
+            "convert --rate 29.97 --to edl a.edl --wide",
+            30_000,
+            false,
+            true,
+        ),
+        ("convert --wide --drop --to edl .edl", 24, true, true),
+        ("convert --from edl --to edl x.edl", 24, false, false),
     ] {
         let words = words_of(rt.alloc(), line)?;
         match request_of(words.as_slice()) {
             Some(request) => {
                 assert!(rt; request.name.ends_with(".edl"), "{line}");
                 match request.command {
-                    Command::ListToList { rate, drop: asked } => {
+                    Command::ListToList {
+                        rate,
+                        drop: asked,
+                        wide: widens,
+                    } => {
                         assert_eq!(rt; rate.num, num, "{line}");
                         assert_eq!(rt; asked, drop, "{line}");
+                        assert_eq!(rt; widens, wide, "{line}");
                     }
                     _ => assert!(rt; false, "{line}"),
                 }
+            }
+            None => assert!(rt; false, "{line}"),
+        }
+    }
+    Ok(())
+}
+
+#[test]
+fn lines_ask_for_timelines_as_lists(rt: HostRuntime) -> Result<(), Fail> {
+    for (line, drop, wide, media) in [
+        ("convert --to edl x.otio", false, false, None),
+        ("convert -o l.edl x", false, false, None),
+        ("convert --from otio --to edl a.edl", false, false, None),
+        (
+            "convert --wide --to edl a.json --media m",
+            false,
+            true,
+            Some("m"),
+        ),
+        ("convert --media - x -o .edl --drop", true, false, Some("-")),
+        (
+            "convert --rate 25 --to edl --drop x --wide",
+            true,
+            true,
+            None,
+        ),
+    ] {
+        let words = words_of(rt.alloc(), line)?;
+        match request_of(words.as_slice()) {
+            Some(request) => {
+                assert_eq!(rt;
+                    request.command,
+                    Command::TimelineToList { drop, wide },
+                    "{line}"
+                );
+                assert_eq!(rt; request.media, media, "{line}");
             }
             None => assert!(rt; false, "{line}"),
         }
@@ -51,7 +97,7 @@ fn lines_ask_for_json(rt: HostRuntime) -> Result<(), Fail> {
     for (line, name) in [
         ("convert --to json -", "-"),
         ("convert x --rate 24 --to json", "x"),
-        ("convert --drop x.edl.json --to json", "x.edl.json"),
+        ("convert --drop x.edl.json --to json --wide", "x.edl.json"),
     ] {
         let words = words_of(rt.alloc(), line)?;
         match request_of(words.as_slice()) {
@@ -78,10 +124,10 @@ fn other_lines_ask_for_nothing(rt: HostRuntime) -> Result<(), Fail> {
         "convert --to edl -a.edl",
         "convert --to edl -- a.edl",
         "convert --to json a.edl",
-        "convert --to edl a.json",
-        "convert --to edl x",
-        "convert -o l.edl x",
-        "convert --from otio --to edl a.edl",
+        "convert --to edl --media - -",
+        "convert --to edl --wide --wide x",
+        "convert --to edl --rate 29.5 x",
+        "convert --to edl --wide 1 x",
         "convert --from edl --to json x",
         "convert --from json x",
         "convert --to edl --media m a.edl",
@@ -198,6 +244,7 @@ fn other_lines_ask_for_no_frames(rt: HostRuntime) -> Result<(), Fail> {
         "frames --media m",
         "frames --to json x",
         "frames --drop x",
+        "frames --wide x",
         "convert --child 0 x",
         "convert --start 0 x",
         "convert --count 1 x",

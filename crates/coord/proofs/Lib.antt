@@ -10,3 +10,4 @@ pub mod AgreementLemmas
 pub mod OneFault
 pub mod SpareLemmas
 pub mod Clocks
+pub mod ImageLemmas

@@ -53,6 +53,12 @@ image Blank = Empty
 image (Frame key m rate) = Single key (frame_number m rate)
 image (Mix type from to weight) = Mixture (kind_of type) (image from) (image to) weight
 
+-- whether nothing is seen
+abbrev pub is_empty : Image → Bool
+is_empty Empty = true
+is_empty (Single key number) = false
+is_empty (Mixture kind from to weight) = false
+
 -- whether two are mixed
 abbrev pub is_mix : Show → Bool
 is_mix Blank = false

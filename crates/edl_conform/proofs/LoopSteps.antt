@@ -23,7 +23,7 @@ use Rattle.edl_frames.specs.Conformed.{AreItems}
 use Rattle.edl_frames.specs.Refused.{Use, use_of, outgoing_use, event_fault, first_fault}
 use Rattle.edl_frames.specs.Refused.{has_other_rate, if_listed, is_outside, is_row_outside, is_same_rate, is_unlisted, reel_row, uses_of}
 use Rattle.edl_conform.specs.Steps.{AddsEvent, IsUnderWay}
-use Rattle.edl_conform.specs.Uses.{uses_fault}
+use Rattle.edl_conform.specs.Uses.{first_reason, uses_fault}
 use Rattle.edl_conform.proofs.ItemSteps.{goes_on, at_end, filter_in}
 
 pub next_at : {A : Type 0} (xs : List A) (i : ℕ) (x : A) → i < length xs → x ≡ get_or xs i x
@@ -77,16 +77,10 @@ step_end rate media first at c all events i before items h w =
 
 -- ---- refusals
 
--- of three tests in turn the third holds, or none
-pub third : {X : Type 0} (a b c : Bool) (x y z w : X) → a ≡ false → b ≡ false → c ≡ true
-    → z ≡ cond a x (cond b y (cond c z w))
-third a b c x y z w h k l = sym (ap (λ t. cond t x (cond b y (cond c z w))) h
-    ∙ ap (λ t. cond t y (cond c z w)) k ∙ ap (λ t. cond t z w) l)
-
-pub none_of : {X : Type 0} (a b c : Bool) (x y z w : X) → a ≡ false → b ≡ false → c ≡ false
-    → w ≡ cond a x (cond b y (cond c z w))
-none_of a b c x y z w h k l = sym (ap (λ t. cond t x (cond b y (cond c z w))) h
-    ∙ ap (λ t. cond t y (cond c z w)) k ∙ ap (λ t. cond t z w) l)
+-- the first of equal reasons
+pub same_reason : (line : ℕ) (p q r a b c : Bool) → p ≡ a → q ≡ b → r ≡ c
+    → first_reason line a b c ≡ first_reason line p q r
+same_reason line p q r a b c d e f = λ k. first_reason line (sym d k) (sym e k) (sym f k)
 
 -- what a test of the sides says, by that of each side
 pub of_one : (p q t : Bool) → q ≡ p → t ≡ (q || false) → (p || false) ≡ t
@@ -112,16 +106,6 @@ outside rate media side m n row b e f g =
     e ∙ ap (if_listed (is_row_outside (source_frame rate side (pos 0))
     (source_frame rate side (m -ℤ pos 1)))) f
     ∙ ap (λ z. is_outside rate media (use_of side z)) g
-
--- of the tests of sides the second holds
-pub rate_told : (rate : Rate) (media : MediaRows) (line : ℕ) (uses : List Use)
-    → list_any (is_unlisted media) uses ≡ false → list_any (has_other_rate rate media) uses ≡ true
-    → Some (F.Rate line) ≡ uses_fault rate media line uses
-rate_told rate media line uses h k =
-    let more = cond (list_any (is_outside rate media) uses) (Some (F.Outside line)) None in
-    sym (ap (λ t. cond t (Some (F.NoReel line))
-    (cond (list_any (has_other_rate rate media) uses) (Some (F.Rate line)) more)) h
-    ∙ ap (λ t. cond t (Some (F.Rate line)) more) k)
 
 -- the fault of an event that begins in this way
 pub fault_of_uses : (rate : Rate) (media : MediaRows) (e : Event) (o : List Use)

@@ -11,6 +11,7 @@ ghost use Rattle.edl_frames.specs.Refused.{use_of};
 ghost use Rattle.edl_frames.specs.Shown as shown;
 ghost use Rattle.edl_conform.specs.Fits.{FitsEvent, FitsSide};
 ghost use Rattle.edl_conform.specs.Ranges.{IsLess, IsShown, IsSmall};
+ghost use Rattle.edl_conform.specs.Uses as uses;
 ghost use Rattle.edl_conform.specs.Uses.{uses_fault};
 
 use crate::look_ups::reel_row;
@@ -172,6 +173,22 @@ fn is_outside(rate: Rate, side: &Side, row: Option<&MediaRow>, frames: i64) -> b
     }
 }
 
+/// The first reason that holds, for an event at a line.
+fn first_reason(line: u32, unlisted: bool, other_rate: bool, outside: bool) -> Option<ConformFault>
+    ensures { result ≡ uses.first_reason line unlisted other_rate outside }
+{
+    if unlisted {
+        return Some(ConformFault::NoReel(line));
+    }
+    if other_rate {
+        return Some(ConformFault::Rate(line));
+    }
+    if outside {
+        return Some(ConformFault::Outside(line));
+    }
+    None
+}
+
 /// Why an event of one side, shown in so many frames, isn't held.
 fn cut_fault(
     rate: Rate,
@@ -187,16 +204,12 @@ fn cut_fault(
         (use_of side.now frames ∷ []) }
 {
     let row = reel_row(media, &side.reel);
-    if alone(is_unlisted(media, side, row)) {
-        return Some(ConformFault::NoReel(line));
-    }
-    if alone(has_other_rate(rate, row)) {
-        return Some(ConformFault::Rate(line));
-    }
-    if alone(is_outside(rate, side, row, frames)) {
-        return Some(ConformFault::Outside(line));
-    }
-    None
+    first_reason(
+        line,
+        alone(is_unlisted(media, side, row)),
+        alone(has_other_rate(rate, row)),
+        alone(is_outside(rate, side, row, frames)),
+    )
 }
 
 /// One test.
@@ -233,22 +246,18 @@ fn pair_fault(
 {
     let from_row = reel_row(media, &from.reel);
     let to_row = reel_row(media, &to.reel);
-    if either(
-        is_unlisted(media, from, from_row),
-        is_unlisted(media, to, to_row),
-    ) {
-        return Some(ConformFault::NoReel(line));
-    }
-    if either(has_other_rate(rate, from_row), has_other_rate(rate, to_row)) {
-        return Some(ConformFault::Rate(line));
-    }
-    if either(
-        is_outside(rate, from, from_row, from_frames),
-        is_outside(rate, to, to_row, to_frames),
-    ) {
-        return Some(ConformFault::Outside(line));
-    }
-    None
+    first_reason(
+        line,
+        either(
+            is_unlisted(media, from, from_row),
+            is_unlisted(media, to, to_row),
+        ),
+        either(has_other_rate(rate, from_row), has_other_rate(rate, to_row)),
+        either(
+            is_outside(rate, from, from_row, from_frames),
+            is_outside(rate, to, to_row, to_frames),
+        ),
+    )
 }
 
 /// Why an event isn't held. Each reel is looked up once.

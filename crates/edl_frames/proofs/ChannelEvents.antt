@@ -1,5 +1,5 @@
 -- The events of one channel, and the least record in.
-use Rattle.std.proofs.Common.{◌≡◌, refl, sym, ap, subst, ◌∙◌, ℕ, suc, ◌≤◌, ◌==◌, ℤ, pos, ◌≤ℤ◌, Bool, true, false, cond, List, [], ◌∷◌, length, arith}
+use Rattle.std.proofs.Common.{◌≡◌, refl, sym, suc, ℤ, ◌≤ℤ◌, Bool, true, false, cond, List, [], ◌∷◌, arith}
 use Rattle.std.specs.Prelude.{All, AllPairs, filter}
 use Rattle.std.specs.Int.{int_min}
 use Rattle.std.proofs.lemmas.List.Elements.{All-cons, All-head, All-filter}

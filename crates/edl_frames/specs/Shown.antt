@@ -1,5 +1,5 @@
 -- What a list shows at a record frame, from its events alone.
-use Rattle.std.specs.Prelude.{ℕ, ◌==◌, ℤ, pos, ◌+ℤ◌, ◌-ℤ◌, ◌*ℤ◌, int_lt, Bool, true, false, ◌&&◌, cond, List, [], ◌∷◌, Option, Some, None, unsigned_abs, filter}
+use Rattle.std.specs.Prelude.{ℕ, ◌==◌, ℤ, pos, ◌+ℤ◌, ◌-ℤ◌, ◌*ℤ◌, int_lt, Bool, ◌&&◌, cond, List, [], ◌∷◌, Option, Some, None, unsigned_abs, filter}
 use Rattle.std.specs.Int.{int_div_euclid}
 use Rattle.tick_time.specs.declared.rates.Rate.{Rate}
 use Rattle.otio_model.specs.Overlaps.{within}
@@ -16,12 +16,7 @@ use Rattle.edl_list.specs.Speeds.{side_speed}
 use Rattle.media_rows.specs.declared.row.MediaRow.{MediaRow}
 use Rattle.media_rows.specs.Rows.{by_reel}
 use Rattle.coord.specs.Looks.{Key, Url, Reel as ReelKey, weight}
-use Rattle.coord.specs.Images.{Image, Empty, Single, Mixture, Kind, Dissolve as IsDissolve, Wipe as IsWipe}
-
-abbrev pub is_empty : Image → Bool
-is_empty Empty = true
-is_empty (Single key number) = false
-is_empty (Mixture kind from to weight) = false
+use Rattle.coord.specs.Images.{Image, Empty, Single, Mixture, Kind, Dissolve as IsDissolve, Wipe as IsWipe, is_empty}
 
 -- a mix of a kind, of which so many parts of the whole are the second side; a mix of two that are
 -- empty is empty

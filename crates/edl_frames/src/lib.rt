@@ -1,7 +1,10 @@
-//! What an edit decision list shows, the timeline that it stands for, and why it may have none:
-//! definitions for `conform` and for the laws of lists and timelines.
+//! What an edit decision list shows, the timeline that it stands for and why it may have none, and
+//! the list of a timeline and why it may have none: definitions for `conform`, for `events` and for
+//! the laws of lists and timelines.
 #![tactic(auto)]
 
 mod faults;
+mod reasons;
 
 pub use faults::ConformFault;
+pub use reasons::{NotCarried, Why};

@@ -19,7 +19,11 @@ use Rattle.coord.specs.Keys.{key_of, reel_of, media_rate}
 use Rattle.coord.specs.Sights.{framed}
 use Rattle.coord.specs.Images.{Image, Empty, Kind, Dissolve as IsDissolve, Wipe as IsWipe, Other, image, kind_of}
 use Rattle.edl_frames.specs.Shown.{MediaRows, mix_of, side_shows, crossing_shows, cross_shows, event_shows, events_show}
-use Rattle.edl_frames_law.specs.Carried.{event_side, Job, Lap, ItemAt, Past, Seat, lap_at, length_in, begin_or, past_by, seats, next_lap, lap_behind, begin_of, end_of, clip_in, is_item, clip_before, is_there, side_of, black_side, side_out, crossing, cross_in, event_by, black_event, clip_event, item_event, tail_event, event_of, event_part, lap_part, parts_of, is_other_kind, frames_in, record_at, is_between, speed_in}
+use Rattle.edl_frames.specs.ChildReasons.{event_side, event_part, lap_part, parts_of, is_other_kind, is_between}
+use Rattle.edl_frames.specs.Jobs.{Job, frames_in, record_at}
+use Rattle.edl_frames.specs.Seats.{Lap, ItemAt, Past, Seat, lap_at, length_in, begin_or, past_by, seats, next_lap, lap_behind, begin_of, end_of, clip_in, is_item, clip_before, is_there}
+use Rattle.edl_frames.specs.Sides.{side_of, black_side, side_out, crossing, cross_in, speed_in}
+use Rattle.edl_frames.specs.ChildEvents.{event_by, black_event, clip_event, item_event, tail_event, event_of}
 use Rattle.edl_frames_law.proofs.ListedRates.{any_last, any_first}
 use Rattle.edl_frames_law.proofs.LookSteps.{yes, below, above, times_le, times-minus}
 use Rattle.edl_frames_law.proofs.FrameQuotients.{sum-times}
@@ -61,9 +65,10 @@ stretches_before low at m last ((cross type b a) ∷ (cross type' b' a') ∷ l) 
 
 -- ---- one event against a stretch
 
-module _ (rate : Rate) (first : ℤ) (media : MediaRows) (drop : Bool) where
+module _ (rate : Rate) (first : ℤ) (media : MediaRows) (drop wide : Bool) where
   -- the record frame at so many frames of the track
-  pub recorded : (u b : ℤ) → u ≡ b *ℤ pos (ticks rate) → record_at (job rate first media drop) u ≡
+  pub recorded : (u b : ℤ) → u ≡ b *ℤ pos (ticks rate)
+      → record_at (job rate first media drop wide) u ≡
       first +ℤ b
   recorded u b e = ap (λ z. first +ℤ int_div_euclid z (pos (ticks rate))) e
       ∙ ap (λ z. first +ℤ z) (let p = ticks_some rate in count-product b (pos (ticks rate))
@@ -133,17 +138,17 @@ front_is rate kind at u (x ∷ l) ((cross type b c) ∷ bits) e a =
 
 -- what is known of the item before, counted from here: black is empty, and its side goes out as
 -- the item goes on
-pub record Stands (rate : Rate) (first : ℤ) (media : MediaRows) (drop : Bool)
+pub record Stands (rate : Rate) (first : ℤ) (media : MediaRows) (drop wide : Bool)
     (before : Option ItemAt) (at u : ℤ) (l : List (ItemOf Listed)) (last : ℤ → Image) : Type 0
   where
     pub black : is_there (clip_before before) ≡ false → (k : ℤ) → last k ≡ Empty
     pub shown : (lap : Lap) (b : ℤ) → next_lap u l ≡ Some lap → lap.begin ≡ (at -ℤ b) *ℤ pos
         (ticks rate) → (k : ℤ) → side_shows rate media
-        (side_out (job rate first media drop) before lap.begin) k ≡ last (k -ℤ b)
+        (side_out (job rate first media drop wide) before lap.begin) k ≡ last (k -ℤ b)
 
-pub head_stands : (rate : Rate) (first : ℤ) (media : MediaRows) (drop : Bool) (at u : ℤ)
-    (l : List (ItemOf Listed)) → Stands rate first media drop None at u l nothing
-head_stands rate first media drop at u l =
+pub head_stands : (rate : Rate) (first : ℤ) (media : MediaRows) (drop wide : Bool) (at u : ℤ)
+    (l : List (ItemOf Listed)) → Stands rate first media drop wide None at u l nothing
+head_stands rate first media drop wide at u l =
     record { black = λ e k. refl; shown = λ lap b e f k. refl }
 
 black_gives : (rate : Rate) (kind : Watch) (x : ItemOf Listed) (k : ℤ) → is_item x ≡ true
@@ -179,20 +184,22 @@ clip_is (Stack s) c e = absurd (cc e)
 clip_is (Track t) c e = absurd (cc e)
 
 -- a clip that is carried shows what a side of it does, from b frames behind its start on
-side_of_clip : (rate : Rate) (first : ℤ) (media : MediaRows) (drop : Bool) (kind : Watch)
+side_of_clip : (rate : Rate) (first : ℤ) (media : MediaRows) (drop wide : Bool) (kind : Watch)
     (c : Channel) (s : Seat) (r : ClipRow) (u count b k : ℤ) → KnowsKeys kind.key media
-    → ItemFree (job rate first media drop) c s → clip_in s.item ≡ Some r
+    → ItemFree (job rate first media drop wide) c s → clip_in s.item ≡ Some r
     → (int_lt (begin_of s) (end_of s) || is_there (lap_behind s)) ≡ true
     → u ≡ s.start +ℤ (b *ℤ pos (ticks rate))
-    → (not (int_eq (speed_in r) (pos 1000000)) && is_between (job rate first media drop) r s.start
+    → (not (int_eq (speed_in r) (pos 1000000)) && is_between (job rate first media drop wide) r
+    s.start
     (record { at = u; frames = pos 0; counted = pos 0 })) ≡ false
     → gives rate kind s.item (b +ℤ k) ≡ side_shows rate media
-    (side_of (job rate first media drop) r s.start u count) k
-side_of_clip rate first media drop kind c s r u count b k keys free is seen at whole =
+    (side_of (job rate first media drop wide) r s.start u count) k
+side_of_clip rate first media drop wide kind c s r u count b k keys free is seen at whole =
     let q = clip_is s.item r is in
     let f = free.clip r is seen in
     ap (λ x. gives rate kind x (b +ℤ k)) q.0
-    ∙ side_gives rate first media drop r kind s.start u count b k keys q.1 f.rated f.tenths f.named
+    ∙ side_gives rate first media drop wide r kind s.start u count b k keys q.1 f.rated f.tenths
+    f.named
     at whole
 
 -- the side of an event begins at a whole frame
@@ -235,11 +242,13 @@ phase_out j s r lap f e = by (not (int_eq (speed_in r) (pos 1000000))) f.phase
 -- ---- how an event begins
 
 -- the frames of an overlap
-pub lap_frames : (rate : Rate) (first : ℤ) (media : MediaRows) (drop : Bool) (u : ℤ) (o : Overlap)
+pub lap_frames : (rate : Rate) (first : ℤ) (media : MediaRows) (drop wide : Bool) (u : ℤ)
+    (o : Overlap)
     (b a : ℕ) → o.before ≡ pos b *ℤ pos (ticks rate) → o.after ≡ pos a *ℤ pos (ticks rate)
-    → unsigned_abs (frames_in (job rate first media drop) ((u +ℤ o.after) -ℤ (u -ℤ o.before))) ≡ b +
+    → unsigned_abs (frames_in (job rate first media drop wide) ((u +ℤ o.after) -ℤ (u -ℤ o.before)))
+    ≡ b +
     a
-lap_frames rate first media drop u o b a before after =
+lap_frames rate first media drop wide u o b a before after =
     let s = sum-times (pos b) (pos a) (ticks rate) in
     let e : (u +ℤ o.after) -ℤ (u -ℤ o.before) ≡ (pos b +ℤ pos a) *ℤ pos (ticks rate) =
     omega (arith, ints, before, after, s) in
@@ -285,15 +294,15 @@ pair_shows rate media type b a n at m from to last gives e other goes comes =
 
 -- ---- an item that begins at its start
 
-pub piece_step : (rate : Rate) (first : ℤ) (media : MediaRows) (drop : Bool) (kind : Watch)
+pub piece_step : (rate : Rate) (first : ℤ) (media : MediaRows) (drop wide : Bool) (kind : Watch)
     (c : Channel) (s : Seat) (at front m : ℤ) (es : List Event) (rest : Image)
-    → KnowsKeys kind.key media → ItemFree (job rate first media drop) c s
+    → KnowsKeys kind.key media → ItemFree (job rate first media drop wide) c s
     → s.past.lap ≡ None → s.start ≡ at *ℤ pos (ticks rate) → end_of s ≡ front *ℤ pos (ticks rate)
     → events_show rate media es (first +ℤ m) ≡ rest → (m <ℤ front → rest ≡ Empty)
     → events_show rate media
-    (cons_option (item_event (job rate first media drop) c s (clip_in s.item)) es) (first +ℤ m)
+    (cons_option (item_event (job rate first media drop wide) c s (clip_in s.item)) es) (first +ℤ m)
     ≡ cond (within at front m) (gives rate kind s.item (m -ℤ at)) rest
-piece_step rate first media drop kind c s at front m es rest keys free none start ends behind
+piece_step rate first media drop wide kind c s at front m es rest keys free none start ends behind
     before = by (clip_in s.item) refl
   where
     shown : (r : ClipRow) → clip_in s.item ≡ Some r → (t : Bool) → int_lt (begin_of s) (end_of s) ≡
@@ -301,60 +310,64 @@ piece_step rate first media drop kind c s at front m es rest keys free none star
         → events_show rate media
         (cons_option
         (cond t
-        (Some (event_by (job rate first media drop) c s.past s.past.lap
-        (side_of (job rate first media drop) r s.start (begin_of s)
-        (frames_in (job rate first media drop) (end_of s -ℤ begin_of s))) (begin_of s)
+        (Some (event_by (job rate first media drop wide) c s.past s.past.lap
+        (side_of (job rate first media drop wide) r s.start (begin_of s)
+        (frames_in (job rate first media drop wide) (end_of s -ℤ begin_of s))) (begin_of s)
         (end_of s))) None) es) (first +ℤ m)
         ≡ cond (within at front m) (gives rate kind s.item (m -ℤ at)) rest
     shown r is true t =
         let b : begin_of s ≡ at *ℤ pos (ticks rate) = ap (λ o. begin_or o s.start) none ∙ start in
         let f = free.clip r is (ap (λ z. z || is_there (lap_behind s)) t) in
-        covers rate first media drop
-        (event_by (job rate first media drop) c s.past s.past.lap
-        (side_of (job rate first media drop) r s.start (begin_of s)
-        (frames_in (job rate first media drop) (end_of s -ℤ begin_of s))) (begin_of s)
+        covers rate first media drop wide
+        (event_by (job rate first media drop wide) c s.past s.past.lap
+        (side_of (job rate first media drop wide) r s.start (begin_of s)
+        (frames_in (job rate first media drop wide) (end_of s -ℤ begin_of s))) (begin_of s)
         (end_of s))
         at front m (gives rate kind s.item (m -ℤ at)) es rest
-        (recorded rate first media drop (begin_of s) at b)
-        (recorded rate first media drop (end_of s) front ends)
+        (recorded rate first media drop wide (begin_of s) at b)
+        (recorded rate first media drop wide (end_of s) front ends)
         (λ low high.
-        ap (λ o. cross_shows rate media (cross_in (job rate first media drop) s.past o)
-        (side_of (job rate first media drop) r s.start (begin_of s)
-        (frames_in (job rate first media drop) (end_of s -ℤ begin_of s))) (m -ℤ at)) none
-        ∙ sym (side_of_clip rate first media drop kind c s r (begin_of s)
-        (frames_in (job rate first media drop) (end_of s -ℤ begin_of s)) (pos 0) (m -ℤ at) keys
+        ap (λ o. cross_shows rate media (cross_in (job rate first media drop wide) s.past o)
+        (side_of (job rate first media drop wide) r s.start (begin_of s)
+        (frames_in (job rate first media drop wide) (end_of s -ℤ begin_of s))) (m -ℤ at)) none
+        ∙ sym (side_of_clip rate first media drop wide kind c s r (begin_of s)
+        (frames_in (job rate first media drop wide) (end_of s -ℤ begin_of s)) (pos 0) (m -ℤ at) keys
         free is (ap (λ z. z || is_there (lap_behind s)) t) (omega (arith, ints, b, start))
-        (phase_at (job rate first media drop) s r f t))
+        (phase_at (job rate first media drop wide) s r f t))
         ∙ ap (gives rate kind s.item) (omega (arith, ints)))
         behind
     shown r is false t =
         let b : begin_of s ≡ at *ℤ pos (ticks rate) = ap (λ o. begin_or o s.start) none ∙ start in
         let l = not_lt (begin_of s) (end_of s) t in
         let h = frames_le rate front at (omega (arith, ints, l, b, ends)) in
-        behind ∙ no_event rate first media drop at front m (gives rate kind s.item (m -ℤ at)) rest
+        behind ∙ no_event rate first media drop wide at front m (gives rate kind s.item (m -ℤ at))
+        rest
         (λ low high. absurd (omega (arith, ints, low, high, h)))
 
     by : (o : Option ClipRow) → clip_in s.item ≡ o → events_show rate media
-        (cons_option (item_event (job rate first media drop) c s o) es) (first +ℤ m) ≡ cond
+        (cons_option (item_event (job rate first media drop wide) c s o) es) (first +ℤ m) ≡ cond
         (within at front m) (gives rate kind s.item (m -ℤ at)) rest
     by None e =
         ap (λ o. events_show rate media
-        (cons_option (black_event (job rate first media drop) c s.past o) es) (first +ℤ m)) none
-        ∙ behind ∙ no_event rate first media drop at front m (gives rate kind s.item (m -ℤ at)) rest
+        (cons_option (black_event (job rate first media drop wide) c s.past o) es) (first +ℤ m))
+        none
+        ∙ behind ∙ no_event rate first media drop wide at front m (gives rate kind s.item (m -ℤ at))
+        rest
         (λ low high. black_gives rate kind s.item (m -ℤ at) free.item (ap is_there e)
         ∙ sym (before high))
     by (Some r) e = shown r e (int_lt (begin_of s) (end_of s)) refl
 
 -- ---- what an item leaves behind it
 
-pub item_stands : (rate : Rate) (first : ℤ) (media : MediaRows) (drop : Bool) (kind : Watch)
+pub item_stands : (rate : Rate) (first : ℤ) (media : MediaRows) (drop wide : Bool) (kind : Watch)
     (c : Channel) (s : Seat) (at n u : ℤ) → KnowsKeys kind.key media
-    → ItemFree (job rate first media drop) c s
+    → ItemFree (job rate first media drop wide) c s
     → s.start ≡ at *ℤ pos (ticks rate) → length_in s.item ≡ n *ℤ pos (ticks rate)
     → u ≡ s.start +ℤ length_in s.item
-    → Stands rate first media drop (Some (record { item = s.item; start = s.start })) (at +ℤ n) u
+    → Stands rate first media drop wide (Some (record { item = s.item; start = s.start })) (at +ℤ n)
+    u
     s.next (λ k. gives rate kind s.item (k +ℤ n))
-item_stands rate first media drop kind c s at n u keys free start long here = record {
+item_stands rate first media drop wide kind c s at n u keys free start long here = record {
   black = λ e k. black_gives rate kind s.item (k +ℤ n) free.item e;
   shown = λ lap b e f k. goes lap b e f k (clip_in s.item) refl;
 }
@@ -362,14 +375,14 @@ item_stands rate first media drop kind c s at n u keys free start long here = re
     black_out : (o : Option ClipRow) → o ≡ None → (z : ℤ)
         → elim o [
           | None ↦ black_side (pos 0)
-          | Some r ↦ side_of (job rate first media drop) r
+          | Some r ↦ side_of (job rate first media drop wide) r
               s.start z (pos 0)
         ] ≡ black_side (pos 0)
     black_out o e z =
         ap
         (λ o. elim o [
           | None ↦ black_side (pos 0)
-          | Some r ↦ side_of (job rate first media drop) r
+          | Some r ↦ side_of (job rate first media drop wide) r
               s.start z (pos 0)
         ]) e
 
@@ -379,7 +392,7 @@ item_stands rate first media drop kind c s at n u keys free start long here = re
         (elim (clip_in s.item) [
           | None ↦ black_side (pos 0)
           | Some r ↦ side_of
-              (job rate first media drop) r s.start lap.begin (pos 0)
+              (job rate first media drop wide) r s.start lap.begin (pos 0)
         ]) k ≡ gives rate kind s.item
         ((k -ℤ b) +ℤ n)
     goes lap b e f k None is = ap (λ z. side_shows rate media z k)
@@ -397,12 +410,13 @@ item_stands rate first media drop kind c s at n u keys free start long here = re
         (λ o. side_shows rate media
         (elim o [
           | None ↦ black_side (pos 0)
-          | Some r ↦ side_of (job rate first media drop) r
+          | Some r ↦ side_of (job rate first media drop wide) r
               s.start lap.begin (pos 0)
         ]) k) is
-        ∙ sym (side_of_clip rate first media drop kind c s r lap.begin (pos 0) (n -ℤ b) k keys free
+        ∙ sym (side_of_clip rate first media drop wide kind c s r lap.begin (pos 0) (n -ℤ b) k keys
+        free
         is seen (omega (arith, ints, f, t, g, start))
-        (phase_out (job rate first media drop) s r lap (free.clip r is seen) behind))
+        (phase_out (job rate first media drop wide) s r lap (free.clip r is seen) behind))
         ∙ ap (gives rate kind s.item) (omega (arith, ints))
       where
         or_true : (q : Bool) → (q || true) ≡ true
@@ -412,19 +426,20 @@ item_stands rate first media drop kind c s at n u keys free start long here = re
 -- ---- an overlap with black behind it
 
 -- what stands before is empty and what comes is too, or the event to black shows it
-pub black_step : (rate : Rate) (first : ℤ) (media : MediaRows) (drop : Bool) (c : Channel)
+pub black_step : (rate : Rate) (first : ℤ) (media : MediaRows) (drop wide : Bool) (c : Channel)
     (past : Past) (o : Overlap) (u at front m : ℤ) (b a : ℕ) (l : List (ItemOf Listed))
     (last gives : ℤ → Image) (es : List Event) (rest : Image)
     → u ≡ at *ℤ pos (ticks rate) → o.before ≡ pos b *ℤ pos (ticks rate) → o.after ≡ pos a *ℤ pos
     (ticks rate) → (is_there (lap_at u o) && is_other_kind (kind_of o.kind)) ≡ false
-    → Stands rate first media drop past.item at u l last → next_lap u l ≡ lap_at u o
+    → Stands rate first media drop wide past.item at u l last → next_lap u l ≡ lap_at u o
     → ((k : ℤ) → gives k ≡ Empty) → (at +ℤ pos a) ≤ℤ front → events_show rate media es
     (first +ℤ m) ≡ rest → (m <ℤ front → rest ≡ Empty)
     → events_show rate media
-    (cons_option (black_event (job rate first media drop) c (record past { lap = lap_at u o })
+    (cons_option (black_event (job rate first media drop wide) c (record past { lap = lap_at u o })
     (lap_at u o)) es) (first +ℤ m) ≡ cond (within (at -ℤ pos b) front m)
     (crossed o.kind b a at last gives m) rest
-black_step rate first media drop c past o u at front m b a l last gives es rest e before after other
+black_step rate first media drop wide c past o u at front m b a l last gives es rest e before after
+    other
     stands next empty late behind none = by (int_lt (pos 0) (o.before +ℤ o.after)) refl
   where
     lap : Lap
@@ -434,8 +449,8 @@ black_step rate first media drop c past o u at front m b a l last gives es rest 
     past_of z = record { item = past.item; lap = z; low = past.low }
 
     event : Event
-    event = event_by (job rate first media drop) c (past_of (Some lap)) (Some lap)
-        (black_side (frames_in (job rate first media drop) (lap.end -ℤ lap.begin))) lap.begin
+    event = event_by (job rate first media drop wide) c (past_of (Some lap)) (Some lap)
+        (black_side (frames_in (job rate first media drop wide) (lap.end -ℤ lap.begin))) lap.begin
         lap.end
 
     after_lap : (at +ℤ pos a) ≤ℤ m → m <ℤ front → crossed o.kind b a at last gives m ≡ rest
@@ -455,7 +470,7 @@ black_step rate first media drop c past o u at front m b a l last gives es rest 
         (yes (at -ℤ pos b) (at +ℤ pos a) m h k
         ∙ sym (yes (at -ℤ pos b) front m h (omega (arith, ints, k, late)))))
         (λ k. ap (λ t. cond t (crossed o.kind b a at last gives m) rest)
-        (above (at -ℤ pos b) (at +ℤ pos a) m k) ∙ no_event rate first media drop (at -ℤ pos b)
+        (above (at -ℤ pos b) (at +ℤ pos a) m k) ∙ no_event rate first media drop wide (at -ℤ pos b)
         front m (crossed o.kind b a at last gives m) rest (λ low high. after_lap k high)))
 
     empty_mix : (x y : Image) (p w : ℤ) → x ≡ Empty → y ≡ Empty → mix_of (kind_of o.kind) x y p w ≡
@@ -475,18 +490,18 @@ black_step rate first media drop c past o u at front m b a l last gives es rest 
         let begins : lap.begin ≡ (at -ℤ pos b) *ℤ pos (ticks rate) =
         omega (arith, ints, e, before, s) in
         let ends : lap.end ≡ (at +ℤ pos a) *ℤ pos (ticks rate) = omega (arith, ints, e, after, r) in
-        covers rate first media drop event (at -ℤ pos b) (at +ℤ pos a) m
+        covers rate first media drop wide event (at -ℤ pos b) (at +ℤ pos a) m
         (crossed o.kind b a at last gives m) es rest
-        (recorded rate first media drop lap.begin (at -ℤ pos b) begins)
-        (recorded rate first media drop lap.end (at +ℤ pos a) ends)
+        (recorded rate first media drop wide lap.begin (at -ℤ pos b) begins)
+        (recorded rate first media drop wide lap.end (at +ℤ pos a) ends)
         (λ low high. pair_shows rate media o.kind b a
-        (unsigned_abs (frames_in (job rate first media drop) (lap.end -ℤ lap.begin))) at m
-        (side_out (job rate first media drop) past.item lap.begin) event.to last gives
-        (lap_frames rate first media drop u o b a before after) other_kind
+        (unsigned_abs (frames_in (job rate first media drop wide) (lap.end -ℤ lap.begin))) at m
+        (side_out (job rate first media drop wide) past.item lap.begin) event.to last gives
+        (lap_frames rate first media drop wide u o b a before after) other_kind
         (λ k. stands.shown lap (pos b) next_is begins k) (λ k. sym (empty (k -ℤ pos b))))
         behind
         ∙ shorter
-    there g false t = behind ∙ no_event rate first media drop (at -ℤ pos b) front m
+    there g false t = behind ∙ no_event rate first media drop wide (at -ℤ pos b) front m
         (crossed o.kind b a at last gives m) rest (λ low high. by_lt_z m (at +ℤ pos a)
         (λ k. crossed_in o.kind b a at last gives m k ∙ empty_mix (last (m -ℤ at)) (gives (m -ℤ at))
         (m -ℤ (at -ℤ pos b)) (pos b +ℤ pos a) (stands.black t (m -ℤ at)) (empty (m -ℤ at))
@@ -495,7 +510,7 @@ black_step rate first media drop c past o u at front m b a l last gives es rest 
 
     by : (t : Bool) → int_lt (pos 0) (o.before +ℤ o.after) ≡ t
         → events_show rate media
-        (cons_option (black_event (job rate first media drop) c
+        (cons_option (black_event (job rate first media drop wide) c
         (past_of (cond t (Some lap) None)) (cond t (Some lap) None)) es) (first +ℤ m) ≡ cond
         (within (at -ℤ pos b) front m) (crossed o.kind b a at last gives m) rest
     by true g = there g (is_there (clip_before past.item)) refl
@@ -504,26 +519,28 @@ black_step rate first media drop c past o u at front m b a l last gives es rest 
         let s = sum-times (pos b) (pos a) (ticks rate) in
         let z = frames_le rate (pos b +ℤ pos a) (pos 0) (omega (arith, ints, p, before, after, s))
         in
-        behind ∙ no_event rate first media drop (at -ℤ pos b) front m
+        behind ∙ no_event rate first media drop wide (at -ℤ pos b) front m
         (crossed o.kind b a at last gives m) rest
         (λ low high. after_lap (omega (arith, ints, low, z)) high)
 
 -- ---- an overlap with a clip behind it
 
-pub clip_step : (rate : Rate) (first : ℤ) (media : MediaRows) (drop : Bool) (kind : Watch)
+pub clip_step : (rate : Rate) (first : ℤ) (media : MediaRows) (drop wide : Bool) (kind : Watch)
     (c : Channel) (past : Past) (o : Overlap) (s : Seat) (r : ClipRow) (u at front m : ℤ) (b a : ℕ)
     (l : List (ItemOf Listed)) (last : ℤ → Image) (es : List Event) (rest : Image)
-    → KnowsKeys kind.key media → ItemFree (job rate first media drop) c s → clip_in s.item ≡ Some r
+    → KnowsKeys kind.key media → ItemFree (job rate first media drop wide) c s
+    → clip_in s.item ≡ Some r
     → s.start ≡ u → s.past ≡ record past { lap = lap_at u o }
     → u ≡ at *ℤ pos (ticks rate) → o.before ≡ pos b *ℤ pos (ticks rate) → o.after ≡ pos a *ℤ pos
     (ticks rate) → (is_there (lap_at u o) && is_other_kind (kind_of o.kind)) ≡ false
-    → Stands rate first media drop past.item at u l last → next_lap u l ≡ lap_at u o
+    → Stands rate first media drop wide past.item at u l last → next_lap u l ≡ lap_at u o
     → end_of s ≡ front *ℤ pos (ticks rate) → (at +ℤ pos a) ≤ℤ front → events_show rate media es
     (first +ℤ m) ≡ rest → (m <ℤ front → rest ≡ Empty)
-    → events_show rate media (cons_option (clip_event (job rate first media drop) c s r) es)
+    → events_show rate media (cons_option (clip_event (job rate first media drop wide) c s r) es)
     (first +ℤ m) ≡ cond (within (at -ℤ pos b) front m)
     (crossed o.kind b a at last (gives rate kind s.item) m) rest
-clip_step rate first media drop kind c past o s r u at front m b a l last es rest keys free is start
+clip_step rate first media drop wide kind c past o s r u at front m b a l last es rest keys free is
+    start
     past_is e before after other stands next ends late behind none =
     by (int_lt (begin_of s) (end_of s)) refl
   where
@@ -537,8 +554,8 @@ clip_step rate first media drop kind c past o s r u at front m b a l last es res
     begins = ap₂ begin_or lap_is start ∙ lap_begins rate o u at b a e before after
 
     to : Side
-    to = side_of (job rate first media drop) r s.start (begin_of s)
-        (frames_in (job rate first media drop) (end_of s -ℤ begin_of s))
+    to = side_of (job rate first media drop wide) r s.start (begin_of s)
+        (frames_in (job rate first media drop wide) (end_of s -ℤ begin_of s))
 
     comes : int_lt (begin_of s) (end_of s) ≡ true → (k : ℤ) → side_shows rate media to k ≡ gives
         rate kind s.item (k -ℤ pos b)
@@ -546,16 +563,17 @@ clip_step rate first media drop kind c past o s r u at front m b a l last es res
         let f = free.clip r is (ap (λ z. z || is_there (lap_behind s)) t) in
         let g = times-minus at (pos b) (ticks rate) in let h = times-minus (pos 0) (pos b)
         (ticks rate) in
-        sym (side_of_clip rate first media drop kind c s r (begin_of s)
-        (frames_in (job rate first media drop) (end_of s -ℤ begin_of s)) (pos 0 -ℤ pos b) k keys
+        sym (side_of_clip rate first media drop wide kind c s r (begin_of s)
+        (frames_in (job rate first media drop wide) (end_of s -ℤ begin_of s)) (pos 0 -ℤ pos b) k
+        keys
         free is (ap (λ z. z || is_there (lap_behind s)) t)
         (omega (arith, ints, begins, g, h, start, e))
-        (phase_at (job rate first media drop) s r f t))
+        (phase_at (job rate first media drop wide) s r f t))
         ∙ ap (gives rate kind s.item) (omega (arith, ints))
 
     cross_by : int_lt (begin_of s) (end_of s) ≡ true → (at -ℤ pos b) ≤ℤ m → (t : Bool)
         → int_lt (pos 0) (o.before +ℤ o.after) ≡ t
-        → cross_shows rate media (cross_in (job rate first media drop) s.past
+        → cross_shows rate media (cross_in (job rate first media drop wide) s.past
         (cond t (Some (record { type = o.kind; begin = u -ℤ o.before; end = u +ℤ o.after }))
         None)) to (m -ℤ (at -ℤ pos b)) ≡ crossed o.kind b a at last (gives rate kind s.item) m
     cross_by t low true g =
@@ -566,11 +584,12 @@ clip_step rate first media drop kind c past o s r u at front m b a l last es res
         ∙ other in
         let q = times-minus at (pos b) (ticks rate) in
         pair_shows rate media o.kind b a
-        (unsigned_abs (frames_in (job rate first media drop) (lap.end -ℤ lap.begin))) at m
-        (side_out (job rate first media drop) s.past.item lap.begin) to last
+        (unsigned_abs (frames_in (job rate first media drop wide) (lap.end -ℤ lap.begin))) at m
+        (side_out (job rate first media drop wide) s.past.item lap.begin) to last
         (gives rate kind s.item)
-        (lap_frames rate first media drop u o b a before after) other_kind
-        (λ k. ap (λ z. side_shows rate media (side_out (job rate first media drop) z lap.begin) k)
+        (lap_frames rate first media drop wide u o b a before after) other_kind
+        (λ k. ap (λ z. side_shows rate media (side_out (job rate first media drop wide) z lap.begin)
+        k)
         item_is ∙ stands.shown lap (pos b) next_is (omega (arith, ints, e, before, q)) k)
         (comes t)
     cross_by t low false g =
@@ -585,163 +604,185 @@ clip_step rate first media drop kind c past o s r u at front m b a l last es res
     by : (t : Bool) → int_lt (begin_of s) (end_of s) ≡ t → events_show rate media
         (cons_option
         (cond t
-        (Some (event_by (job rate first media drop) c s.past s.past.lap to (begin_of s) (end_of s)))
+        (Some (event_by (job rate first media drop wide) c s.past s.past.lap to (begin_of s)
+        (end_of s)))
         None) es) (first +ℤ m)
         ≡ cond (within (at -ℤ pos b) front m)
         (crossed o.kind b a at last (gives rate kind s.item) m) rest
-    by true t = covers rate first media drop
-        (event_by (job rate first media drop) c s.past s.past.lap to (begin_of s) (end_of s))
+    by true t = covers rate first media drop wide
+        (event_by (job rate first media drop wide) c s.past s.past.lap to (begin_of s) (end_of s))
         (at -ℤ pos b) front m (crossed o.kind b a at last (gives rate kind s.item) m) es rest
-        (recorded rate first media drop (begin_of s) (at -ℤ pos b) begins)
-        (recorded rate first media drop (end_of s) front ends)
-        (λ low high. ap (λ z. cross_shows rate media (cross_in (job rate first media drop) s.past z)
+        (recorded rate first media drop wide (begin_of s) (at -ℤ pos b) begins)
+        (recorded rate first media drop wide (end_of s) front ends)
+        (λ low high. ap (λ z. cross_shows rate media
+        (cross_in (job rate first media drop wide) s.past z)
         to (m -ℤ (at -ℤ pos b))) lap_is ∙ cross_by t low (int_lt (pos 0) (o.before +ℤ o.after))
         refl)
         behind
     by false t =
         let x = not_lt (begin_of s) (end_of s) t in
         let h = frames_le rate front (at -ℤ pos b) (omega (arith, ints, x, begins, ends)) in
-        behind ∙ no_event rate first media drop (at -ℤ pos b) front m
+        behind ∙ no_event rate first media drop wide (at -ℤ pos b) front m
         (crossed o.kind b a at last (gives rate kind s.item) m) rest
         (λ low high. absurd (omega (arith, ints, low, high, h)))
 
 -- what comes in behind an overlap: a clip, or black
-comes : (rate : Rate) (first : ℤ) (media : MediaRows) (drop : Bool) (kind : Watch) (c : Channel)
+comes : (rate : Rate) (first : ℤ) (media : MediaRows) (drop wide : Bool) (kind : Watch)
+    (c : Channel)
     (past : Past) (o : Overlap) (s : Seat) (u at front m : ℤ) (b a : ℕ) (l : List (ItemOf Listed))
     (last : ℤ → Image) (es : List Event) (rest : Image)
-    → KnowsKeys kind.key media → ItemFree (job rate first media drop) c s → s.start ≡ u
+    → KnowsKeys kind.key media → ItemFree (job rate first media drop wide) c s → s.start ≡ u
     → s.past ≡ record past { lap = lap_at u o }
     → u ≡ at *ℤ pos (ticks rate) → o.before ≡ pos b *ℤ pos (ticks rate) → o.after ≡ pos a *ℤ pos
     (ticks rate) → (is_there (lap_at u o) && is_other_kind (kind_of o.kind)) ≡ false
-    → Stands rate first media drop past.item at u l last → next_lap u l ≡ lap_at u o
+    → Stands rate first media drop wide past.item at u l last → next_lap u l ≡ lap_at u o
     → end_of s ≡ front *ℤ pos (ticks rate) → (at +ℤ pos a) ≤ℤ front → events_show rate media es
     (first +ℤ m) ≡ rest → (m <ℤ front → rest ≡ Empty)
     → events_show rate media
-    (cons_option (item_event (job rate first media drop) c s (clip_in s.item)) es) (first +ℤ m)
+    (cons_option (item_event (job rate first media drop wide) c s (clip_in s.item)) es) (first +ℤ m)
     ≡ cond (within (at -ℤ pos b) front m)
     (crossed o.kind b a at last (gives rate kind s.item) m) rest
-comes rate first media drop kind c past o s u at front m b a l last es rest keys free start past_is
+comes rate first media drop wide kind c past o s u at front m b a l last es rest keys free start
+    past_is
     e before after other stands next ends late behind none = by (clip_in s.item) refl
   where
     by : (q : Option ClipRow) → clip_in s.item ≡ q → events_show rate media
-        (cons_option (item_event (job rate first media drop) c s q) es) (first +ℤ m) ≡ cond
+        (cons_option (item_event (job rate first media drop wide) c s q) es) (first +ℤ m) ≡ cond
         (within (at -ℤ pos b) front m) (crossed o.kind b a at last (gives rate kind s.item) m) rest
     by None is =
         ap (λ (p : Past). events_show rate media
-        (cons_option (black_event (job rate first media drop) c p p.lap) es) (first +ℤ m))
+        (cons_option (black_event (job rate first media drop wide) c p p.lap) es) (first +ℤ m))
         past_is
-        ∙ black_step rate first media drop c past o u at front m b a l last (gives rate kind s.item)
+        ∙ black_step rate first media drop wide c past o u at front m b a l last
+        (gives rate kind s.item)
         es rest e before after other stands next
         (λ k. black_gives rate kind s.item k free.item (ap is_there is)) late behind none
-    by (Some r) is = clip_step rate first media drop kind c past o s r u at front m b a l last es
+    by (Some r) is = clip_step rate first media drop wide kind c past o s r u at front m b a l last
+        es
         rest keys free is start past_is e before after other stands next ends late behind none
 
 -- ---- the events of a track
 
-abbrev pub events_from : Rate → ℤ → MediaRows → Bool → Channel → ℤ → Past → List (ItemOf Listed)
+abbrev pub events_from : Rate → ℤ → MediaRows → (drop wide : Bool) → Channel → ℤ → Past
+    → List (ItemOf Listed)
     → List Event
-events_from rate first media drop c u past l = filter_map (event_of (job rate first media drop) c)
+events_from rate first media drop wide c u past l =
+    filter_map (event_of (job rate first media drop wide) c)
     (seats u past l)
 
 -- the same with an item in front, by its overlap
-abbrev pub events_by : Rate → ℤ → MediaRows → Bool → Channel → ℤ → Past → ItemOf Listed
+abbrev pub events_by : Rate → ℤ → MediaRows → (drop wide : Bool) → Channel → ℤ → Past
+    → ItemOf Listed
     → List (ItemOf Listed) → Option Overlap → List Event
-events_by rate first media drop c u past x l overlap =
+events_by rate first media drop wide c u past x l overlap =
     let s : Seat = record { item = x; start = u; past = past; next = l } in
     cons_option (elim overlap [
-      | None ↦ item_event (job rate first media drop) c s (clip_in x)
-      | Some o ↦ tail_event (job rate first media drop) c s o l
+      | None ↦ item_event (job rate first media drop wide) c s (clip_in x)
+      | Some o ↦ tail_event (job rate first media drop wide) c s o l
     ])
-    (events_from rate first media drop c (u +ℤ length_in x) (past_by overlap x u past) l)
+    (events_from rate first media drop wide c (u +ℤ length_in x) (past_by overlap x u past) l)
 
 -- from a cut on, the events of a track that is carried show its stretches
-pub events_match : (rate : Rate) (first : ℤ) (media : MediaRows) (drop : Bool) (kind : Watch)
+pub events_match : (rate : Rate) (first : ℤ) (media : MediaRows) (drop wide : Bool) (kind : Watch)
     (c : Channel) → KnowsKeys kind.key media → (low at u m : ℤ) (past : Past)
     (l : List (ItemOf Listed)) (bits : List Bit) (last : ℤ → Image)
     → u ≡ at *ℤ pos (ticks rate) → past.lap ≡ None → AreBitsOf rate kind l bits → Fits low at bits
-    → AreFree (job rate first media drop) c u past l → AreCalm l → low ≤ℤ at
-    → Stands rate first media drop past.item at u l last
-    → events_show rate media (events_from rate first media drop c u past l) (first +ℤ m) ≡
+    → AreFree (job rate first media drop wide) c u past l → AreCalm l → low ≤ℤ at
+    → Stands rate first media drop wide past.item at u l last
+    → events_show rate media (events_from rate first media drop wide c u past l) (first +ℤ m) ≡
     stretches_show (stretches at last bits) m
-events_match rate first media drop kind c keys low at u m past [] [] last e none are fit free calm
+events_match rate first media drop wide kind c keys low at u m past [] [] last e none are fit free
+    calm
     late stands = refl
-events_match rate first media drop kind c keys low at u m past [] (b ∷ bits) last e none are fit
+events_match rate first media drop wide kind c keys low at u m past [] (b ∷ bits) last e none are
+    fit
     free calm late stands = absurd are
-events_match rate first media drop kind c keys low at u m past (x ∷ l) [] last e none are fit free
+events_match rate first media drop wide kind c keys low at u m past (x ∷ l) [] last e none are fit
+    free
     calm late stands = absurd are
-events_match rate first media drop kind c keys low at u m past (x ∷ l) ((piece n g) ∷ bits) last e
+events_match rate first media drop wide kind c keys low at u m past (x ∷ l) ((piece n g) ∷ bits)
+    last e
     none are fit free calm late stands =
     let s : Seat = record { item = x; start = u; past = past; next = l } in
     let is = are.0.0 in let long = are.0.1 in let n_low = are.0.2 in
     let t = sum-times at n (ticks rate) in
-    let item = item_free (job rate first media drop) c s free.0 is in
+    let item = item_free (job rate first media drop wide) c s free.0 is in
     let there : u +ℤ length_in x ≡ (at +ℤ n) *ℤ pos (ticks rate) = omega (arith, ints, e, long, t)
     in
     let rest = stretches_show (stretches (at +ℤ n) (λ k. gives rate kind x (k +ℤ n)) bits) m in
     ap (λ o. events_show rate media
-    (events_by rate first media drop c u past x l o) (first +ℤ m)) is
-    ∙ piece_step rate first media drop kind c s at (front_of (at +ℤ n) bits) m
-    (events_from rate first media drop c (u +ℤ length_in x) (past_by None x u past) l) rest keys
+    (events_by rate first media drop wide c u past x l o) (first +ℤ m)) is
+    ∙ piece_step rate first media drop wide kind c s at (front_of (at +ℤ n) bits) m
+    (events_from rate first media drop wide c (u +ℤ length_in x) (past_by None x u past) l) rest
+    keys
     item none e
     (front_is rate kind (at +ℤ n) (u +ℤ length_in x) l bits there are.1)
-    (events_match rate first media drop kind c keys at (at +ℤ n) (u +ℤ length_in x) m
+    (events_match rate first media drop wide kind c keys at (at +ℤ n) (u +ℤ length_in x) m
     (past_by None x u past) l bits (λ k. gives rate kind x (k +ℤ n)) there refl are.1 fit.1
-    (subst (λ o. AreFree (job rate first media drop) c (u +ℤ length_in x) (past_by o x u past) l) is
+    (subst (λ o. AreFree (job rate first media drop wide) c (u +ℤ length_in x) (past_by o x u past)
+    l) is
     free.1) calm.1 (omega (arith, ints, n_low))
-    (item_stands rate first media drop kind c s at n (u +ℤ length_in x) keys item e long refl))
+    (item_stands rate first media drop wide kind c s at n (u +ℤ length_in x) keys item e long refl))
     (λ h. stretches_before at (at +ℤ n) m (λ k. gives rate kind x (k +ℤ n)) bits fit.1
     (omega (arith, ints, n_low)) h)
     ∙ ap (λ h. stretches_show (stretches at last (piece n h ∷ bits)) m) (sym are.0.3)
-events_match rate first media drop kind c keys low at u m past (x ∷ []) ((cross type b a) ∷ []) last
+events_match rate first media drop wide kind c keys low at u m past (x ∷ []) ((cross type b a) ∷ [])
+    last
     e none are fit free calm late stands =
     let s : Seat = record { item = x; start = u; past = past; next = [] } in
     let o = are.0.0 in
-    let f = cross_free (job rate first media drop) c s o free.0 are.0.1 in
+    let f = cross_free (job rate first media drop wide) c s o free.0 are.0.1 in
     ap (λ o. events_show rate media
-    (events_by rate first media drop c u past x [] o) (first +ℤ m)) are.0.1
-    ∙ black_step rate first media drop c past o u at (at +ℤ pos a) m b a (x ∷ []) last nothing []
+    (events_by rate first media drop wide c u past x [] o) (first +ℤ m)) are.0.1
+    ∙ black_step rate first media drop wide c past o u at (at +ℤ pos a) m b a (x ∷ []) last nothing
+    []
     Empty e are.0.4 are.0.5 f.kind stands (ap (λ o. option_and_then (lap_at u) o) are.0.1)
     (λ k. refl) (omega (arith, ints)) refl (λ h. refl)
     ∙ ap (λ q. stretches_show (stretches at last (cross q b a ∷ [])) m) are.0.3
-events_match rate first media drop kind c keys low at u m past (x ∷ y ∷ l) ((cross type b a) ∷ [])
+events_match rate first media drop wide kind c keys low at u m past (x ∷ y ∷ l)
+    ((cross type b a) ∷ [])
     last e none are fit free calm late stands = absurd are.1
-events_match rate first media drop kind c keys low at u m past (x ∷ [])
+events_match rate first media drop wide kind c keys low at u m past (x ∷ [])
     ((cross type b a) ∷ (piece n g) ∷ bits) last e none are fit free calm late stands = absurd are.1
-events_match rate first media drop kind c keys low at u m past (x ∷ y ∷ l)
+events_match rate first media drop wide kind c keys low at u m past (x ∷ y ∷ l)
     ((cross type b a) ∷ (piece n g) ∷ bits) last e none are fit free calm late stands =
     let s : Seat = record { item = x; start = u; past = past; next = y ∷ l } in
     let o = are.0.0 in
-    let f = cross_free (job rate first media drop) c s o free.0 are.0.1 in
+    let f = cross_free (job rate first media drop wide) c s o free.0 are.0.1 in
     let between : Past = past_by (Some o) x u past in
     let s2 : Seat = record { item = y; start = u; past = between; next = l } in
     let is = are.1.0.0 in let long = are.1.0.1 in let n_low = are.1.0.2 in
     let point = are.0.2 in
     let t = sum-times at n (ticks rate) in
     let here : u +ℤ length_in x ≡ u = omega (arith, ints, point) in
-    let free2 = subst (λ z. AreFree (job rate first media drop) c z between (y ∷ l)) here
-    (subst (λ o. AreFree (job rate first media drop) c (u +ℤ length_in x) (past_by o x u past)
+    let free2 = subst (λ z. AreFree (job rate first media drop wide) c z between (y ∷ l)) here
+    (subst (λ o. AreFree (job rate first media drop wide) c (u +ℤ length_in x) (past_by o x u past)
     (y ∷ l)) are.0.1 free.1) in
-    let item = item_free (job rate first media drop) c s2 free2.0 is in
+    let item = item_free (job rate first media drop wide) c s2 free2.0 is in
     let there : u +ℤ length_in y ≡ (at +ℤ n) *ℤ pos (ticks rate) = omega (arith, ints, e, long, t)
     in
     let rest = stretches_show (stretches (at +ℤ n) (λ k. gives rate kind y (k +ℤ n)) bits) m in
-    let es = events_from rate first media drop c (u +ℤ length_in y) (past_by None y u between) l in
-    let more = events_match rate first media drop kind c keys (at +ℤ pos a) (at +ℤ n)
+    let es = events_from rate first media drop wide c (u +ℤ length_in y) (past_by None y u between)
+    l in
+    let more = events_match rate first media drop wide kind c keys (at +ℤ pos a) (at +ℤ n)
     (u +ℤ length_in y) m (past_by None y u between) l bits (λ k. gives rate kind y (k +ℤ n))
     there refl are.1.1 fit.2
-    (subst (λ q. AreFree (job rate first media drop) c (u +ℤ length_in y) (past_by q y u between) l)
+    (subst (λ q. AreFree (job rate first media drop wide) c (u +ℤ length_in y)
+    (past_by q y u between) l)
     is free2.1) calm.1.1 (let w = fit.1 in omega (arith, ints, w))
-    (item_stands rate first media drop kind c s2 at n (u +ℤ length_in y) keys item e long refl) in
+    (item_stands rate first media drop wide kind c s2 at n (u +ℤ length_in y) keys item e long refl)
+    in
     let front = front_is rate kind (at +ℤ n) (u +ℤ length_in y) l bits there are.1.1 in
     let w = fit.1 in
     let later = front_late (at +ℤ pos a) (at +ℤ n) bits fit.2 (omega (arith, ints, w)) in
     ap (λ o. events_show rate media
-    (events_by rate first media drop c u past x (y ∷ l) o) (first +ℤ m)) are.0.1
-    ∙ ap (λ z. events_show rate media (events_from rate first media drop c z between (y ∷ l))
+    (events_by rate first media drop wide c u past x (y ∷ l) o) (first +ℤ m)) are.0.1
+    ∙ ap (λ z. events_show rate media (events_from rate first media drop wide c z between (y ∷ l))
     (first +ℤ m)) here
     ∙ ap (λ o. events_show rate media
-    (events_by rate first media drop c u between y l o) (first +ℤ m)) is
-    ∙ comes rate first media drop kind c past o s2 u at (front_of (at +ℤ n) bits) m b a (x ∷ y ∷ l)
+    (events_by rate first media drop wide c u between y l o) (first +ℤ m)) is
+    ∙ comes rate first media drop wide kind c past o s2 u at (front_of (at +ℤ n) bits) m b a
+    (x ∷ y ∷ l)
     last es rest keys item refl refl e are.0.4 are.0.5 f.kind stands
     (ap (λ o. option_and_then (lap_at u) o) are.0.1) front later more
     (λ h. stretches_before (at +ℤ pos a) (at +ℤ n) m (λ k. gives rate kind y (k +ℤ n)) bits
@@ -749,6 +790,6 @@ events_match rate first media drop kind c keys low at u m past (x ∷ y ∷ l)
     ∙ (λ i.
     stretches_show
     (stretches at last (cross (are.0.3 i) b a ∷ piece n (sym are.1.0.3 i) ∷ bits)) m)
-events_match rate first media drop kind c keys low at u m past (x ∷ l)
+events_match rate first media drop wide kind c keys low at u m past (x ∷ l)
     ((cross type b a) ∷ (cross type' b' a') ∷ bits) last e none are fit free calm late stands =
     absurd fit

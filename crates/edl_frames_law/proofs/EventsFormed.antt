@@ -19,7 +19,11 @@ use Rattle.edl_list.specs.Formed.{AreFrames}
 use Rattle.coord.specs.Looks.{Overlap}
 use Rattle.coord.specs.Images.{Kind, Dissolve as IsDissolve, Wipe as IsWipe, Other, kind_of, wipe_code, wipe_or_other, three_digits, is_digit}
 use Rattle.edl_frames.specs.Shown.{MediaRows}
-use Rattle.edl_frames_law.specs.Carried.{event_side, Job, Lap, ItemAt, Past, Seat, lap_at, length_in, begin_or, past_by, next_lap, lap_behind, begin_of, end_of, clip_in, clip_before, is_there, side_of, black_side, side_out, crossing, cross_in, event_by, black_event, clip_event, item_event, is_other_kind, frames_in, record_at, Part, parts_of, event_part, lap_part, is_past_day, is_outside_row, clip_row}
+use Rattle.edl_frames.specs.ChildReasons.{event_side, is_other_kind, Part, parts_of, event_part, lap_part, is_past_day, is_outside_row}
+use Rattle.edl_frames.specs.Jobs.{Job, frames_in, record_at}
+use Rattle.edl_frames.specs.Seats.{Lap, ItemAt, Past, Seat, lap_at, length_in, begin_or, past_by, next_lap, lap_behind, begin_of, end_of, clip_in, clip_before, is_there}
+use Rattle.edl_frames.specs.Sides.{side_of, black_side, side_out, crossing, cross_in, clip_row}
+use Rattle.edl_frames.specs.ChildEvents.{event_by, black_event, clip_event, item_event}
 use Rattle.edl_frames_law.proofs.CalmItems.{AreCalm}
 use Rattle.edl_frames_law.proofs.ListedRates.{any_last, any_first}
 use Rattle.edl_frames_law.proofs.LookSteps.{times_le, times-minus}
@@ -228,10 +232,11 @@ passed : (a b : ℤ) → int_lt a b ≡ true → a <ℤ b
 passed a b e = grind (arith, ints)
 
 -- the frames between two frames of the track
-between : (rate : Rate) (first : ℤ) (media : MediaRows) (drop : Bool) (u v a b : ℤ)
-    → u ≡ a *ℤ pos (ticks rate) → v ≡ b *ℤ pos (ticks rate) → frames_in (job rate first media drop)
+between : (rate : Rate) (first : ℤ) (media : MediaRows) (drop wide : Bool) (u v a b : ℤ)
+    → u ≡ a *ℤ pos (ticks rate) → v ≡ b *ℤ pos (ticks rate)
+    → frames_in (job rate first media drop wide)
     (v -ℤ u) ≡ b -ℤ a
-between rate first media drop u v a b e f =
+between rate first media drop wide u v a b e f =
     let t = times-minus b a (ticks rate) in
     let g : v -ℤ u ≡ (b -ℤ a) *ℤ pos (ticks rate) = omega (arith, ints, e, f, t) in
     ap (λ z. int_div_euclid z (pos (ticks rate))) g
@@ -240,22 +245,25 @@ between rate first media drop u v a b e f =
 
 -- an event of a clip
 pub clip_holds : (Q : Bool → Side → ℤ → Type 0) (rate : Rate) (first : ℤ) (media : MediaRows)
-    (drop : Bool) (c : Channel) (s : Seat) (r : ClipRow) (begin front : ℤ) (es : List Event)
-    → SidesHold Q (job rate first media drop) → ItemFree (job rate first media drop) c s
+    (drop wide : Bool) (c : Channel) (s : Seat) (r : ClipRow) (begin front : ℤ) (es : List Event)
+    → SidesHold Q (job rate first media drop wide) → ItemFree (job rate first media drop wide) c s
     → clip_in s.item ≡ Some r → begin_of s ≡ begin *ℤ pos (ticks rate) → end_of s ≡ front *ℤ pos
     (ticks rate) → begin ≤ℤ front
     → (begin <ℤ front → CrossHolds Q (first +ℤ begin) (first +ℤ front)
-    (cross_in (job rate first media drop) s.past s.past.lap)) → EventsHold Q (first +ℤ front) es
-    → EventsHold Q (first +ℤ begin) (cons_option (clip_event (job rate first media drop) c s r) es)
-clip_holds Q rate first media drop c s r begin front es sides free is begins ends low crosses rest =
+    (cross_in (job rate first media drop wide) s.past s.past.lap))
+    → EventsHold Q (first +ℤ front) es
+    → EventsHold Q (first +ℤ begin) (cons_option (clip_event (job rate first media drop wide) c s r)
+    es)
+clip_holds Q rate first media drop wide c s r begin front es sides free is begins ends low crosses
+    rest =
     by (int_lt (begin_of s) (end_of s)) refl
   where
     p : Part
     p = record {
       at = begin_of s;
-      frames = frames_in (job rate first media drop)
+      frames = frames_in (job rate first media drop wide)
           (end_of s -ℤ begin_of s);
-      counted = frames_in (job rate first media drop)
+      counted = frames_in (job rate first media drop wide)
           (end_of s -ℤ begin_of s);
     }
 
@@ -263,30 +271,34 @@ clip_holds Q rate first media drop c s r begin front es sides free is begins end
         → EventsHold Q (first +ℤ begin)
         (cons_option
         (cond t
-        (Some (event_by (job rate first media drop) c s.past s.past.lap
-        (side_of (job rate first media drop) r s.start (begin_of s) p.frames) (begin_of s)
+        (Some (event_by (job rate first media drop wide) c s.past s.past.lap
+        (side_of (job rate first media drop wide) r s.start (begin_of s) p.frames) (begin_of s)
         (end_of s))) None) es)
     by true t =
         let f = free.clip r is (ap (λ z. z || is_there (lap_behind s)) t) in
-        let i = recorded rate first media drop (begin_of s) begin begins in
-        let o = recorded rate first media drop (end_of s) front ends in
+        let i = recorded rate first media drop wide (begin_of s) begin begins in
+        let o = recorded rate first media drop wide (end_of s) front ends in
         let l = passed (begin_of s) (end_of s) t in
         let less = frames_lt rate begin front (omega (arith, ints, l, begins, ends)) in
-        let n = between rate first media drop (begin_of s) (end_of s) begin front begins ends in (
+        let n = between rate first media drop wide (begin_of s) (end_of s) begin front begins ends
+        in (
           record {
             begins = omega (arith, ints, i);
             some = omega (arith, ints, i, o, less);
             to =
                 subst
-                (λ z. Q true (side_of (job rate first media drop) r s.start (begin_of s) p.frames)
-                z) (let e : p.frames ≡ record_at (job rate first media drop) (end_of s) -ℤ record_at
-                (job rate first media drop) (begin_of s) = omega (arith, ints, i, o, n) in e)
-                (sides.clip s r p f (event_free (job rate first media drop) s r f t)
+                (λ z. Q true (side_of (job rate first media drop wide) r s.start (begin_of s)
+                p.frames)
+                z) (let e : p.frames ≡ record_at (job rate first media drop wide) (end_of s)
+                -ℤ record_at
+                (job rate first media drop wide) (begin_of s) = omega (arith, ints, i, o, n) in e)
+                (sides.clip s r p f (event_free (job rate first media drop wide) s r f t)
                 (omega (arith, ints, n, less)) refl);
-            cross = subst (λ z. CrossHolds Q z (record_at (job rate first media drop) (end_of s))
-                (cross_in (job rate first media drop) s.past s.past.lap)) (sym i)
+            cross = subst (λ z. CrossHolds Q z (record_at (job rate first media drop wide)
+                (end_of s))
+                (cross_in (job rate first media drop wide) s.past s.past.lap)) (sym i)
                 (subst (λ z. CrossHolds Q (first +ℤ begin) z
-                (cross_in (job rate first media drop) s.past s.past.lap)) (sym o)
+                (cross_in (job rate first media drop wide) s.past s.past.lap)) (sym o)
                 (crosses less));
           },
           subst (λ z. EventsHold Q z es) (sym o) rest,
@@ -295,16 +307,18 @@ clip_holds Q rate first media drop c s r begin front es sides free is begins end
 
 -- how a pair begins
 pair_holds : (Q : Bool → Side → ℤ → Type 0) (rate : Rate) (first : ℤ) (media : MediaRows)
-    (drop : Bool) (past : Past) (o : Overlap) (u at front : ℤ) (b a : ℕ) (l : List (ItemOf Listed))
+    (drop wide : Bool) (past : Past) (o : Overlap) (u at front : ℤ) (b a : ℕ)
+    (l : List (ItemOf Listed))
     → u ≡ at *ℤ pos (ticks rate) → o.before ≡ pos b *ℤ pos (ticks rate) → o.after ≡ pos a *ℤ pos
     (ticks rate)
     → (is_there (lap_at u o) && is_other_kind (kind_of o.kind)) ≡ false
     → int_lt (pos 999 *ℤ pos (ticks rate)) (o.before +ℤ o.after) ≡ false
-    → Goes Q (job rate first media drop) past.item u l → next_lap u l ≡ lap_at u o
+    → Goes Q (job rate first media drop wide) past.item u l → next_lap u l ≡ lap_at u o
     → (at +ℤ pos a) ≤ℤ front
     → CrossHolds Q (first +ℤ (at -ℤ pos b)) (first +ℤ front)
-    (cross_in (job rate first media drop) (record past { lap = lap_at u o }) (lap_at u o))
-pair_holds Q rate first media drop past o u at front b a l e before after other few goes next late =
+    (cross_in (job rate first media drop wide) (record past { lap = lap_at u o }) (lap_at u o))
+pair_holds Q rate first media drop wide past o u at front b a l e before after other few goes next
+    late =
     by (int_lt (pos 0) (o.before +ℤ o.after)) refl
   where
     past_of : Option Lap → Past
@@ -315,14 +329,14 @@ pair_holds Q rate first media drop past o u at front b a l e before after other 
 
     by : (t : Bool) → int_lt (pos 0) (o.before +ℤ o.after) ≡ t
         → CrossHolds Q (first +ℤ (at -ℤ pos b)) (first +ℤ front)
-        (cross_in (job rate first media drop) (past_of (cond t (Some lap) None))
+        (cross_in (job rate first media drop wide) (past_of (cond t (Some lap) None))
         (cond t (Some lap) None))
     by true g =
         let next_is : next_lap u l ≡ Some lap = next ∙ ap (λ z. cond z (Some lap) None) g in
         let other_kind : is_other_kind (kind_of o.kind) ≡ false =
         ap (λ z. is_there (cond z (Some lap) None) && is_other_kind (kind_of o.kind)) (sym g)
         ∙ other in
-        let n = lap_frames rate first media drop u o b a before after in
+        let n = lap_frames rate first media drop wide u o b a before after in
         let s = sum-times (pos b) (pos a) (ticks rate) in
         let x = passed (pos 0) (o.before +ℤ o.after) g in
         let y = not_lt (pos 999 *ℤ pos (ticks rate)) (o.before +ℤ o.after) few in
@@ -331,11 +345,11 @@ pair_holds Q rate first media drop past o u at front b a l e before after other 
         let most = frames_le rate (pos b +ℤ pos a) (pos 999)
         (omega (arith, ints, y, before, after, s)) in
         let q = times-minus at (pos b) (ticks rate) in let r = sum-times at (pos a) (ticks rate) in
-        let count = between rate first media drop (u -ℤ o.before) (u +ℤ o.after) (at -ℤ pos b)
+        let count = between rate first media drop wide (u -ℤ o.before) (u +ℤ o.after) (at -ℤ pos b)
         (at +ℤ pos a) (omega (arith, ints, e, before, q)) (omega (arith, ints, e, after, r)) in
         crossing_holds Q o.kind
-        (unsigned_abs (frames_in (job rate first media drop) (lap.end -ℤ lap.begin)))
-        (side_out (job rate first media drop) past.item lap.begin) (first +ℤ (at -ℤ pos b))
+        (unsigned_abs (frames_in (job rate first media drop wide) (lap.end -ℤ lap.begin)))
+        (side_out (job rate first media drop wide) past.item lap.begin) (first +ℤ (at -ℤ pos b))
         (first +ℤ front) other_kind
         (record {
           some = omega (arith, ints, n, some);
@@ -343,28 +357,30 @@ pair_holds Q rate first media drop past o u at front b a l e before after other 
           inside =
               omega (arith, ints, n, late);
         })
-        (subst (λ z. Q false (side_out (job rate first media drop) past.item lap.begin) z)
-        (let d : frames_in (job rate first media drop) (lap.end -ℤ lap.begin) ≡ pos
-        (unsigned_abs (frames_in (job rate first media drop) (lap.end -ℤ lap.begin))) =
+        (subst (λ z. Q false (side_out (job rate first media drop wide) past.item lap.begin) z)
+        (let d : frames_in (job rate first media drop wide) (lap.end -ℤ lap.begin) ≡ pos
+        (unsigned_abs (frames_in (job rate first media drop wide) (lap.end -ℤ lap.begin))) =
         omega (arith, ints, count) in d) (goes lap next_is))
     by false g = tt
 
 -- an event to black
 pub black_holds : (Q : Bool → Side → ℤ → Type 0) (rate : Rate) (first : ℤ) (media : MediaRows)
-    (drop : Bool) (c : Channel) (past : Past) (o : Overlap) (u at front : ℤ) (b a : ℕ)
-    (l : List (ItemOf Listed)) (es : List Event) → SidesHold Q (job rate first media drop)
+    (drop wide : Bool) (c : Channel) (past : Past) (o : Overlap) (u at front : ℤ) (b a : ℕ)
+    (l : List (ItemOf Listed)) (es : List Event) → SidesHold Q (job rate first media drop wide)
     → u ≡ at *ℤ pos (ticks rate) → o.before ≡ pos b *ℤ pos (ticks rate)
     → o.after ≡ pos a *ℤ pos (ticks rate)
     → (is_there (lap_at u o) && is_other_kind (kind_of o.kind)) ≡ false
     → int_lt (pos 999 *ℤ pos (ticks rate)) (o.before +ℤ o.after) ≡ false
-    → Goes Q (job rate first media drop) past.item u l → next_lap u l ≡ lap_at u o
+    → Goes Q (job rate first media drop wide) past.item u l → next_lap u l ≡ lap_at u o
     → (at +ℤ pos a) ≤ℤ front → EventsHold Q (first +ℤ front) es
     → EventsHold Q (first +ℤ (at -ℤ pos b))
-    (cons_option (black_event (job rate first media drop) c (record past { lap = lap_at u o })
+    (cons_option (black_event (job rate first media drop wide) c (record past { lap = lap_at u o })
     (lap_at u o)) es)
-black_holds Q rate first media drop c past o u at front b a l es sides e before after other few goes
+black_holds Q rate first media drop wide c past o u at front b a l es sides e before after other few
+    goes
     next late rest = by (int_lt (pos 0) (o.before +ℤ o.after)) refl
-    (pair_holds Q rate first media drop past o u at (at +ℤ pos a) b a l e before after other few
+    (pair_holds Q rate first media drop wide past o u at (at +ℤ pos a) b a l e before after other
+    few
     goes next (omega (arith, ints)))
   where
     past_of : Option Lap → Past
@@ -377,21 +393,21 @@ black_holds Q rate first media drop c past o u at front b a l es sides e before 
     none = earlier Q (first +ℤ (at -ℤ pos b)) (first +ℤ front) es (omega (arith, ints, late)) rest
 
     there : int_lt (pos 0) (o.before +ℤ o.after) ≡ true → CrossHolds Q (first +ℤ (at -ℤ pos b))
-        (first +ℤ (at +ℤ pos a)) (cross_in (job rate first media drop) (past_of (Some lap))
+        (first +ℤ (at +ℤ pos a)) (cross_in (job rate first media drop wide) (past_of (Some lap))
         (Some lap)) → (t : Bool)
         → EventsHold Q (first +ℤ (at -ℤ pos b))
         (cons_option
         (cond t
-        (Some (event_by (job rate first media drop) c (past_of (Some lap)) (Some lap)
-        (black_side (frames_in (job rate first media drop) (lap.end -ℤ lap.begin))) lap.begin
+        (Some (event_by (job rate first media drop wide) c (past_of (Some lap)) (Some lap)
+        (black_side (frames_in (job rate first media drop wide) (lap.end -ℤ lap.begin))) lap.begin
         lap.end)) None) es)
     there g crosses true =
         let q = times-minus at (pos b) (ticks rate) in let r = sum-times at (pos a) (ticks rate) in
         let begins : lap.begin ≡ (at -ℤ pos b) *ℤ pos (ticks rate) =
         omega (arith, ints, e, before, q) in
         let ends : lap.end ≡ (at +ℤ pos a) *ℤ pos (ticks rate) = omega (arith, ints, e, after, r) in
-        let i = recorded rate first media drop lap.begin (at -ℤ pos b) begins in
-        let x = recorded rate first media drop lap.end (at +ℤ pos a) ends in
+        let i = recorded rate first media drop wide lap.begin (at -ℤ pos b) begins in
+        let x = recorded rate first media drop wide lap.end (at +ℤ pos a) ends in
         let s = sum-times (pos b) (pos a) (ticks rate) in
         let l = passed (pos 0) (o.before +ℤ o.after) g in
         let some = frames_lt rate (pos 0) (pos b +ℤ pos a)
@@ -399,7 +415,8 @@ black_holds Q rate first media drop c past o u at front b a l es sides e before 
         let y = not_lt (pos 999 *ℤ pos (ticks rate)) (o.before +ℤ o.after) few in
         let most = frames_le rate (pos b +ℤ pos a) (pos 999)
         (omega (arith, ints, y, before, after, s)) in
-        let n = between rate first media drop lap.begin lap.end (at -ℤ pos b) (at +ℤ pos a) begins
+        let n = between rate first media drop wide lap.begin lap.end (at -ℤ pos b) (at +ℤ pos a)
+        begins
         ends in (
           record {
             begins = omega (arith, ints, i);
@@ -407,71 +424,75 @@ black_holds Q rate first media drop c past o u at front b a l es sides e before 
             to =
                 subst
                 (λ z.
-                Q true (black_side (frames_in (job rate first media drop) (lap.end -ℤ lap.begin)))
+                Q true (black_side (frames_in (job rate first media drop wide)
+                (lap.end -ℤ lap.begin)))
                 z)
-                (let d : frames_in (job rate first media drop) (lap.end -ℤ lap.begin) ≡ record_at
-                (job rate first media drop) lap.end -ℤ record_at (job rate first media drop)
+                (let d : frames_in (job rate first media drop wide) (lap.end -ℤ lap.begin)
+                ≡ record_at
+                (job rate first media drop wide) lap.end
+                -ℤ record_at (job rate first media drop wide)
                 lap.begin = omega (arith, ints, i, x, n) in d)
-                (sides.black (frames_in (job rate first media drop) (lap.end -ℤ lap.begin))
+                (sides.black (frames_in (job rate first media drop wide) (lap.end -ℤ lap.begin))
                 (omega (arith, ints, n)) (omega (arith, ints, n, most)));
-            cross = subst (λ z. CrossHolds Q z (record_at (job rate first media drop) lap.end)
-                (cross_in (job rate first media drop) (past_of (Some lap)) (Some lap))) (sym i)
+            cross = subst (λ z. CrossHolds Q z (record_at (job rate first media drop wide) lap.end)
+                (cross_in (job rate first media drop wide) (past_of (Some lap)) (Some lap))) (sym i)
                 (subst (λ z. CrossHolds Q (first +ℤ (at -ℤ pos b)) z
-                (cross_in (job rate first media drop) (past_of (Some lap)) (Some lap)))
+                (cross_in (job rate first media drop wide) (past_of (Some lap)) (Some lap)))
                 (sym x) crosses);
           },
-          earlier Q (record_at (job rate first media drop) lap.end) (first +ℤ front) es
+          earlier Q (record_at (job rate first media drop wide) lap.end) (first +ℤ front) es
               (omega (arith, ints, x, late)) rest,
         )
     there g crosses false = none
 
     by : (t : Bool) → int_lt (pos 0) (o.before +ℤ o.after) ≡ t
         → CrossHolds Q (first +ℤ (at -ℤ pos b)) (first +ℤ (at +ℤ pos a))
-        (cross_in (job rate first media drop) (past_of (cond t (Some lap) None))
+        (cross_in (job rate first media drop wide) (past_of (cond t (Some lap) None))
         (cond t (Some lap) None))
         → EventsHold Q (first +ℤ (at -ℤ pos b))
-        (cons_option (black_event (job rate first media drop) c
+        (cons_option (black_event (job rate first media drop wide) c
         (past_of (cond t (Some lap) None)) (cond t (Some lap) None)) es)
     by true g crosses = there g crosses (is_there (clip_before past.item))
     by false g crosses = none
 
 -- an item that begins at its start
 plain_holds : (Q : Bool → Side → ℤ → Type 0) (rate : Rate) (first : ℤ) (media : MediaRows)
-    (drop : Bool) (c : Channel) (s : Seat) (at front : ℤ) (es : List Event)
-    → SidesHold Q (job rate first media drop) → ItemFree (job rate first media drop) c s
+    (drop wide : Bool) (c : Channel) (s : Seat) (at front : ℤ) (es : List Event)
+    → SidesHold Q (job rate first media drop wide) → ItemFree (job rate first media drop wide) c s
     → s.past.lap ≡ None → s.start ≡ at *ℤ pos (ticks rate) → end_of s ≡ front *ℤ pos (ticks rate)
     → at ≤ℤ front → EventsHold Q (first +ℤ front) es
     → EventsHold Q (first +ℤ at)
-    (cons_option (item_event (job rate first media drop) c s (clip_in s.item)) es)
-plain_holds Q rate first media drop c s at front es sides free none start ends low rest =
+    (cons_option (item_event (job rate first media drop wide) c s (clip_in s.item)) es)
+plain_holds Q rate first media drop wide c s at front es sides free none start ends low rest =
     by (clip_in s.item) refl
   where
     by : (o : Option ClipRow) → clip_in s.item ≡ o → EventsHold Q (first +ℤ at)
-        (cons_option (item_event (job rate first media drop) c s o) es)
+        (cons_option (item_event (job rate first media drop wide) c s o) es)
     by None e =
         subst (λ o. EventsHold Q (first +ℤ at)
-        (cons_option (black_event (job rate first media drop) c s.past o) es)) (sym none)
+        (cons_option (black_event (job rate first media drop wide) c s.past o) es)) (sym none)
         (earlier Q (first +ℤ at) (first +ℤ front) es (omega (arith, ints, low)) rest)
-    by (Some r) e = clip_holds Q rate first media drop c s r at front es sides free e
+    by (Some r) e = clip_holds Q rate first media drop wide c s r at front es sides free e
         (ap (λ o. begin_or o s.start) none ∙ start) ends low
         (λ less. subst (λ o. CrossHolds Q (first +ℤ at) (first +ℤ front)
-        (cross_in (job rate first media drop) s.past o)) (sym none) tt) rest
+        (cross_in (job rate first media drop wide) s.past o)) (sym none) tt) rest
 
 -- an item behind an overlap
 paired_holds : (Q : Bool → Side → ℤ → Type 0) (rate : Rate) (first : ℤ) (media : MediaRows)
-    (drop : Bool) (c : Channel) (past : Past) (o : Overlap) (s : Seat) (u at front : ℤ) (b a : ℕ)
+    (drop wide : Bool) (c : Channel) (past : Past) (o : Overlap) (s : Seat) (u at front : ℤ)
+    (b a : ℕ)
     (l : List (ItemOf Listed)) (es : List Event)
-    → SidesHold Q (job rate first media drop) → ItemFree (job rate first media drop) c s
+    → SidesHold Q (job rate first media drop wide) → ItemFree (job rate first media drop wide) c s
     → s.start ≡ u → s.past ≡ record past { lap = lap_at u o }
     → u ≡ at *ℤ pos (ticks rate) → o.before ≡ pos b *ℤ pos (ticks rate) → o.after ≡ pos a *ℤ pos
     (ticks rate) → (is_there (lap_at u o) && is_other_kind (kind_of o.kind)) ≡ false
     → int_lt (pos 999 *ℤ pos (ticks rate)) (o.before +ℤ o.after) ≡ false
-    → Goes Q (job rate first media drop) past.item u l → next_lap u l ≡ lap_at u o
+    → Goes Q (job rate first media drop wide) past.item u l → next_lap u l ≡ lap_at u o
     → end_of s ≡ front *ℤ pos (ticks rate) → (at +ℤ pos a) ≤ℤ front
     → EventsHold Q (first +ℤ front) es
     → EventsHold Q (first +ℤ (at -ℤ pos b))
-    (cons_option (item_event (job rate first media drop) c s (clip_in s.item)) es)
-paired_holds Q rate first media drop c past o s u at front b a l es sides free start past_is e
+    (cons_option (item_event (job rate first media drop wide) c s (clip_in s.item)) es)
+paired_holds Q rate first media drop wide c past o s u at front b a l es sides free start past_is e
     before after other few goes next ends late rest = by (clip_in s.item) refl
   where
     begins : begin_of s ≡ (at -ℤ pos b) *ℤ pos (ticks rate)
@@ -479,97 +500,110 @@ paired_holds Q rate first media drop c past o s u at front b a l es sides free s
         ∙ lap_begins rate o u at b a e before after
 
     by : (q : Option ClipRow) → clip_in s.item ≡ q → EventsHold Q (first +ℤ (at -ℤ pos b))
-        (cons_option (item_event (job rate first media drop) c s q) es)
+        (cons_option (item_event (job rate first media drop wide) c s q) es)
     by None is = subst (λ (p : Past). EventsHold Q (first +ℤ (at -ℤ pos b))
-        (cons_option (black_event (job rate first media drop) c p p.lap) es)) (sym past_is)
-        (black_holds Q rate first media drop c past o u at front b a l es sides e before after other
+        (cons_option (black_event (job rate first media drop wide) c p p.lap) es)) (sym past_is)
+        (black_holds Q rate first media drop wide c past o u at front b a l es sides e before after
+        other
         few goes next late rest)
-    by (Some r) is = clip_holds Q rate first media drop c s r (at -ℤ pos b) front es sides free is
+    by (Some r) is = clip_holds Q rate first media drop wide c s r (at -ℤ pos b) front es sides free
+        is
         begins ends (omega (arith, ints, late))
         (λ less. subst (λ (p : Past). CrossHolds Q (first +ℤ (at -ℤ pos b)) (first +ℤ front)
-        (cross_in (job rate first media drop) p p.lap)) (sym past_is)
-        (pair_holds Q rate first media drop past o u at front b a l e before after other few goes
+        (cross_in (job rate first media drop wide) p p.lap)) (sym past_is)
+        (pair_holds Q rate first media drop wide past o u at front b a l e before after other few
+        goes
         next late)) rest
 
 -- ---- the events of a track
 
 pub events_hold : (Q : Bool → Side → ℤ → Type 0) (rate : Rate) (first : ℤ) (media : MediaRows)
-    (drop : Bool) (kind : Watch) (c : Channel) → SidesHold Q (job rate first media drop)
+    (drop wide : Bool) (kind : Watch) (c : Channel) → SidesHold Q (job rate first media drop wide)
     → (low at u : ℤ) (past : Past) (l : List (ItemOf Listed)) (bits : List Bit)
     → u ≡ at *ℤ pos (ticks rate) → past.lap ≡ None → AreBitsOf rate kind l bits → Fits low at bits
-    → AreFree (job rate first media drop) c u past l → AreCalm l → low ≤ℤ at
-    → Goes Q (job rate first media drop) past.item u l
-    → EventsHold Q (first +ℤ front_of at bits) (events_from rate first media drop c u past l)
-events_hold Q rate first media drop kind c sides low at u past [] [] e none are fit free calm late
+    → AreFree (job rate first media drop wide) c u past l → AreCalm l → low ≤ℤ at
+    → Goes Q (job rate first media drop wide) past.item u l
+    → EventsHold Q (first +ℤ front_of at bits) (events_from rate first media drop wide c u past l)
+events_hold Q rate first media drop wide kind c sides low at u past [] [] e none are fit free calm
+    late
     goes = tt
-events_hold Q rate first media drop kind c sides low at u past [] (b ∷ bits) e none are fit free
+events_hold Q rate first media drop wide kind c sides low at u past [] (b ∷ bits) e none are fit
+    free
     calm late goes = absurd are
-events_hold Q rate first media drop kind c sides low at u past (x ∷ l) [] e none are fit free calm
+events_hold Q rate first media drop wide kind c sides low at u past (x ∷ l) [] e none are fit free
+    calm
     late goes = absurd are
-events_hold Q rate first media drop kind c sides low at u past (x ∷ l) ((piece n g) ∷ bits) e none
+events_hold Q rate first media drop wide kind c sides low at u past (x ∷ l) ((piece n g) ∷ bits) e
+    none
     are fit free calm late goes =
-    let j = job rate first media drop in
+    let j = job rate first media drop wide in
     let t = sum-times at n (ticks rate) in
     let s : Seat = record { item = x; start = u; past = past; next = l } in
     let is = are.0.0 in let long = are.0.1 in let n_low = are.0.2 in
     let item = item_free j c s free.0 is in
     let there : u +ℤ length_in x ≡ (at +ℤ n) *ℤ pos (ticks rate) = omega (arith, ints, e, long, t)
     in
-    let es = events_from rate first media drop c (u +ℤ length_in x) (past_by None x u past) l in
-    let rest = events_hold Q rate first media drop kind c sides at (at +ℤ n) (u +ℤ length_in x)
+    let es = events_from rate first media drop wide c (u +ℤ length_in x) (past_by None x u past) l
+    in
+    let rest = events_hold Q rate first media drop wide kind c sides at (at +ℤ n) (u +ℤ length_in x)
     (past_by None x u past) l bits there refl are.1 fit.1
-    (subst (λ o. AreFree (job rate first media drop) c (u +ℤ length_in x) (past_by o x u past) l) is
+    (subst (λ o. AreFree (job rate first media drop wide) c (u +ℤ length_in x) (past_by o x u past)
+    l) is
     free.1) calm.1 (omega (arith, ints, n_low))
-    (item_goes Q (job rate first media drop) c s sides item) in
+    (item_goes Q (job rate first media drop wide) c s sides item) in
     let later = front_late at (at +ℤ n) bits fit.1 (omega (arith, ints, n_low)) in
     subst (λ o. EventsHold Q (first +ℤ at)
-    (events_by rate first media drop c u past x l o)) (sym is)
-    (plain_holds Q rate first media drop c s at (front_of (at +ℤ n) bits) es sides item none e
+    (events_by rate first media drop wide c u past x l o)) (sym is)
+    (plain_holds Q rate first media drop wide c s at (front_of (at +ℤ n) bits) es sides item none e
     (front_is rate kind (at +ℤ n) (u +ℤ length_in x) l bits there are.1) later rest)
-events_hold Q rate first media drop kind c sides low at u past (x ∷ []) ((cross type b a) ∷ []) e
+events_hold Q rate first media drop wide kind c sides low at u past (x ∷ []) ((cross type b a) ∷ [])
+    e
     none are fit free calm late goes =
     let s : Seat = record { item = x; start = u; past = past; next = [] } in
     let o = are.0.0 in
-    let f = cross_free (job rate first media drop) c s o free.0 are.0.1 in
+    let f = cross_free (job rate first media drop wide) c s o free.0 are.0.1 in
     let g = not_or (int_lt (u -ℤ o.before) past.low)
     (int_lt u (u +ℤ o.after) || int_lt (pos 999 *ℤ pos (ticks rate)) (o.before +ℤ o.after))
     f.fits in
     let h = not_or (int_lt u (u +ℤ o.after))
     (int_lt (pos 999 *ℤ pos (ticks rate)) (o.before +ℤ o.after)) g.1 in
     subst (λ o. EventsHold Q (first +ℤ (at -ℤ pos b))
-    (events_by rate first media drop c u past x [] o)) (sym are.0.1)
-    (black_holds Q rate first media drop c past o u at (at +ℤ pos a) b a (x ∷ []) [] sides e are.0.4
+    (events_by rate first media drop wide c u past x [] o)) (sym are.0.1)
+    (black_holds Q rate first media drop wide c past o u at (at +ℤ pos a) b a (x ∷ []) [] sides e
+    are.0.4
     are.0.5 f.kind h.1 goes (ap (λ o. option_and_then (lap_at u) o) are.0.1)
     (omega (arith, ints)) tt)
-events_hold Q rate first media drop kind c sides low at u past (x ∷ y ∷ l) ((cross type b a) ∷ []) e
+events_hold Q rate first media drop wide kind c sides low at u past (x ∷ y ∷ l)
+    ((cross type b a) ∷ []) e
     none are fit free calm late goes = absurd are.1
-events_hold Q rate first media drop kind c sides low at u past (x ∷ [])
+events_hold Q rate first media drop wide kind c sides low at u past (x ∷ [])
     ((cross type b a) ∷ (piece n g) ∷ bits) e none are fit free calm late goes = absurd are.1
-events_hold Q rate first media drop kind c sides low at u past (x ∷ y ∷ l)
+events_hold Q rate first media drop wide kind c sides low at u past (x ∷ y ∷ l)
     ((cross type b a) ∷ (piece n g) ∷ bits) e none are fit free calm late goes =
     let s : Seat = record { item = x; start = u; past = past; next = y ∷ l } in
     let o = are.0.0 in
-    let f = cross_free (job rate first media drop) c s o free.0 are.0.1 in
+    let f = cross_free (job rate first media drop wide) c s o free.0 are.0.1 in
     let between_them : Past = past_by (Some o) x u past in
     let s2 : Seat = record { item = y; start = u; past = between_them; next = l } in
     let is = are.1.0.0 in let long = are.1.0.1 in let n_low = are.1.0.2 in
     let point = are.0.2 in
     let t = sum-times at n (ticks rate) in
     let here : u +ℤ length_in x ≡ u = omega (arith, ints, point) in
-    let free2 = subst (λ z. AreFree (job rate first media drop) c z between_them (y ∷ l)) here
-    (subst (λ o. AreFree (job rate first media drop) c (u +ℤ length_in x) (past_by o x u past)
+    let free2 = subst (λ z. AreFree (job rate first media drop wide) c z between_them (y ∷ l)) here
+    (subst (λ o. AreFree (job rate first media drop wide) c (u +ℤ length_in x) (past_by o x u past)
     (y ∷ l)) are.0.1 free.1) in
-    let item = item_free (job rate first media drop) c s2 free2.0 is in
+    let item = item_free (job rate first media drop wide) c s2 free2.0 is in
     let there : u +ℤ length_in y ≡ (at +ℤ n) *ℤ pos (ticks rate) = omega (arith, ints, e, long, t)
     in
-    let es = events_from rate first media drop c (u +ℤ length_in y) (past_by None y u between_them)
+    let es = events_from rate first media drop wide c (u +ℤ length_in y)
+    (past_by None y u between_them)
     l in
     let w = fit.1 in
-    let rest = events_hold Q rate first media drop kind c sides (at +ℤ pos a) (at +ℤ n)
+    let rest = events_hold Q rate first media drop wide kind c sides (at +ℤ pos a) (at +ℤ n)
     (u +ℤ length_in y) (past_by None y u between_them) l bits there refl are.1.1 fit.2
-    (subst (λ q. AreFree (job rate first media drop) c (u +ℤ length_in y)
+    (subst (λ q. AreFree (job rate first media drop wide) c (u +ℤ length_in y)
     (past_by q y u between_them) l) is free2.1) calm.1.1 (omega (arith, ints, w))
-    (item_goes Q (job rate first media drop) c s2 sides item) in
+    (item_goes Q (job rate first media drop wide) c s2 sides item) in
     let front = front_is rate kind (at +ℤ n) (u +ℤ length_in y) l bits there are.1.1 in
     let later = front_late (at +ℤ pos a) (at +ℤ n) bits fit.2 (omega (arith, ints, w)) in
     let g = not_or (int_lt (u -ℤ o.before) past.low)
@@ -578,13 +612,14 @@ events_hold Q rate first media drop kind c sides low at u past (x ∷ y ∷ l)
     let h = not_or (int_lt (u +ℤ length_in y) (u +ℤ o.after))
     (int_lt (pos 999 *ℤ pos (ticks rate)) (o.before +ℤ o.after)) g.1 in
     subst (λ o. EventsHold Q (first +ℤ (at -ℤ pos b))
-    (events_by rate first media drop c u past x (y ∷ l) o)) (sym are.0.1)
+    (events_by rate first media drop wide c u past x (y ∷ l) o)) (sym are.0.1)
     (subst (λ z. EventsHold Q (first +ℤ (at -ℤ pos b))
-    (events_from rate first media drop c z between_them (y ∷ l))) (sym here)
+    (events_from rate first media drop wide c z between_them (y ∷ l))) (sym here)
     (subst (λ o. EventsHold Q (first +ℤ (at -ℤ pos b))
-    (events_by rate first media drop c u between_them y l o)) (sym is)
-    (paired_holds Q rate first media drop c past o s2 u at (front_of (at +ℤ n) bits) b a (x ∷ y ∷ l)
+    (events_by rate first media drop wide c u between_them y l o)) (sym is)
+    (paired_holds Q rate first media drop wide c past o s2 u at (front_of (at +ℤ n) bits) b a
+    (x ∷ y ∷ l)
     es sides item refl refl e are.0.4 are.0.5 f.kind h.1 goes
     (ap (λ o. option_and_then (lap_at u) o) are.0.1) front later rest)))
-events_hold Q rate first media drop kind c sides low at u past (x ∷ l)
+events_hold Q rate first media drop wide kind c sides low at u past (x ∷ l)
     ((cross type b a) ∷ (cross type' b' a') ∷ bits) e none are fit free calm late goes = absurd fit

@@ -12,7 +12,8 @@ use Rattle.edl_list.specs.declared.list.Channel.{Channel}
 use Rattle.coord.specs.Looks.{Overlap}
 use Rattle.coord.specs.Sights.{overlap_of}
 use Rattle.edl_frames.specs.Shown.{MediaRows}
-use Rattle.edl_frames_law.specs.Carried.{Past, Seat, lap_at, length_in, end_or, past_by, is_on_frame, begin_or}
+use Rattle.edl_frames.specs.Seats.{Past, Seat, lap_at, length_in, end_or, past_by, begin_or}
+use Rattle.edl_frames.specs.Jobs.{is_on_frame}
 use Rattle.edl_frames_law.proofs.CalmItems.{AreCalm}
 use Rattle.edl_frames_law.proofs.FrameQuotients.{same_is}
 use Rattle.edl_frames_law.proofs.LookSteps.{times_le, times_lt, times-minus}
@@ -42,9 +43,9 @@ child_in x = by (overlap_of x) refl
     by (Some o) e = transition o e
 
 -- an instant on a frame is a whole number of frames
-pub whole_frames : (rate : Rate) (first : ℤ) (media : MediaRows) (drop : Bool) (u : ℤ)
-    → is_on_frame (job rate first media drop) u ≡ true → (q : ℤ) × (u ≡ q *ℤ pos (ticks rate))
-whole_frames rate first media drop u e =
+pub whole_frames : (rate : Rate) (first : ℤ) (media : MediaRows) (drop wide : Bool) (u : ℤ)
+    → is_on_frame (job rate first media drop wide) u ≡ true → (q : ℤ) × (u ≡ q *ℤ pos (ticks rate))
+whole_frames rate first media drop wide u e =
     let p = ticks_some rate in
     units_of u (ticks rate) (omega (arith, p))
     (rem_zero u (pos (ticks rate)) (omega (arith, ints, p))
@@ -77,12 +78,14 @@ length_low : (x : ItemOf Listed) → pos 0 ≤ℤ length_in x
 length_low x = omega (arith, ints)
 
 -- how many frames an item has
-item_bit : (rate : Rate) (first : ℤ) (media : MediaRows) (drop : Bool) (kind : Watch) (c : Channel)
-    (at : ℤ) (s : Seat) → s.start ≡ at *ℤ pos (ticks rate) → ItemFree (job rate first media drop) c
+item_bit : (rate : Rate) (first : ℤ) (media : MediaRows) (drop wide : Bool) (kind : Watch)
+    (c : Channel)
+    (at : ℤ) (s : Seat) → s.start ≡ at *ℤ pos (ticks rate)
+    → ItemFree (job rate first media drop wide) c
     s → overlap_of s.item ≡ None
     → (n : ℤ) × IsBitOf rate kind s.item (piece n (gives rate kind s.item))
-item_bit rate first media drop kind c at s e free none =
-    let q = whole_frames rate first media drop (s.start +ℤ length_in s.item) free.ends in
+item_bit rate first media drop wide kind c at s e free none =
+    let q = whole_frames rate first media drop wide (s.start +ℤ length_in s.item) free.ends in
     let q_is = q.1 in
     let m = times-minus q.0 at (ticks rate) in
     let long : length_in s.item ≡ (q.0 -ℤ at) *ℤ pos (ticks rate) = omega (arith, ints, q_is, m, e)
@@ -97,13 +100,13 @@ record Offsets (rate : Rate) (o : Overlap) : Type 0 where
   before : o.before ≡ pos b *ℤ pos (ticks rate)
   after : o.after ≡ pos a *ℤ pos (ticks rate)
 
-cross_bit : (rate : Rate) (first : ℤ) (media : MediaRows) (drop : Bool) (kind : Watch) (at : ℤ)
+cross_bit : (rate : Rate) (first : ℤ) (media : MediaRows) (drop wide : Bool) (kind : Watch) (at : ℤ)
     (s : Seat) (o : Overlap) → s.start ≡ at *ℤ pos (ticks rate)
-    → CrossFree (job rate first media drop) s o
+    → CrossFree (job rate first media drop wide) s o
     → pos 0 ≤ℤ o.before → pos 0 ≤ℤ o.after → Offsets rate o
-cross_bit rate first media drop kind at s o e free before after =
-    let p = whole_frames rate first media drop (s.start -ℤ o.before) free.begins in
-    let q = whole_frames rate first media drop (s.start +ℤ o.after) free.ends in
+cross_bit rate first media drop wide kind at s o e free before after =
+    let p = whole_frames rate first media drop wide (s.start -ℤ o.before) free.begins in
+    let q = whole_frames rate first media drop wide (s.start +ℤ o.after) free.ends in
     let p_is = p.1 in let q_is = q.1 in
     let m = times-minus at p.0 (ticks rate) in
     let n = times-minus q.0 at (ticks rate) in
@@ -138,25 +141,25 @@ low_behind rate at o b a u e before after = by (int_lt (pos 0) (o.before +ℤ o.
         omega (arith, ints, s, e, before, after, l, x, y)
 
 -- the children of a track that is carried are bits that fit
-pub fitted : (rate : Rate) (first : ℤ) (media : MediaRows) (drop : Bool) (kind : Watch)
+pub fitted : (rate : Rate) (first : ℤ) (media : MediaRows) (drop wide : Bool) (kind : Watch)
     (c : Channel) (low at u : ℤ) (past : Past) (l : List (ItemOf Listed))
     → u ≡ at *ℤ pos (ticks rate) → past.lap ≡ None → past.low ≡ low *ℤ pos (ticks rate)
-    → AreFree (job rate first media drop) c u past l → AreCalm l → Fitted rate kind low at l
-fitted rate first media drop kind c low at u past [] e none low_is free calm =
+    → AreFree (job rate first media drop wide) c u past l → AreCalm l → Fitted rate kind low at l
+fitted rate first media drop wide kind c low at u past [] e none low_is free calm =
     record { bits = []; are = tt; fit = tt }
-fitted rate first media drop kind c low at u past (x ∷ []) e none low_is free calm =
+fitted rate first media drop wide kind c low at u past (x ∷ []) e none low_is free calm =
     elim (child_in x) [
       | item i ↦
-          let b = item_bit rate first media drop kind c at
+          let b = item_bit rate first media drop wide kind c at
           (record { item = x; start = u; past = past; next = [] }) e
-          (item_free (job rate first media drop) c
+          (item_free (job rate first media drop wide) c
           (record { item = x; start = u; past = past; next = [] }) free.0 i) i in
           record { bits = piece b.0 (gives rate kind x) ∷ []; are = (b.1, tt); fit = (b.1.2, tt) }
       | transition o i ↦
           let q = calm.0 o i in
-          let f = cross_free (job rate first media drop) c
+          let f = cross_free (job rate first media drop wide) c
           (record { item = x; start = u; past = past; next = [] }) o free.0 i in
-          let b = cross_bit rate first media drop kind at
+          let b = cross_bit rate first media drop wide kind at
           (record { item = x; start = u; past = past; next = [] }) o e f q.0 q.1 in
           let g = not_or (int_lt (u -ℤ o.before) past.low)
           (int_lt u (u +ℤ o.after) || int_lt (pos 999 *ℤ pos (ticks rate)) (o.before +ℤ o.after))
@@ -178,18 +181,19 @@ fitted rate first media drop kind c low at u past (x ∷ []) e none low_is free 
             );
           }
     ]
-fitted rate first media drop kind c low at u past (x ∷ y ∷ l) e none low_is free calm =
+fitted rate first media drop wide kind c low at u past (x ∷ y ∷ l) e none low_is free calm =
     elim (child_in x) [
       | item i ↦
-          let b = item_bit rate first media drop kind c at
+          let b = item_bit rate first media drop wide kind c at
           (record { item = x; start = u; past = past; next = y ∷ l }) e
-          (item_free (job rate first media drop) c
+          (item_free (job rate first media drop wide) c
           (record { item = x; start = u; past = past; next = y ∷ l }) free.0 i) i in
           let long = b.1.1 in let s = sum-times at b.0 (ticks rate) in
-          let more = fitted rate first media drop kind c at (at +ℤ b.0) (u +ℤ length_in x)
+          let more = fitted rate first media drop wide kind c at (at +ℤ b.0) (u +ℤ length_in x)
           (past_by None x u past) (y ∷ l) (omega (arith, ints, e, long, s)) refl
           (ap (λ o. end_or o u) none ∙ e)
-          (subst (λ o. AreFree (job rate first media drop) c (u +ℤ length_in x) (past_by o x u past)
+          (subst (λ o. AreFree (job rate first media drop wide) c (u +ℤ length_in x)
+          (past_by o x u past)
           (y ∷ l)) i free.1) calm.1 in
           record {
             bits = piece b.0 (gives rate kind x) ∷ more.bits;
@@ -199,9 +203,9 @@ fitted rate first media drop kind c low at u past (x ∷ y ∷ l) e none low_is 
           }
       | transition o i ↦
           let q = calm.0 o i in
-          let f = cross_free (job rate first media drop) c
+          let f = cross_free (job rate first media drop wide) c
           (record { item = x; start = u; past = past; next = y ∷ l }) o free.0 i in
-          let b = cross_bit rate first media drop kind at
+          let b = cross_bit rate first media drop wide kind at
           (record { item = x; start = u; past = past; next = y ∷ l }) o e f q.0 q.1 in
           let g = not_or (int_lt (u -ℤ o.before) past.low)
           (int_lt (u +ℤ length_in y) (u +ℤ o.after) || int_lt (pos 999 *ℤ pos (ticks rate))
@@ -214,23 +218,24 @@ fitted rate first media drop kind c low at u past (x ∷ y ∷ l) e none low_is 
           let m = times-minus at (pos b.b) (ticks rate) in
           let none_long = point_is x o i in
           let here : u +ℤ length_in x ≡ u = omega (arith, ints, none_long) in
-          let free_y = subst (λ z. AreFree (job rate first media drop) c z
+          let free_y = subst (λ z. AreFree (job rate first media drop wide) c z
           (past_by (Some o) x u past)
           (y ∷ l)) here
-          (subst (λ o. AreFree (job rate first media drop) c (u +ℤ length_in x) (past_by o x u past)
+          (subst (λ o. AreFree (job rate first media drop wide) c (u +ℤ length_in x)
+          (past_by o x u past)
           (y ∷ l)) i free.1) in
           let is_item = q.2 in
-          let d = item_bit rate first media drop kind c at
+          let d = item_bit rate first media drop wide kind c at
           (record { item = y; start = u; past = past_by (Some o) x u past; next = l }) e
-          (item_free (job rate first media drop) c
+          (item_free (job rate first media drop wide) c
           (record { item = y; start = u; past = past_by (Some o) x u past; next = l }) free_y.0
           is_item) is_item in
           let long = d.1.1 in let s = sum-times at d.0 (ticks rate) in
-          let more = fitted rate first media drop kind c (at +ℤ pos b.a) (at +ℤ d.0)
+          let more = fitted rate first media drop wide kind c (at +ℤ pos b.a) (at +ℤ d.0)
           (u +ℤ length_in y)
           (past_by None y u (past_by (Some o) x u past)) l (omega (arith, ints, e, long, s)) refl
           (low_behind rate at o b.b b.a u e before after)
-          (subst (λ o'. AreFree (job rate first media drop) c (u +ℤ length_in y)
+          (subst (λ o'. AreFree (job rate first media drop wide) c (u +ℤ length_in y)
           (past_by o' y u (past_by (Some o) x u past)) l) is_item free_y.1) calm.1.1 in
           record {
             bits = cross o.kind b.b b.a ∷ piece d.0 (gives rate kind y) ∷ more.bits;

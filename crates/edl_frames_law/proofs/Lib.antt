@@ -23,3 +23,6 @@ pub mod WholeLists
 pub mod ListDays
 pub mod SameLists
 pub mod WorkedTracks
+pub mod OneList
+pub mod OneReason
+pub mod FewItems

@@ -1,6 +1,6 @@
 -- The list of a timeline shows what the timeline shows.
 use Rattle.std.proofs.Common.{◌≡◌, refl, sym, ap, ap₂, subst, ◌∙◌, ℕ, suc, zero, ◌+◌, ◌==◌, ◌≤◌, ℤ, pos, ◌+ℤ◌, ◌-ℤ◌, ◌*ℤ◌, ◌&&◌, Bool, true, false, not, cond, List, [], ◌∷◌, ◌++◌, map, Option, Some, None, slice_get, arith}
-use Rattle.std.specs.Prelude.{codes, nat_le, length, option_and_then, nat_lt}
+use Rattle.std.specs.Prelude.{codes, nat_le, length, option_and_then}
 use Rattle.std.specs.Str.{bytes_eq}
 use Rattle.std.proofs.lemmas.Slice.Eq.{bytes_eq-Decides}
 use Rattle.tick_time.specs.declared.rates.Rate.{Rate}
@@ -27,13 +27,19 @@ use Rattle.coord.specs.declared.faults.ItemFault.TheVariants.{NoLength}
 use Rattle.coord.specs.Images.{Empty, image}
 use Rattle.edl_frames.specs.Shown.{MediaRows, events_show, event_shows, on_channel, shown}
 use Rattle.edl_frames.specs.Channels.{KeySeen, keyed_child_shows, is_track_of, nth_track, channel_track, keyed_shown, on_by}
-use Rattle.edl_frames_law.specs.Carried.{Job, job_of, Past, head, seats, past_by, length_in, is_there, mode_in, Reason, Nested, NoTimecode, TooMany, reason_of, Examined, examine_seats, examine_track, examine, examine_all, first_said, count_of_kind, channel_of, is_plain, track_events, events_on, events_count, unnumbered, not_carried, IsListOf}
+use Rattle.edl_frames.specs.declared.reasons.Why.{Why}
+use Rattle.edl_frames.specs.Jobs.{Job, job_of, mode_in}
+use Rattle.edl_frames.specs.Seats.{Past, head, seats, past_by, length_in, is_there}
+use Rattle.edl_frames.specs.ChildReasons.{reason_of}
+use Rattle.edl_frames.specs.Carried.{too_many, Examined, examine_seats, examine_track, examine, examine_all, first_said, count_of_kind, channel_of, is_plain, not_carried, IsListOf}
+use Rattle.edl_frames.specs.ChildEvents.{track_events, events_on, unnumbered}
+use Rattle.edl_frames.specs.declared.reasons.Why.TheVariants as W
 use Rattle.coord.specs.Sights.{overlap_of}
 use Rattle.edl_frames_law.proofs.CalmItems.{calm_tracks}
 use Rattle.coord.specs.Soundness.{IsCalm}
 use Rattle.edl_frames_law.specs.Premises.{KnowsKeys}
 use Rattle.edl_frames_law.proofs.ItemLooks.{ticks}
-use Rattle.edl_frames_law.proofs.SideLooks.{job}
+use Rattle.edl_frames_law.proofs.SideLooks.{job, same_job}
 use Rattle.edl_frames_law.proofs.ReasonFacts.{AreFree}
 use Rattle.edl_frames_law.proofs.TrackEvents.{track_is_written}
 use Rattle.otio_model.specs.Overlaps.{within}
@@ -45,7 +51,7 @@ pub nothing_first : (p : Examined) (ps : List Examined) → first_said (p ∷ ps
     → (p.1 ≡ None) × (first_said ps ≡ None)
 nothing_first p ps e = by p.1 refl e
   where
-    by : (o : Option Reason) → p.1 ≡ o → ◌≡◌ {A = Option (List ℕ × Reason)}
+    by : (o : Option Why) → p.1 ≡ o → ◌≡◌ {A = Option (List ℕ × Why)}
         (elim o [ None ↦ first_said ps | Some why ↦ Some (p.0, why) ]) None
         → (p.1 ≡ None) × (first_said ps ≡ None)
     by None f g = (f, g)
@@ -76,7 +82,7 @@ pub record Said (j : Job) (c : Channel) (x : ItemOf Listed) : Type 0 where
   pub plain : track.enabled ≡ true → is_plain track ≡ true
   pub free : track.enabled ≡ true → AreFree j c (pos 0) head (items_of track.children)
 
-plain_by : (b : Bool) → ◌≡◌ {A = Option Reason} (cond b None (Some Nested)) None → b ≡ true
+plain_by : (b : Bool) → ◌≡◌ {A = Option Why} (cond b None (Some W.Nested)) None → b ≡ true
 plain_by true e = refl
 plain_by false e = absurd (cc e)
 
@@ -86,22 +92,22 @@ said_of j k t c e = record {
   track = t;
   is = refl;
   plain = λ on. plain_by (is_plain t)
-      (nothing_first (k ∷ [], cond (is_plain t) None (Some Nested))
+      (nothing_first (k ∷ [], cond (is_plain t) None (Some W.Nested))
       (examine_seats j c k 0 (seats (pos 0) head (items_of t.children))) (shut on)).0;
   free = λ on. seats_free j c k 0 (pos 0) head (items_of t.children)
-      (nothing_first (k ∷ [], cond (is_plain t) None (Some Nested))
+      (nothing_first (k ∷ [], cond (is_plain t) None (Some W.Nested))
       (examine_seats j c k 0 (seats (pos 0) head (items_of t.children))) (shut on)).1;
 }
   where
     shut : t.enabled ≡ true → first_said
-        ((k ∷ [], cond (is_plain t) None (Some Nested)) ∷ examine_seats j c k 0
+        ((k ∷ [], cond (is_plain t) None (Some W.Nested)) ∷ examine_seats j c k 0
         (seats (pos 0) head (items_of t.children))) ≡ None
     shut on =
         sym
         (ap
         (λ b.
         first_said
-        (cond b ((k ∷ [], cond (is_plain t) None (Some Nested)) ∷ examine_seats j c k 0
+        (cond b ((k ∷ [], cond (is_plain t) None (Some W.Nested)) ∷ examine_seats j c k 0
         (seats (pos 0) head (items_of t.children))) [])) on) ∙ e
 
 count_more : (kind : List ℕ) (past : List (ItemOf Listed)) (t : TrackOf Listed)
@@ -286,24 +292,23 @@ disabled key t u e =
     always false = refl
 
 -- what is said of a timeline that is carried: nothing, of its rate, its children and its events
-pub record IsCarriedAll (t : Timeline) (media : MediaRows) (drop : Bool) : Type 0 where
-  pub timed : cond (is_there (mode_in (record_rate t) drop)) None (Some NoTimecode) ≡ None
-  pub said : first_said (examine_all (job_of t media drop) 0 [] (items_of t.tracks.children)) ≡ None
-  pub few : cond (nat_lt 999 (events_count (job_of t media drop) (items_of t.tracks.children)))
-      (Some TooMany) None ≡ None
+pub record IsCarriedAll (t : Timeline) (media : MediaRows) (drop wide : Bool) : Type 0 where
+  pub timed : cond (is_there (mode_in (record_rate t) drop)) None (Some W.NoTimecode) ≡ None
+  pub said : first_said (examine_all (job_of t media drop wide) 0 [] (items_of t.tracks.children))
+      ≡ None
+  pub few : too_many (job_of t media drop wide) (items_of t.tracks.children) ≡ None
 
-pub carried_all : (t : Timeline) (media : MediaRows) (drop : Bool)
-    → not_carried t media drop ≡ None → IsCarriedAll t media drop
-carried_all t media drop e =
+pub carried_all : (t : Timeline) (media : MediaRows) (drop wide : Bool)
+    → not_carried t media drop wide ≡ None → IsCarriedAll t media drop wide
+carried_all t media drop wide e =
     let items = items_of t.tracks.children in
     let timed : Examined = (
       [],
       cond (is_there (mode_in (record_rate t) drop)) None
-          (Some NoTimecode),
+          (Some W.NoTimecode),
     ) in
-    let children = examine_all (job_of t media drop) 0 [] items in
-    let many : Examined =
-    ([], cond (nat_lt 999 (events_count (job_of t media drop) items)) (Some TooMany) None) in
+    let children = examine_all (job_of t media drop wide) 0 [] items in
+    let many : Examined = ([], too_many (job_of t media drop wide) items) in
     let first = nothing_first timed (children ++ (many ∷ [])) e in
     let both_none = nothing_both children (many ∷ []) first.1 in
     record {
@@ -314,25 +319,26 @@ carried_all t media drop e =
 
 -- the list of a timeline that is carried shows what the timeline shows
 pub list_shows_timeline : (key : KeySeen) (t : Timeline) (list : EventList) (media : MediaRows)
-    (drop : Bool) (c : Channel) (n : ℤ) → IsSound t → IsCalm t → KnowsKeys key media
-    → not_carried t media drop ≡ None → IsListOf t media drop list
+    (drop wide : Bool) (c : Channel) (n : ℤ) → IsSound t → IsCalm t → KnowsKeys key media
+    → not_carried t media drop wide ≡ None → IsListOf t media drop wide list
     → shown list media c n ≡ on_by key t c n
-list_shows_timeline key t list media drop c n sound calm keys carried i =
+list_shows_timeline key t list media drop wide c n sound calm keys carried i =
     let items = items_of t.tracks.children in
     sym (unnumbered_show list.rate media (on_channel c list.events) n)
     ∙ ap (λ es. events_show list.rate media es n) (i.events c)
-    ∙ by (channel_track c items) refl (carried_all t media drop carried).said
+    ∙ by (channel_track c items) refl (carried_all t media drop wide carried).said
   where
-    rate_is : job_of t media drop ≡ job list.rate (start_frame t) media drop
-    rate_is = λ k. record { rate = sym i.rate k; first = start_frame t; media = media; drop = drop }
+    rate_is : job_of t media drop wide ≡ job list.rate (start_frame t) media drop wide
+    rate_is = same_job t list.rate media drop wide i.rate
 
     at : instant t n ≡ (n -ℤ start_frame t) *ℤ pos (ticks list.rate)
     at = ap (λ r. (n -ℤ start_frame t) *ℤ pos (frame_ticks r)) (sym i.rate)
 
     shut : (x : ItemOf Listed) → channel_track c (items_of t.tracks.children) ≡ Some x
-        → (s : Said (job_of t media drop) c x) → (b : Bool) → s.track.enabled ≡ b
+        → (s : Said (job_of t media drop wide) c x) → (b : Bool) → s.track.enabled ≡ b
         → events_show list.rate media
-        (cond b (track_events (job_of t media drop) c (items_of s.track.children)) []) n ≡ image
+        (cond b (track_events (job_of t media drop wide) c (items_of s.track.children)) []) n
+        ≡ image
         (keyed_child_shows key (Track s.track) (instant t n))
     shut x e s true on =
         let p = placed c (items_of t.tracks.children) x e in
@@ -344,7 +350,8 @@ list_shows_timeline key t list media drop c n sound calm keys carried i =
         (ap (λ o. option_and_then (λ y. Some y) o) here)) in
         ap (λ j. events_show list.rate media (track_events j c (items_of s.track.children)) n)
         rate_is
-        ∙ sym (track_is_written list.rate (start_frame t) media drop c key s.track long.0 n keys
+        ∙ sym (track_is_written list.rate (start_frame t) media drop wide c key s.track long.0 n
+        keys
         (no_source s.track.source_range q.0) (no_effects s.track.effects q.1) on long.1
         (subst (λ j. AreFree j c (pos 0) head (items_of s.track.children)) rate_is (s.free on))
         (calm_tracks t calm p.0 s.track here))
@@ -352,15 +359,17 @@ list_shows_timeline key t list media drop c n sound calm keys carried i =
     shut x e s false on = sym (disabled key s.track (instant t n) on)
 
     by : (o : Option (ItemOf Listed)) → channel_track c (items_of t.tracks.children) ≡ o
-        → first_said (examine_all (job_of t media drop) 0 [] (items_of t.tracks.children)) ≡ None
-        → events_show list.rate media (events_on (job_of t media drop) c
+        → first_said (examine_all (job_of t media drop wide) 0 [] (items_of t.tracks.children))
+        ≡ None
+        → events_show list.rate media (events_on (job_of t media drop wide) c
         (channel_track c (items_of t.tracks.children))) n ≡ keyed_shown key
         (channel_track c (items_of t.tracks.children)) (instant t n)
-    by None e free = ap (λ o. events_show list.rate media (events_on (job_of t media drop) c o) n) e
+    by None e free = ap (λ o. events_show list.rate media (events_on (job_of t media drop wide) c o)
+        n) e
         ∙ sym (ap (λ o. keyed_shown key o (instant t n)) e)
     by (Some x) e free =
-        let s = said_on (job_of t media drop) c (items_of t.tracks.children) x free e in
-        ap (λ o. events_show list.rate media (events_on (job_of t media drop) c o) n)
+        let s = said_on (job_of t media drop wide) c (items_of t.tracks.children) x free e in
+        ap (λ o. events_show list.rate media (events_on (job_of t media drop wide) c o) n)
         (e ∙ ap (λ z. Some z) s.is)
         ∙ shut x e s s.track.enabled refl
         ∙ sym (ap (λ o. keyed_shown key o (instant t n)) (e ∙ ap (λ z. Some z) s.is))

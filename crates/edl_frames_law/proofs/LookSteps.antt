@@ -3,9 +3,10 @@ use Rattle.std.proofs.Common.{◌≡◌, refl, sym, ap, ap₂, ◌∙◌, ℕ, �
 use Rattle.std.specs.Prelude.{int_lt, int_le, unsigned_abs, unwrap_or}
 use Rattle.std.proofs.lemmas.Int.{ints}
 use Rattle.otio_model.specs.Overlaps.{within}
-use Rattle.coord.specs.Looks.{Show, Blank, Frame, Mix, Weight, Look, Overlap, is_blank, weight, mixed, item_shows, next_shows, from_end, mix_shows}
-use Rattle.coord.specs.Images.{Image, Empty, Mixture, Kind, kind_of, image}
-use Rattle.edl_frames.specs.Shown.{is_empty, mix_of}
+use Rattle.coord.specs.Looks.{Show, Blank, Mix, Weight, Look, Overlap, is_blank, weight, mixed, item_shows, next_shows, from_end, mix_shows}
+use Rattle.coord.specs.Images.{Image, Empty, Mixture, Kind, kind_of, image, is_empty}
+use Rattle.coord.proofs.ImageLemmas.{empty_is}
+use Rattle.edl_frames.specs.Shown.{mix_of}
 use Rattle.edl_frames_law.proofs.FrameQuotients.{sum-times}
 use Rattle.coord.proofs.Divisors.{weight_scaled}
 
@@ -191,11 +192,6 @@ seen_from_end f count k gives x x_plays =
     ∙ sym (sum-times k count f)) ∙ x_plays.shows (k +ℤ count)
 
 -- ---- mixes
-
-pub empty_is : (s : Show) → is_empty (image s) ≡ is_blank s
-empty_is Blank = refl
-empty_is (Frame k m r) = refl
-empty_is (Mix k a b w) = refl
 
 seen_if : (t : Bool) (k : List ℕ) (a b : Show) (w : Weight) → image (cond t Blank (Mix k a b w)) ≡
     cond t Empty (Mixture (kind_of k) (image a) (image b) w)

@@ -11,7 +11,13 @@ use Rattle.coord.specs.Looks.{Overlap}
 use Rattle.coord.specs.Keys.{media_rate}
 use Rattle.coord.specs.Sights.{sight, overlap_of}
 use Rattle.coord.specs.Images.{Image, image, kind_of}
-use Rattle.edl_frames_law.specs.Carried.{Job, Past, Seat, lap_at, length_in, past_by, lap_behind, begin_of, end_of, clip_in, is_item, is_there, event_of, Reason, first_that, reason_of, item_tests, clip_tests, shown_tests, transition_tests, is_other_kind, is_bad_lap, is_on_frame, parts_of, is_between, is_past_day, is_outside_row, speed_in, tenths_of, count_in, mode_in, clip_reel, clip_row, has_rate, row_differs, is_past_record, Nested, OffFrame, RecordDay}
+use Rattle.edl_frames.specs.declared.reasons.Why.{Why}
+use Rattle.edl_frames.specs.Jobs.{Job, is_on_frame, tenths_of, count_in, mode_in}
+use Rattle.edl_frames.specs.Seats.{Past, Seat, lap_at, length_in, past_by, lap_behind, begin_of, end_of, clip_in, is_item, is_there}
+use Rattle.edl_frames.specs.ChildEvents.{event_of}
+use Rattle.edl_frames.specs.ChildReasons.{first_that, reason_of, item_tests, clip_tests, shown_tests, transition_tests, is_other_kind, is_bad_lap, parts_of, is_between, is_past_day, is_outside_row, has_rate, row_differs, is_past_record}
+use Rattle.edl_frames.specs.Sides.{speed_in, clip_reel, clip_row}
+use Rattle.edl_frames.specs.declared.reasons.Why.TheVariants as W
 use Rattle.edl_frames_law.proofs.ItemLooks.{Watch, exactly, ticks}
 use Rattle.edl_frames_law.proofs.Stretches.{Bit, piece, cross}
 use Rattle.std.specs.Ordering.{int_eq}
@@ -44,7 +50,7 @@ AreFree j c at past (x ∷ l) =
 
 -- ---- reasons that don't hold
 
-pub none_first : (p : Bool × Reason) (ps : List (Bool × Reason)) → first_that (p ∷ ps) ≡ None
+pub none_first : (p : Bool × Why) (ps : List (Bool × Why)) → first_that (p ∷ ps) ≡ None
     → (p.0 ≡ false) × (first_that ps ≡ None)
 none_first p ps e = by p.0 refl e
   where
@@ -53,17 +59,17 @@ none_first p ps e = by p.0 refl e
     by true f g = absurd (cc g)
     by false f g = (f, g)
 
-none_front : (ps qs : List (Bool × Reason)) → first_that (ps ++ qs) ≡ None → first_that ps ≡ None
+none_front : (ps qs : List (Bool × Why)) → first_that (ps ++ qs) ≡ None → first_that ps ≡ None
 none_front [] qs e = refl
 none_front (p ∷ ps) qs e = let n = none_first p (ps ++ qs) e in ap₂ (λ b o. cond b (Some p.1) o) n.0
     (none_front ps qs n.1)
 
 -- none of the tests holds
-abbrev pub AllFail : List (Bool × Reason) → Type 0
+abbrev pub AllFail : List (Bool × Why) → Type 0
 AllFail [] = Unit {0}
 AllFail (p ∷ ps) = (p.0 ≡ false) × AllFail ps
 
-pub all_fail : (ps : List (Bool × Reason)) → first_that ps ≡ None → AllFail ps
+pub all_fail : (ps : List (Bool × Why)) → first_that ps ≡ None → AllFail ps
 all_fail [] e = tt
 all_fail (p ∷ ps) e = let n = none_first p ps e in (n.0, all_fail ps n.1)
 
@@ -80,7 +86,7 @@ not_or false b e = (refl, e)
 
 pub record ClipFree (j : Job) (s : Seat) (r : ClipRow) : Type 0 where
   pub tenths : is_there (tenths_of (count_in (mode_in j.rate false)) (speed_in r)) ≡ true
-  pub named : is_there (clip_reel j.media r) ≡ true
+  pub named : is_there (clip_reel j.layout j.media r) ≡ true
   pub rated : has_rate j (media_rate r) ≡ true
   pub same_row : row_differs j (clip_row j.media r) ≡ false
   pub phase : (not (int_eq (speed_in r) (pos 1000000)) && list_any (is_between j r s.start)
@@ -95,7 +101,7 @@ clip_free j s r e =
     record {
       tenths = not_false (is_there (tenths_of (count_in (mode_in j.rate false)) (speed_in r)))
           a.1.0;
-      named = not_false (is_there (clip_reel j.media r)) a.1.1.0;
+      named = not_false (is_there (clip_reel j.layout j.media r)) a.1.1.0;
       rated = not_false (has_rate j (media_rate r))
           (not_or (not (has_rate j (media_rate r))) (row_differs j (clip_row j.media r))
           a.1.1.1.0).0;
@@ -124,16 +130,16 @@ item_free j c s e f =
     let a = all_fail (item_tests j c s) g in
     let k = not_and (is_on_frame j s.start) (is_on_frame j (s.start +ℤ length_in s.item)) a.1.0 in
     let t = none_front (shown_tests j s (clip_in s.item))
-    ((is_past_record j (event_of j c s), RecordDay) ∷ [])
+    ((is_past_record j (event_of j c s), W.RecordDay) ∷ [])
     (none_first (
       not (is_on_frame j s.start && is_on_frame j (s.start +ℤ length_in s.item)),
-      OffFrame,
+      W.OffFrame,
     ) (shown_tests j s (clip_in s.item) ++
-    ((is_past_record j (event_of j c s), RecordDay) ∷ []))
-    (none_first (not (is_item s.item), Nested)
-    ((not (is_on_frame j s.start && is_on_frame j (s.start +ℤ length_in s.item)), OffFrame)
+    ((is_past_record j (event_of j c s), W.RecordDay) ∷ []))
+    (none_first (not (is_item s.item), W.Nested)
+    ((not (is_on_frame j s.start && is_on_frame j (s.start +ℤ length_in s.item)), W.OffFrame)
     ∷ (shown_tests j s (clip_in s.item) ++
-    ((is_past_record j (event_of j c s), RecordDay) ∷ []))) g).1).1 in
+    ((is_past_record j (event_of j c s), W.RecordDay) ∷ []))) g).1).1 in
     record {
       item = not_false (is_item s.item) a.0;
       begins = k.0;

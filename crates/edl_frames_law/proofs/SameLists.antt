@@ -24,7 +24,7 @@ use Rattle.edl_frames.specs.declared.faults.ConformFault.TheVariants as F
 use Rattle.edl_frames_law.proofs.ListedRates.{tests_fail}
 use Rattle.edl_frames.specs.Channels.{KeySeen, on, on_by}
 use Rattle.edl_frames.specs.Conformed.{IsTimelineOf}
-use Rattle.edl_frames_law.specs.Carried.{not_carried, IsListOf}
+use Rattle.edl_frames.specs.Carried.{not_carried, IsListOf}
 use Rattle.coord.specs.Soundness.{IsCalm}
 use Rattle.edl_frames_law.specs.Premises.{KnowsKeys}
 use Rattle.edl_frames_law.proofs.TimelineShows.{timeline_shows_list}
@@ -211,12 +211,12 @@ carried_same a b media s e = subst (λ r. first_fault r media b.events ≡ None)
 
 -- what was written and read again, conformed against its media list, shows what the timeline showed
 pub round_trip : (key : KeySeen) (t again : Timeline) (list read : EventList) (media : MediaRows)
-    (drop : Bool) (c : Channel) (n : ℤ) → IsSound t → IsCalm t → KnowsKeys key media
-    → not_carried t media drop ≡ None → IsListOf t media drop list
+    (drop wide : Bool) (c : Channel) (n : ℤ) → IsSound t → IsCalm t → KnowsKeys key media
+    → not_carried t media drop wide ≡ None → IsListOf t media drop wide list
     → IsSame list read → IsWellFormed read → IsAccepted read media → IsTimelineOf read media again
     → on again c n ≡ on_by key t c n
-round_trip key t again list read media drop c n sound calm keys carried i same formed accepted
+round_trip key t again list read media drop wide c n sound calm keys carried i same formed accepted
     conformed =
     timeline_shows_list read media again c n formed accepted conformed
     ∙ sym (shown_same list read media c n same)
-    ∙ list_shows_timeline key t list media drop c n sound calm keys carried i
+    ∙ list_shows_timeline key t list media drop wide c n sound calm keys carried i

@@ -8,6 +8,8 @@ use Rattle.std.specs.List.{range_with_len}
 use Rattle.std.proofs.lemmas.Int.{ints}
 use Rattle.std.proofs.lemmas.Slice.Eq.{bytes_eq-Decides}
 use Rattle.tick_time.specs.declared.rates.Rate.{Rate}
+use Rattle.otio_model.specs.declared.timelines.Timeline.{Timeline}
+use Rattle.coord.specs.Programs.{record_rate, start_frame}
 use Rattle.tick_time.specs.Rates.{unit}
 use Rattle.tick_time.proofs.Wholes.{rem_zero, units_of}
 use Rattle.otio_model.specs.declared.sources.Media.{Media as Reference}
@@ -27,7 +29,14 @@ use Rattle.coord.specs.Speeds.{media_at}
 use Rattle.coord.specs.Sights.{sight}
 use Rattle.coord.specs.Images.{Single, image}
 use Rattle.edl_frames.specs.Shown.{MediaRows, side_shows, reel_shows, reel_key, url_or_reel}
-use Rattle.edl_frames_law.specs.Carried.{Job, tenths_of, count_in, mode_in, is_there, clip_reel, clip_row, if_reel, reel_in, url_in, is_reel_name, speed_in, source_at, speed_in_tenths, side_of, is_between, has_rate, is_rate}
+use Rattle.edl_frames.specs.Jobs.{Job, tenths_of, count_in, mode_in, job_of}
+use Rattle.edl_frames.specs.Seats.{is_there}
+use Rattle.edl_frames.specs.Sides.{clip_reel, clip_row, if_reel, reel_in, url_in, speed_in, source_at, speed_in_tenths, side_of}
+use Rattle.text_lines.specs.ReelNames.{is_reel_name}
+use Rattle.edl_list.specs.declared.layout.Layout.{Layout}
+use Rattle.edl_list.specs.Layouts.{layout_of}
+use Rattle.std.specs.Prelude.{nat_le, length}
+use Rattle.edl_frames.specs.ChildReasons.{is_between, has_rate, is_rate}
 use Rattle.edl_frames_law.proofs.ListedRates.{passes}
 use Rattle.edl_frames_law.proofs.FrameQuotients.{phase_whole, phase_own, sum-times}
 use Rattle.edl_frames_law.specs.Premises.{KnowsKeys}
@@ -38,13 +47,25 @@ use Rattle.std.specs.Ordering.{int_eq}
 use Rattle.tick_time.proofs.BoolLemmas.{both}
 
 -- what a timeline of this record rate is written for
-abbrev pub job : Rate → ℤ → MediaRows → Bool → Job
-job rate first media drop = record {
+abbrev pub job : Rate → ℤ → MediaRows → (drop wide : Bool) → Job
+job rate first media drop wide = record {
   rate = frame_rate rate;
   first = first;
   media = media;
-  drop =
-      drop;
+  drop = drop;
+  layout = layout_of wide;
+}
+
+-- each such timeline is written for it
+pub same_job : (t : Timeline) (rate : Rate) (media : MediaRows) (drop wide : Bool)
+    → frame_rate rate ≡ record_rate t
+    → job_of t media drop wide ≡ job rate (start_frame t) media drop wide
+same_job t rate media drop wide e = λ k. record {
+  rate = sym e k;
+  first = start_frame t;
+  media = media;
+  drop = drop;
+  layout = layout_of wide;
 }
 
 -- ---- speeds
@@ -76,10 +97,11 @@ count_is rate = by (plain_mode rate.num rate.den)
     by (Some m) = refl
 
 -- the speed of a clip's side is the clip's
-pub speed_kept : (rate : Rate) (first : ℤ) (media : MediaRows) (drop : Bool) (speed : ℤ)
+pub speed_kept : (rate : Rate) (first : ℤ) (media : MediaRows) (drop wide : Bool) (speed : ℤ)
     → is_there (tenths_of (count_in (mode_in (frame_rate rate) false)) speed) ≡ true
-    → pos (speed_of (count_of rate) (speed_in_tenths (job rate first media drop) speed)) ≡ speed
-speed_kept rate first media drop speed h = by (int_eq speed (pos 1000000)) refl
+    → pos (speed_of (count_of rate) (speed_in_tenths (job rate first media drop wide) speed))
+    ≡ speed
+speed_kept rate first media drop wide speed h = by (int_eq speed (pos 1000000)) refl
   where
     by : (b : Bool) → int_eq speed (pos 1000000) ≡ b
         → pos
@@ -102,13 +124,14 @@ on_frame z d h e = units_of z (unsigned_abs d) (omega (arith, ints, h))
     (passes (int_eq (int_rem_euclid z d) (pos 0)) e)))
 
 -- so many frames from where a side begins, at a whole frame or at its own speed
-pub counts_on : (rate : Rate) (first : ℤ) (media : MediaRows) (drop : Bool) (c : ClipRow)
+pub counts_on : (rate : Rate) (first : ℤ) (media : MediaRows) (drop wide : Bool) (c : ClipRow)
     (start u : ℤ) (b k : ℤ) (s : ℕ) → pos s ≡ speed_in c → u ≡ start +ℤ (b *ℤ pos (ticks rate))
-    → (not (int_eq (speed_in c) (pos 1000000)) && is_between (job rate first media drop) c start
+    → (not (int_eq (speed_in c) (pos 1000000)) && is_between (job rate first media drop wide) c
+    start
     (record { at = u; frames = pos 0; counted = pos 0 })) ≡ false
-    → source_at (job rate first media drop) c start (u +ℤ (k *ℤ pos (ticks rate))) ≡ source_at
-    (job rate first media drop) c start u +ℤ int_div_euclid (k *ℤ pos s) (pos 1000000)
-counts_on rate first media drop c start u b k s speed at whole =
+    → source_at (job rate first media drop wide) c start (u +ℤ (k *ℤ pos (ticks rate))) ≡ source_at
+    (job rate first media drop wide) c start u +ℤ int_div_euclid (k *ℤ pos s) (pos 1000000)
+counts_on rate first media drop wide c start u b k s speed at whole =
     let from = trimmed_start {C = Listed} (Clip c) in
     let f = ticks rate in
     let e : u -ℤ start ≡ b *ℤ pos f = omega (arith, ints, at) in
@@ -120,7 +143,7 @@ counts_on rate first media drop c start u b k s speed at whole =
     (sym (ap₂ (λ z n. int_div_euclid (media_at from n z) (pos f)) e (sym speed)))
   where
     by : (t : Bool) → int_eq (speed_in c) (pos 1000000) ≡ t
-        → (not t && is_between (job rate first media drop) c start
+        → (not t && is_between (job rate first media drop wide) c start
         (record { at = u; frames = pos 0; counted = pos 0 })) ≡ false
         → int_div_euclid (media_at (trimmed_start {C = Listed} (Clip c)) (pos s)
         ((b +ℤ k) *ℤ pos (ticks rate))) (pos (ticks rate))
@@ -189,9 +212,11 @@ by_url_is url (x ∷ rows) row d e = here (bytes_eq url x.url) refl e
         )
     here false f g h = let k = h g in (k.0, other (bytes_eq row.reel x.reel) refl g k.1)
 
-if_reel_is : (o : Option (List ℕ)) (reel : List ℕ) → if_reel o ≡ Some reel → o ≡ Some reel
-if_reel_is None reel e = absurd (cc e)
-if_reel_is (Some name) reel e = by (is_reel_name name) e
+if_reel_is : (layout : Layout) (o : Option (List ℕ)) (reel : List ℕ)
+    → if_reel layout o ≡ Some reel → o ≡ Some reel
+if_reel_is layout None reel e = absurd (cc e)
+if_reel_is layout (Some name) reel e =
+    by (is_reel_name name && nat_le (length name) layout.reel_width) e
   where
     by : (b : Bool) → cond b (Some name) None ≡ Some reel → Some name ≡ Some reel
     by true f = f
@@ -208,8 +233,8 @@ url_is (Some (M.Kept k)) url other e = absurd (cc e)
 
 -- with a media list a clip's key is the url that is listed of its reel
 pub knows_listed : (rows : List MediaRow) → AreRows rows → KnowsKeys own_key (Some rows)
-knows_listed rows d c reel e = by_row (clip_row (Some rows) c) refl
-    (if_reel_is (reel_in (clip_row (Some rows) c)) reel e)
+knows_listed rows d layout c reel e = by_row (clip_row (Some rows) c) refl
+    (if_reel_is layout (reel_in (clip_row (Some rows) c)) reel e)
   where
     by_url_in : (o : Option (List ℕ)) (row : MediaRow) → url_in (active_media c) ≡ o
         → option_and_then (λ url. by_url url rows) o ≡ Some row → row.reel ≡ reel
@@ -229,35 +254,38 @@ knows_listed rows d c reel e = by_row (clip_row (Some rows) c) refl
 -- ---- what a side shows
 
 -- in each frame from where a side begins, the clip shows what the side does
-pub side_gives : (rate : Rate) (first : ℤ) (media : MediaRows) (drop : Bool) (c : ClipRow)
+pub side_gives : (rate : Rate) (first : ℤ) (media : MediaRows) (drop wide : Bool) (c : ClipRow)
     (kind : Watch) (start u count : ℤ) (b k : ℤ) → KnowsKeys kind.key media → c.enabled ≡ true
-    → has_rate (job rate first media drop) (media_rate c) ≡ true
+    → has_rate (job rate first media drop wide) (media_rate c) ≡ true
     → is_there (tenths_of (count_in (mode_in (frame_rate rate) false)) (speed_in c)) ≡ true
-    → is_there (clip_reel media c) ≡ true
+    → is_there (clip_reel (layout_of wide) media c) ≡ true
     → u ≡ start +ℤ (b *ℤ pos (ticks rate))
-    → (not (int_eq (speed_in c) (pos 1000000)) && is_between (job rate first media drop) c start
+    → (not (int_eq (speed_in c) (pos 1000000)) && is_between (job rate first media drop wide) c
+    start
     (record { at = u; frames = pos 0; counted = pos 0 })) ≡ false
     → image ((sight (Clip c)).shows (exactly kind) ((b +ℤ k) *ℤ pos (ticks rate))) ≡ side_shows rate
-    media (side_of (job rate first media drop) c start u count) k
-side_gives rate first media drop c kind start u count b k keys enabled rated tenths named at whole =
-    let j = job rate first media drop in
-    let r = some_there (clip_reel media c) named in
+    media (side_of (job rate first media drop wide) c start u count) k
+side_gives rate first media drop wide c kind start u count b k keys enabled rated tenths named at
+    whole =
+    let j = job rate first media drop wide in
+    let r = some_there (clip_reel (layout_of wide) media c) named in
     let s = some_there (media_rate c) (rate_there (media_rate c) rated) in
-    let speed = speed_kept rate first media drop (speed_in c) tenths in
+    let speed = speed_kept rate first media drop wide (speed_in c) tenths in
     let same : s.0 ≡ frame_rate rate = rate_same s.0 (subst (λ o. has_rate j o ≡ true) s.1 rated) in
     clip_watched c kind (reel_key media r.0) (frame_rate rate) (trimmed_start {C = Listed} (Clip c))
-    (speed_in c) ((b +ℤ k) *ℤ pos (ticks rate)) enabled (keys c r.0 r.1)
+    (speed_in c) ((b +ℤ k) *ℤ pos (ticks rate)) enabled (keys (layout_of wide) c r.0 r.1)
     (s.1 ∙ ap (λ z. Some z) same) refl refl
     ∙ ap (Single (reel_key media r.0))
     (ap (λ z. int_div_euclid (media_at (trimmed_start {C = Listed} (Clip c)) (speed_in c) z)
     (pos (ticks rate))) (let t = sum-times b k (ticks rate) in omega (arith, ints, at, t))
-    ∙ counts_on rate first media drop c start u b k (side_speed rate (side_of j c start u count))
+    ∙ counts_on rate first media drop wide c start u b k
+    (side_speed rate (side_of j c start u count))
     speed at whole)
     ∙ sym
     (ap (λ o. reel_shows rate media (side_of j c start u count)
-    (Rattle.edl_frames_law.specs.Carried.reel_named o) k) r.1)
+    (Rattle.edl_frames.specs.Sides.reel_named o) k) r.1)
   where
-    rate_there : (o : Option FrameRate) → has_rate (job rate first media drop) o ≡ true
+    rate_there : (o : Option FrameRate) → has_rate (job rate first media drop wide) o ≡ true
         → is_there o ≡ true
     rate_there None e = absurd (cc e)
     rate_there (Some z) e = refl
@@ -269,4 +297,5 @@ side_gives rate first media drop c kind start u count b k keys enabled rated ten
 
 -- without a media list a clip is known by its reel
 pub knows_reels : KnowsKeys reel_first None
-knows_reels c reel e = ap (λ o. reel_first o (key_of c)) (if_reel_is (reel_of c) reel e)
+knows_reels layout c reel e =
+    ap (λ o. reel_first o (key_of c)) (if_reel_is layout (reel_of c) reel e)

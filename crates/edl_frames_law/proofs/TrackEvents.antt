@@ -17,7 +17,8 @@ use Rattle.edl_frames.specs.Channels.{keyed_child_shows, KeySeen}
 use Rattle.coord.proofs.SightLemmas.{length_seen, sights-items, looks-items}
 use Rattle.coord.specs.Images.{Image, Empty, image}
 use Rattle.edl_frames.specs.Shown.{MediaRows, events_show}
-use Rattle.edl_frames_law.specs.Carried.{head, length_in, track_events}
+use Rattle.edl_frames.specs.Seats.{head, length_in}
+use Rattle.edl_frames.specs.ChildEvents.{track_events}
 use Rattle.edl_frames_law.proofs.FrameQuotients.{sum-times}
 use Rattle.edl_frames_law.proofs.LookSteps.{yes, below, above, seen_at, times_le, times_lt}
 use Rattle.edl_frames_law.specs.Premises.{KnowsKeys}
@@ -140,21 +141,22 @@ sum_is v (x ∷ l) n e = by x.length refl (sum_of (lengths_seen l)) refl (sum_is
 
 -- ---- a track shows what its events show
 
-pub track_is_written : (rate : Rate) (first : ℤ) (media : MediaRows) (drop : Bool) (c : Channel)
+pub track_is_written : (rate : Rate) (first : ℤ) (media : MediaRows) (drop wide : Bool)
+    (c : Channel)
     (key : KeySeen) (t : TrackOf Listed) (long : ℕ) (n : ℤ) → KnowsKeys key media
     → t.source_range ≡ None → t.effects ≡ [] → t.enabled ≡ true
-    → length_of (Track t) ≡ Some long → AreFree (job rate first media drop) c (pos 0) head
+    → length_of (Track t) ≡ Some long → AreFree (job rate first media drop wide) c (pos 0) head
     (items_of t.children) → AreCalm (items_of t.children)
     → image (keyed_child_shows key (Track t) ((n -ℤ first) *ℤ pos (ticks rate))) ≡ events_show rate
-    media (track_events (job rate first media drop) c (items_of t.children)) n
-track_is_written rate first media drop c key t long n keys a b d known_long free calm =
+    media (track_events (job rate first media drop wide) c (items_of t.children)) n
+track_is_written rate first media drop wide c key t long n keys a b d known_long free calm =
     let w : Watch = record { kind = t.kind; key = key } in
     let v = exactly w in
     let items = items_of t.children in
     let m = n -ℤ first in
     let u = m *ℤ pos (ticks rate) in
     let l = looks v items in
-    let f = fitted rate first media drop w c (pos 0) (pos 0) (pos 0) head items
+    let f = fitted rate first media drop wide w c (pos 0) (pos 0) (pos 0) head items
     (omega (arith, ints)) refl (omega (arith, ints)) free calm in
     let all = total_bits rate w (pos 0) items f.bits f.are in
     let track_long : pos (or_zero (sight (Track t)).length) ≡ total l =
@@ -166,13 +168,13 @@ track_is_written rate first media drop c key t long n keys a b d known_long free
     (option_or (option_map range_of o) (option_map from_zero (sum_of (lengths_seen l))))) a
     (sights-items t.children) ∙ len_of (sum_of (lengths_seen (map sight items)))) ∙ e)
     ∙ ap total (sym (ap (map (seen v)) (sights-items t.children)) ∙ looks-items v t.children)) in
-    let events : events_show rate media (track_events (job rate first media drop) c items) n ≡
+    let events : events_show rate media (track_events (job rate first media drop wide) c items) n ≡
     stretches_show (stretches (pos 0) nothing f.bits) m =
     (let z : n ≡ first +ℤ m = omega (arith, ints) in
-    ap (events_show rate media (track_events (job rate first media drop) c items)) z
-    ∙ events_match rate first media drop w c keys (pos 0) (pos 0) (pos 0) m head items f.bits
+    ap (events_show rate media (track_events (job rate first media drop wide) c items)) z
+    ∙ events_match rate first media drop wide w c keys (pos 0) (pos 0) (pos 0) m head items f.bits
     nothing (omega (arith, ints)) refl f.are f.fit free calm (omega (arith, ints))
-    (head_stands rate first media drop (pos 0) (pos 0) items)) in
+    (head_stands rate first media drop wide (pos 0) (pos 0) items)) in
     ap₂ (λ z s. image (cond (within (pos 0) z u) s Blank)) track_long
     (inside_track t v u a b d refl)
     ∙ by_lt_z m (pos 0)

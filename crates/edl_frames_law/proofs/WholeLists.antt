@@ -15,6 +15,7 @@ use Rattle.edl_list.specs.declared.list.Side.{Side}
 use Rattle.edl_list.specs.declared.list.Event.{Event}
 use Rattle.edl_list.specs.declared.list.EventList.{EventList}
 use Rattle.edl_list.specs.Formed.{IsEvent, AreApart}
+use Rattle.edl_list.specs.Layouts.{layout_of, FitsEvent}
 use Rattle.edl_list.specs.Alike.{IsEven}
 use Rattle.coord.specs.Looks.{Overlap}
 use Rattle.coord.specs.Keys.{frame_rate}
@@ -24,19 +25,25 @@ use Rattle.coord.specs.Programs.{start_frame}
 use Rattle.edl_frames.specs.Shown.{MediaRows, is_on, on_channel}
 use Rattle.edl_frames.specs.Channels.{channel_track}
 use Rattle.edl_frames.specs.Refused.{IsAccepted}
-use Rattle.edl_frames_law.specs.Carried.{Job, job_of, Past, head, seats, Seat, past_by, length_in, mode_in, day_in, is_in_day, Reason, Nested, OffFrame, RecordDay, first_that, reason_of, item_tests, shown_tests, transition_tests, is_past_record, is_item, is_on_frame, clip_in, event_of, track_events, events_on, examine_all, first_said, unnumbered, not_carried, IsListOf}
+use Rattle.edl_frames.specs.declared.reasons.Why.{Why}
+use Rattle.edl_frames.specs.Jobs.{Job, job_of, mode_in, day_in, is_in_day, is_on_frame}
+use Rattle.edl_frames.specs.Seats.{Past, head, seats, Seat, past_by, length_in, is_item, clip_in}
+use Rattle.edl_frames.specs.ChildReasons.{first_that, reason_of, item_tests, shown_tests, transition_tests, is_past_record}
+use Rattle.edl_frames.specs.ChildEvents.{event_of, track_events, events_on, unnumbered}
+use Rattle.edl_frames.specs.Carried.{examine_all, first_said, not_carried, IsListOf}
+use Rattle.edl_frames.specs.declared.reasons.Why.TheVariants as W
 use Rattle.coord.specs.Soundness.{IsCalm}
 use Rattle.edl_frames_law.proofs.ListedRates.{passes}
 use Rattle.edl_frames_law.proofs.CalmItems.{AreCalm, calm_tracks}
 use Rattle.edl_frames_law.specs.Premises.{AreListed}
 use Rattle.edl_frames_law.proofs.ItemLooks.{Watch}
 use Rattle.edl_frames_law.proofs.Stretches.{front_of, front_late, front_early}
-use Rattle.edl_frames_law.proofs.SideLooks.{job}
+use Rattle.edl_frames_law.proofs.SideLooks.{job, same_job}
 use Rattle.edl_frames_law.proofs.ReasonFacts.{AreFree, all_fail, none_first}
 use Rattle.edl_frames_law.proofs.FittedItems.{fitted}
 use Rattle.edl_frames_law.proofs.ListShows.{said_on, carried_all, placed}
 use Rattle.edl_frames_law.proofs.EventsFormed.{EventsHold, events_hold}
-use Rattle.edl_frames_law.proofs.EventsAccepted.{own_channel, Known, sides_hold, ChannelsHold, all_hold, all_apart, event_is, event_even, all_carried_here, in_day}
+use Rattle.edl_frames_law.proofs.EventsAccepted.{own_channel, Known, sides_hold, ChannelsHold, all_hold, all_apart, event_is, event_fits, event_even, all_carried_here, in_day}
 use Rattle.tick_time.proofs.BoolLemmas.{both}
 
 -- the lines don't matter
@@ -50,7 +57,7 @@ numbered_hold Q z (e ∷ es) h = (
 
 -- ---- the record frames of an event are of the day
 
-none_back : (ps qs : List (Bool × Reason)) → first_that (ps ++ qs) ≡ None → first_that qs ≡ None
+none_back : (ps qs : List (Bool × Why)) → first_that (ps ++ qs) ≡ None → first_that qs ≡ None
 none_back [] qs e = e
 none_back (p ∷ ps) qs e = none_back ps qs (none_first p (ps ++ qs) e).1
 
@@ -58,23 +65,23 @@ record_free : (j : Job) (c : Channel) (s : Seat) → reason_of j c s ≡ None
     → is_past_record j (event_of j c s) ≡ false
 record_free j c s e = by (overlap_of s.item) e
   where
-    by : (o : Option Overlap) → ◌≡◌ {A = Option Reason}
+    by : (o : Option Overlap) → ◌≡◌ {A = Option Why}
         (first_that (elim o [ None ↦ item_tests j c s | Some o ↦ transition_tests j c s o ])) None
         → is_past_record j (event_of j c s) ≡ false
     by None f =
-        let a = none_first (not (is_item s.item), Nested)
-        ((not (is_on_frame j s.start && is_on_frame j (s.start +ℤ length_in s.item)), OffFrame)
+        let a = none_first (not (is_item s.item), W.Nested)
+        ((not (is_on_frame j s.start && is_on_frame j (s.start +ℤ length_in s.item)), W.OffFrame)
         ∷ (shown_tests j s (clip_in s.item) ++
-        ((is_past_record j (event_of j c s), RecordDay) ∷ []))) f in
+        ((is_past_record j (event_of j c s), W.RecordDay) ∷ []))) f in
         let b =
         none_first (
           not (is_on_frame j s.start && is_on_frame j (s.start +ℤ length_in s.item)),
-          OffFrame,
+          W.OffFrame,
         ) (shown_tests j s (clip_in s.item) ++
-        ((is_past_record j (event_of j c s), RecordDay) ∷ [])) a.1 in
-        (none_first (is_past_record j (event_of j c s), RecordDay) []
+        ((is_past_record j (event_of j c s), W.RecordDay) ∷ [])) a.1 in
+        (none_first (is_past_record j (event_of j c s), W.RecordDay) []
         (none_back (shown_tests j s (clip_in s.item))
-        ((is_past_record j (event_of j c s), RecordDay) ∷ []) b.1)).0
+        ((is_past_record j (event_of j c s), W.RecordDay) ∷ []) b.1)).0
     by (Some o) f = (all_fail (transition_tests j c s o) f).1.1.1.0
 
 abbrev InDay : Job → Event → Type 0
@@ -125,101 +132,113 @@ all_channels P (e ∷ es) h = All-cons P e es (here (is_on e.channel e) (own_cha
 
 -- ---- the events of each channel
 
-track_known : (rate : Rate) (first : ℤ) (media : MediaRows) (drop : Bool) (day : ℕ) (c : Channel)
+track_known : (rate : Rate) (first : ℤ) (media : MediaRows) (drop wide : Bool) (day : ℕ)
+    (c : Channel)
     (l : List (ItemOf Listed)) → AreListed media → 999 < day
     → day_in (mode_in (frame_rate rate) drop) ≤ day → AreCalm l
-    → AreFree (job rate first media drop) c (pos 0) head l
-    → EventsHold (Known rate media day) first (track_events (job rate first media drop) c l)
-track_known rate first media drop day c l rows long h calm free =
+    → AreFree (job rate first media drop wide) c (pos 0) head l
+    → EventsHold (Known rate media wide day) first
+    (track_events (job rate first media drop wide) c l)
+track_known rate first media drop wide day c l rows long h calm free =
     let w : Watch = record { kind = []; key = own_key } in
-    let f = fitted rate first media drop w c (pos 0) (pos 0) (pos 0) head l (omega (arith, ints))
+    let f = fitted rate first media drop wide w c (pos 0) (pos 0) (pos 0) head l
+    (omega (arith, ints))
     refl (omega (arith, ints)) free calm in
     let late = front_late (pos 0) (pos 0) f.bits f.fit (omega (arith, ints)) in
     let early = front_early (pos 0) f.bits in
     let zero_front : first +ℤ front_of (pos 0) f.bits ≡ first = omega (arith, ints, late, early) in
-    subst (λ z. EventsHold (Known rate media day) z (track_events (job rate first media drop) c l))
+    subst (λ z. EventsHold (Known rate media wide day) z
+    (track_events (job rate first media drop wide) c l))
     zero_front
-    (events_hold (Known rate media day) rate first media drop w c
-    (sides_hold rate first media drop day rows long h) (pos 0) (pos 0) (pos 0) head l f.bits
+    (events_hold (Known rate media wide day) rate first media drop wide w c
+    (sides_hold rate first media drop wide day rows long h) (pos 0) (pos 0) (pos 0) head l f.bits
     (omega (arith, ints)) refl f.are f.fit free calm (omega (arith, ints))
-    (λ lap e. (sides_hold rate first media drop day rows long h).black_out _))
+    (λ lap e. (sides_hold rate first media drop wide day rows long h).black_out _))
 
 -- a list that is written is well formed, but for its timecode, and even, and its media list
 -- carries it
-pub record IsGood (list : EventList) (media : MediaRows) (day : ℕ) : Type 0 where
+pub record IsGood (list : EventList) (media : MediaRows) (wide : Bool) (day : ℕ) : Type 0 where
   pub events : All (IsEvent day) list.events
+  pub reels : All (FitsEvent (layout_of wide)) list.events
   pub apart : AllPairs AreApart list.events
   pub even : IsEven list
   pub carried : IsAccepted list media
 
-pub list_is_good : (t : Timeline) (list : EventList) (media : MediaRows) (drop : Bool) (day : ℕ)
+pub list_is_good : (t : Timeline) (list : EventList) (media : MediaRows) (drop wide : Bool)
+    (day : ℕ)
     → IsCalm t → AreListed media → 999 < day → day_in (mode_in (frame_rate list.rate) drop) ≤ day
-    → not_carried t media drop ≡ None → IsListOf t media drop list
-    → IsGood list media day
-list_is_good t list media drop day calm rows long h carried i =
-    let q = all_hold (Known list.rate media day) list.events known in
-    let d = all_channels (InDay (job list.rate (start_frame t) media drop)) list.events days in
+    → not_carried t media drop wide ≡ None → IsListOf t media drop wide list
+    → IsGood list media wide day
+list_is_good t list media drop wide day calm rows long h carried i =
+    let q = all_hold (Known list.rate media wide day) list.events known in
+    let d = all_channels (InDay (job list.rate (start_frame t) media drop wide)) list.events days in
     record {
       events = λ k x l. let v = q k x l in let y = both _ _ (d k x l) in
-          event_is list.rate media day v.0 (slice_index_or list.events k x) v.1
-          (in_day list.rate (start_frame t) media drop day
+          event_is list.rate media wide day v.0 (slice_index_or list.events k x) v.1
+          (in_day list.rate (start_frame t) media drop wide day
           (slice_index_or list.events k x).rec_in h y.0)
-          (in_day list.rate (start_frame t) media drop day
+          (in_day list.rate (start_frame t) media drop wide day
           (slice_index_or list.events k x).rec_out h y.1);
-      apart = all_apart (Known list.rate media day) list.events known;
-      even = λ k x l. let v = q k x l in event_even list.rate media day v.0
+      reels = λ k x l. let v = q k x l in
+          event_fits list.rate media wide day v.0 (slice_index_or list.events k x) v.1;
+      apart = all_apart (Known list.rate media wide day) list.events known;
+      even = λ k x l. let v = q k x l in event_even list.rate media wide day v.0
           (slice_index_or list.events k x) v.1;
-      carried = all_carried_here list.rate media day list.events q;
+      carried = all_carried_here list.rate media wide day list.events q;
     }
   where
-    rate_is : job_of t media drop ≡ job list.rate (start_frame t) media drop
-    rate_is = λ k. record { rate = sym i.rate k; first = start_frame t; media = media; drop = drop }
+    rate_is : job_of t media drop wide ≡ job list.rate (start_frame t) media drop wide
+    rate_is = same_job t list.rate media drop wide i.rate
 
-    none_said : first_said (examine_all (job_of t media drop) 0 [] (items_of t.tracks.children)) ≡
+    none_said : first_said (examine_all (job_of t media drop wide) 0 []
+        (items_of t.tracks.children)) ≡
         None
-    none_said = (carried_all t media drop carried).said
+    none_said = (carried_all t media drop wide carried).said
 
     -- the events of the channel's track
     per_channel : (P : List Event → Type 0) (c : Channel) → P []
         → ((l : List (ItemOf Listed)) → AreCalm l
-        → AreFree (job list.rate (start_frame t) media drop) c (pos 0) head l
-        → P (track_events (job list.rate (start_frame t) media drop) c l))
-        → P (events_on (job_of t media drop) c (channel_track c (items_of t.tracks.children)))
+        → AreFree (job list.rate (start_frame t) media drop wide) c (pos 0) head l
+        → P (track_events (job list.rate (start_frame t) media drop wide) c l))
+        → P (events_on (job_of t media drop wide) c (channel_track c (items_of t.tracks.children)))
     per_channel P c none track = by (channel_track c (items_of t.tracks.children)) refl
       where
         shut : (s : TrackOf Listed) → AreCalm (items_of s.children)
-            → (s.enabled ≡ true → AreFree (job_of t media drop) c (pos 0) head
+            → (s.enabled ≡ true → AreFree (job_of t media drop wide) c (pos 0) head
             (items_of s.children)) → (b : Bool) → s.enabled ≡ b
-            → P (cond b (track_events (job_of t media drop) c (items_of s.children)) [])
+            → P (cond b (track_events (job_of t media drop wide) c (items_of s.children)) [])
         shut s a f true e = subst (λ j. P (track_events j c (items_of s.children))) (sym rate_is)
             (track (items_of s.children) a
             (subst (λ j. AreFree j c (pos 0) head (items_of s.children)) rate_is (f e)))
         shut s a f false e = none
 
         by : (o : Option (ItemOf Listed)) → channel_track c (items_of t.tracks.children) ≡ o
-            → P (events_on (job_of t media drop) c o)
+            → P (events_on (job_of t media drop wide) c o)
         by None e = none
         by (Some x) e =
-            let s = said_on (job_of t media drop) c (items_of t.tracks.children) x none_said e in
+            let s = said_on (job_of t media drop wide) c (items_of t.tracks.children) x none_said e
+            in
             let p = placed c (items_of t.tracks.children) x e in
-            subst (λ z. P (events_on (job_of t media drop) c (Some z))) (sym s.is)
+            subst (λ z. P (events_on (job_of t media drop wide) c (Some z))) (sym s.is)
             (shut s.track (calm_tracks t calm p.0 s.track (p.1 ∙ ap (λ z. Some z) s.is)) s.free
             s.track.enabled refl)
 
-    known : ChannelsHold (Known list.rate media day) list.events
+    known : ChannelsHold (Known list.rate media wide day) list.events
     known c = (
       start_frame t,
-      numbered_hold (Known list.rate media day) (start_frame t) (on_channel c list.events)
-          (subst (λ es. EventsHold (Known list.rate media day) (start_frame t) es)
+      numbered_hold (Known list.rate media wide day) (start_frame t) (on_channel c list.events)
+          (subst (λ es. EventsHold (Known list.rate media wide day) (start_frame t) es)
           (sym (i.events c))
-          (per_channel (λ es. EventsHold (Known list.rate media day) (start_frame t) es) c tt
-          (λ l a f. track_known list.rate (start_frame t) media drop day c l rows long h a f))),
+          (per_channel (λ es. EventsHold (Known list.rate media wide day) (start_frame t) es) c tt
+          (λ l a f. track_known list.rate (start_frame t) media drop wide day c l rows long h a
+          f))),
     )
 
-    days : (c : Channel) → All (InDay (job list.rate (start_frame t) media drop))
+    days : (c : Channel) → All (InDay (job list.rate (start_frame t) media drop wide))
         (filter (is_on c) list.events)
-    days c = numbered_day (job list.rate (start_frame t) media drop) (on_channel c list.events)
-        (subst (λ es. All (InDay (job list.rate (start_frame t) media drop)) es) (sym (i.events c))
-        (per_channel (λ es. All (InDay (job list.rate (start_frame t) media drop)) es) c
+    days c = numbered_day (job list.rate (start_frame t) media drop wide) (on_channel c list.events)
+        (subst (λ es. All (InDay (job list.rate (start_frame t) media drop wide)) es)
+        (sym (i.events c))
+        (per_channel (λ es. All (InDay (job list.rate (start_frame t) media drop wide)) es) c
         (λ k d l. absurd (omega (arith, l)))
-        (λ l a f. all_in_day (job list.rate (start_frame t) media drop) c (pos 0) head l f)))
+        (λ l a f. all_in_day (job list.rate (start_frame t) media drop wide) c (pos 0) head l f)))

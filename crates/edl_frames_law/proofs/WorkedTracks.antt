@@ -6,7 +6,7 @@ use Rattle.limits.specs.Limits.{most_ticks}
 use Rattle.tick_time.specs.Times.{IsWhole}
 use Rattle.tick_time.specs.Rates.{unit}
 use Rattle.coord.specs.Worked.{frames}
-use Rattle.edl_frames_law.specs.Carried.{tenths_of}
+use Rattle.edl_frames.specs.Jobs.{tenths_of}
 use Rattle.edl_frames_law.specs.WorkedTracks.{Clock24, AreWorkedTracks}
 use Rattle.edl_frames_law.proofs.WorkedLists.{facts_24}
 
@@ -33,4 +33,10 @@ tracks_worked c = record {
   tenths = refl;
   no_reel = refl;
   second_video = refl;
+  gap = refl;
+  unlisted_clip = refl;
+  disabled_clip = refl;
+  disabled_track = refl;
+  long_reel = refl;
+  wide_reel = refl;
 }

@@ -1,6 +1,5 @@
 -- What the laws of lists and timelines speak of.
 pub mod PlainItems
 pub mod Worked
-pub mod Carried
 pub mod Premises
 pub mod WorkedTracks

@@ -7,17 +7,27 @@ use Rattle.tick_time.specs.declared.times.Time.{Time}
 use Rattle.tick_time.proofs.SameValues.{RateFacts, built_rate, TimeFacts, built_time}
 use Rattle.otio_model.specs.declared.warps.Effect.{Effect}
 use Rattle.otio_model.specs.declared.compositions.ItemOf.{ItemOf}
+use Rattle.otio_model.specs.declared.compositions.ItemOf.TheVariants.{Clip, Gap, Transition, Stack, Track}
 use Rattle.otio_model.specs.declared.compositions.Listed.{Listed}
 use Rattle.otio_model.specs.Trees.{listed}
 use Rattle.edl_list.specs.declared.list.Channel.TheVariants.{V}
 use Rattle.edl_list.specs.declared.list.Cross.TheVariants.{Cut, Dissolve}
 use Rattle.edl_list.specs.declared.list.Event.{Event}
+use Rattle.edl_list.specs.declared.layout.Layout.{Layout}
+use Rattle.edl_list.specs.Layouts.{narrow, wide_layout}
 use Rattle.coord.specs.Worked.{frames}
 use Rattle.edl_frames.specs.Shown.{MediaRows}
 use Rattle.edl_frames.specs.Conformed.{external, warp}
 use Rattle.edl_frames_law.specs.PlainItems.{clip_with, gap_with, transition_with, track_with}
-use Rattle.edl_frames_law.specs.Carried.{Job, black_side, head, seats, track_events, tenths_of, examine, Reason, Tracks, NoReelName, Phase, reason_of}
-use Rattle.edl_frames_law.specs.Worked.{side, event, rows}
+use Rattle.edl_frames.specs.declared.reasons.Why.{Why}
+use Rattle.edl_frames.specs.Jobs.{Job, tenths_of}
+use Rattle.edl_frames.specs.Sides.{black_side}
+use Rattle.edl_frames.specs.Seats.{head, seats}
+use Rattle.edl_frames.specs.ChildEvents.{track_events}
+use Rattle.edl_frames.specs.Carried.{examine}
+use Rattle.edl_frames.specs.ChildReasons.{reason_of}
+use Rattle.edl_frames.specs.declared.reasons.Why.TheVariants as W
+use Rattle.edl_frames_law.specs.Worked.{side, event, row, rows}
 
 -- 24 frames a second are a rate, at which each count of frames up to 1000 is a time
 pub record Clock24 : Type 0 where
@@ -59,6 +69,7 @@ job c media = record {
   first = pos 86400;
   media = media;
   drop = false;
+  layout = narrow;
 }
 
 -- against the two files, of 1000 frames each
@@ -90,9 +101,31 @@ first_event behind rec_out =
     event 0 (side (codes "A1") (Some (codes "a")) 100 behind None) Cut 86400 rec_out
 
 -- why the child at an index isn't carried
-abbrev pub reason_at : Job → List (ItemOf Listed) → ℕ → Option (Option Reason)
+abbrev pub reason_at : Job → List (ItemOf Listed) → ℕ → Option (Option Why)
 reason_at j items i =
     option_map (reason_of j V) (slice_get (seats (pos 0) head items) i)
+
+-- the same item, disabled
+abbrev pub disabled : ItemOf Listed → ItemOf Listed
+disabled (Clip r) = Clip (record r { enabled = false })
+disabled (Gap r) = Gap (record r { enabled = false })
+disabled (Transition r) = Transition r
+disabled (Stack r) = Stack (record r { enabled = false })
+disabled (Track r) = Track (record r { enabled = false })
+
+-- a clip of a file that isn't listed
+abbrev pub unlisted : Clock24 → ItemOf Listed
+unlisted c = shot c (codes "c") (codes "c.mov") 100 refl []
+
+-- against a file that is listed as a reel of 15 bytes
+abbrev pub long_job : Clock24 → Layout → Job
+long_job c layout = record
+    (job c (Some (row (rate_24 c) (codes "A001C003_240101") (codes "a.mov") 1000 ∷ []))) {
+      layout = layout;
+    }
+
+abbrev pub one_clip : Clock24 → List (ItemOf Listed)
+one_clip c = shot c (codes "a") (codes "a.mov") 100 refl [] ∷ []
 
 -- the events of these tracks, and what isn't carried
 pub record AreWorkedTracks (c : Clock24) : Type 0 where
@@ -105,8 +138,16 @@ pub record AreWorkedTracks (c : Clock24) : Type 0 where
   pub sped : track_events (listed_job c) V (to_sped c 1500000) ≡ first_event 136 86436
       ∷ event 0 (side (codes "B1") (Some (codes "b")) 182 272 (Some 360))
       (Dissolve 24 (side (codes "A1") (Some (codes "a")) 136 136 None)) 86436 86496 ∷ []
-  pub phase : reason_at (listed_job c) (to_sped c 1100000) 2 ≡ Some (Some Phase)
+  pub phase : reason_at (listed_job c) (to_sped c 1100000) 2 ≡ Some (Some W.Phase)
   pub tenths : tenths_of 24 (pos 1100000) ≡ Some 264
-  pub no_reel : reason_at (job c None) (two_clips c) 0 ≡ Some (Some NoReelName)
+  pub no_reel : reason_at (job c None) (two_clips c) 0 ≡ Some (Some W.NoReel)
   pub second_video : examine (listed_job c) 1 (video ∷ []) video
-      ≡ (1 ∷ [], Some Tracks) ∷ []
+      ≡ (1 ∷ [], Some W.Tracks) ∷ []
+  pub gap : reason_at (listed_job c) (empty_gap c ∷ []) 0 ≡ Some None
+  pub unlisted_clip : reason_at (listed_job c) (unlisted c ∷ []) 0 ≡ Some (Some W.NoReel)
+  pub disabled_clip : reason_at (listed_job c) (disabled (unlisted c) ∷ []) 0 ≡ Some None
+  pub disabled_track : examine (listed_job c) 0 [] (disabled video) ≡ []
+  pub long_reel : reason_at (long_job c narrow) (one_clip c) 0 ≡ Some (Some W.NoReel)
+  pub wide_reel : track_events (long_job c wide_layout) V (one_clip c)
+      ≡ event 0 (side (codes "A001C003_240101") (Some (codes "a")) 100 148 None) Cut 86400 86448
+      ∷ []

@@ -1,5 +1,5 @@
 -- The lines of all events, one event after another.
-use Rattle.std.proofs.Common.{◌≡◌, ◌<◌, ◌≤◌, ◌+◌, ℕ, Bool, List, [], ◌∷◌, ◌++◌, All, length, refl, sym, ap, ◌∙◌, append-nil, append_assoc, arith}
+use Rattle.std.proofs.Common.{◌≡◌, ◌<◌, ◌≤◌, ◌+◌, ◌^◌, ℕ, Bool, List, [], ◌∷◌, ◌++◌, All, length, refl, sym, ap, ◌∙◌, append-nil, append_assoc, arith}
 use Rattle.std.proofs.lemmas.List.Elements.{All-head, All-tail}
 use Rattle.tick_time.specs.declared.rates.Rate.{Rate}
 use Rattle.edl_line.specs.Statements.{Statement}
@@ -8,6 +8,8 @@ use Rattle.edl_list.specs.Formed.{IsEvent}
 use Rattle.edl_list.specs.Speeds.{day_of}
 use Rattle.edl_list.specs.Alike.{IsSameEvent, AreSame}
 use Rattle.edl_list.specs.Labelled.{IsLabelled}
+use Rattle.edl_list.specs.declared.layout.Layout.{Layout}
+use Rattle.edl_layout.specs.Columns.{AreWidths}
 use Rattle.edl_layout.specs.Rows.{event_lines}
 use Rattle.edl_layout.specs.Spelling.{lines_from}
 use Rattle.edl_text.specs.Past.{mode_in, blocks_in}
@@ -35,18 +37,18 @@ AreMatched rate (x ∷ xs) [] = ⊥
 AreMatched rate (x ∷ xs) (y ∷ ys) = Matches rate x y × AreMatched rate xs ys
 
 -- what the lines of events say behind those before
-pub record Walk (rate : Rate) (drop : Bool) (number : ℕ) (past : List Statement) (events : List Event) : Type 0 where
+pub record Walk (rate : Rate) (drop : Bool) (layout : Layout) (number : ℕ) (past : List Statement) (events : List Event) : Type 0 where
   pub now : List Statement
   pub read : List Event
-  pub sound : AreSound rate past (lines_from rate drop number events) now
+  pub sound : AreSound rate past (lines_from rate drop layout number events) now
   pub mode : mode_in now ≡ drop
   pub events_are : events_of rate (blocks_in now) ≡ events_of rate (blocks_in past) ++ read
   pub rising : AreRising (length past) read
   pub matched : AreMatched rate events read
 
-pub walk : (rate : Rate) (drop : Bool) (number : ℕ) (events : List Event) (past : List Statement) → All (IsEvent (day_of rate)) events → All (IsLabelled rate drop) events → All HasNames events
-    → number + length events ≤ 1000 → mode_in past ≡ drop → Walk rate drop number past events
-walk rate drop number [] past is labels names few mode = record {
+pub walk : (rate : Rate) (drop : Bool) (layout : Layout) (number : ℕ) (events : List Event) (past : List Statement) → All (IsEvent (day_of rate)) events → All (IsLabelled rate drop) events → All HasNames events
+    → AreWidths layout → number + length events ≤ 10 ^ layout.number_width → mode_in past ≡ drop → Walk rate drop layout number past events
+walk rate drop layout number [] past is labels names widths few mode = record {
   now = past;
   read = [];
   sound = refl;
@@ -55,14 +57,14 @@ walk rate drop number [] past is labels names few mode = record {
   rising = tt;
   matched = tt;
 }
-walk rate drop number (event ∷ events) past is labels names few mode =
-    let one = step rate drop number event past (All-head (IsEvent (day_of rate)) event events is) (All-head (IsLabelled rate drop) event events labels) (All-head HasNames event events names) (omega (arith, few)) mode in
-    let rest = walk rate drop (number + 1) events one.now (All-tail (IsEvent (day_of rate)) event events is) (All-tail (IsLabelled rate drop) event events labels) (All-tail HasNames event events names)
-    (omega (arith, few)) one.mode in
+walk rate drop layout number (event ∷ events) past is labels names widths few mode =
+    let one = step rate drop layout number event past (All-head (IsEvent (day_of rate)) event events is) (All-head (IsLabelled rate drop) event events labels) (All-head HasNames event events names) (record { some = widths.some; few = widths.few; below = omega (arith, few) }) mode in
+    let rest = walk rate drop layout (number + 1) events one.now (All-tail (IsEvent (day_of rate)) event events is) (All-tail (IsLabelled rate drop) event events labels) (All-tail HasNames event events names)
+    widths (omega (arith, few)) one.mode in
     record {
       now = rest.now;
       read = one.read ∷ rest.read;
-      sound = sound_append rate (event_lines rate drop number event) (lines_from rate drop (number + 1) events) past one.now rest.now one.sound rest.sound;
+      sound = sound_append rate (event_lines rate drop layout number event) (lines_from rate drop layout (number + 1) events) past one.now rest.now one.sound rest.sound;
       mode = rest.mode;
       events_are = rest.events_are ∙ ap (λ l. l ++ rest.read) one.events ∙ append_assoc (events_of rate (blocks_in past)) (one.read ∷ []) rest.read;
       rising = (one.after, rising_from one.read.line (length one.now) rest.read one.within rest.rising);

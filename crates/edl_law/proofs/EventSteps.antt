@@ -25,6 +25,8 @@ use Rattle.edl_law.specs.Law.{HasName, HasNames}
 use Rattle.edl_law.proofs.StatementLemmas.{said_reel, said_event, said_kind}
 use Rattle.edl_law.proofs.TestLemmas.{is_less, reel_read}
 use Rattle.edl_law.proofs.LabelLemmas.{label_field}
+use Rattle.edl_list.specs.declared.layout.Layout.{Layout}
+use Rattle.edl_law.proofs.NumberLemmas.{IsNumbered}
 use Rattle.edl_law.proofs.LineForms.{event_says}
 use Rattle.edl_law.proofs.NoteLemmas.{block, IsBehind, from_note, to_note, sound_append}
 use Rattle.edl_law.proofs.SpeedLemmas.{count_some, speed_back}
@@ -32,10 +34,10 @@ use Rattle.edl_law.proofs.EventMatches.{Matches, frame_back, cut_sound, pair_sou
 use Rattle.edl_law.proofs.SideLemmas.{speed_of_side, speed_note, side_alone, side_out, side_in, speed_in, speed_out, speed_cut, needless, no_link}
 
 -- what is said by the lines of an event behind those before, and the event that is read
-pub record Step (rate : Rate) (drop : Bool) (number : ℕ) (past : List Statement) (event : Event) : Type 0 where
+pub record Step (rate : Rate) (drop : Bool) (layout : Layout) (number : ℕ) (past : List Statement) (event : Event) : Type 0 where
   pub now : List Statement
   pub read : Event
-  pub sound : AreSound rate past (event_lines rate drop number event) now
+  pub sound : AreSound rate past (event_lines rate drop layout number event) now
   pub mode : mode_in now ≡ drop
   pub events : events_of rate (blocks_in now) ≡ events_of rate (blocks_in past) ++ read ∷ []
   pub after : length past < read.line
@@ -78,9 +80,9 @@ to_matches rate drop line number event notes before needed labels some needless 
 }
 
 -- the lines of a cut
-cut_step : (rate : Rate) (drop : Bool) (number line : ℕ) (channel : Channel) (to : Side) (rec_in rec_out : ℤ) (past : List Statement) → let event = whole line channel to Cut rec_in rec_out in
-    IsEvent (day_of rate) event → IsLabelled rate drop event → HasNames event → number ≤ 999 → mode_in past ≡ drop → Step rate drop number past event
-cut_step rate drop number line channel to rec_in rec_out past is labels names few mode =
+cut_step : (rate : Rate) (drop : Bool) (layout : Layout) (number line : ℕ) (channel : Channel) (to : Side) (rec_in rec_out : ℤ) (past : List Statement) → let event = whole line channel to Cut rec_in rec_out in
+    IsEvent (day_of rate) event → IsLabelled rate drop event → HasNames event → IsNumbered layout number → mode_in past ≡ drop → Step rate drop layout number past event
+cut_step rate drop layout number line channel to rec_in rec_out past is labels names few mode =
     let event = whole line channel to Cut rec_in rec_out in
     let says = main_said rate drop number event in
     let at = suc (length past) in
@@ -91,7 +93,7 @@ cut_step rate drop number line channel to rec_in rec_out past is labels names fe
     let fault : event_fault rate at (block at drop says []) before ≡ None =
     cut_sound rate drop at number to.reel channel to.src_in to.src_out rec_in rec_out [] before labels.source_in labels.source_out labels.record_in labels.record_out is.to.forward record_span in
     let base : IsBehind at drop says before [] (said.Event says ∷ past) = record { blocks = ap (λ m. block at m says [] ∷ before) mode; mode = mode; later = omega arith } in
-    let sped = speed_note rate at drop says before [] (said.Event says ∷ past) t to is.to labels.source_in count.small (λ _. side_alone at drop says to.reel before refl) base in
+    let sped = speed_note rate layout at drop says before [] (said.Event says ∷ past) t to is.to labels.source_in count.small (λ _. side_alone at drop says to.reel before refl) base in
     let named = from_note rate at drop says before (cond t (Speed (speed_of_side rate drop to) ∷ []) []) sped.now to.name names.to sped.is in
     let read = event_on rate (block at drop says named.all) before channel in
     record {
@@ -100,11 +102,11 @@ cut_step rate drop number line channel to rec_in rec_out past is labels names fe
       sound = (
         said.Event says,
         record {
-          says = event_says number to.reel channel Cut _ _ _ _ few is.to.reel tt (label_field rate drop to.src_in labels.source_in) (label_field rate drop to.src_out labels.source_out)
+          says = event_says layout number to.reel channel Cut _ _ _ _ few is.to.reel tt (label_field rate drop to.src_in labels.source_in) (label_field rate drop to.src_out labels.source_out)
               (label_field rate drop rec_in labels.record_in) (label_field rate drop rec_out labels.record_out);
           sound = subst (λ m. event_fault rate at (block at m says []) before ≡ None) (sym mode) fault;
         },
-        sound_append rate (speed_lines_if rate drop t to) (name_lines from_head to.name) (said.Event says ∷ past) sped.now named.now sped.sound named.sound,
+        sound_append rate (speed_lines_if rate drop layout t to) (name_lines from_head to.name) (said.Event says ∷ past) sped.now named.now sped.sound named.sound,
       );
       mode = named.is.mode;
       events = ap (events_of rate) named.is.blocks ∙ ap (λ l. events_of rate before ++ l)
@@ -126,13 +128,13 @@ picked_side : (p : Bool) (side : Side) → p ≡ true → (if p then Some side e
 picked_side p side e = rw e refl
 
 -- the lines of a dissolve or wipe
-pair_step : (rate : Rate) (drop : Bool) (number line frames : ℕ) (channel : Channel) (to from : Side) (cross : Cross) (rec_in rec_out : ℤ) (past : List Statement)
+pair_step : (rate : Rate) (drop : Bool) (layout : Layout) (number line frames : ℕ) (channel : Channel) (to from : Side) (cross : Cross) (rec_in rec_out : ℤ) (past : List Statement)
     → let event = whole line channel to cross rec_in rec_out in
-    IsEvent (day_of rate) event → IsLabelled rate drop event → HasNames event → number ≤ 999 → mode_in past ≡ drop
+    IsEvent (day_of rate) event → IsLabelled rate drop event → HasNames event → IsNumbered layout number → mode_in past ≡ drop
     → outgoing cross ≡ Some from → HasSmallNumbers cross → duration (said_kind cross) ≡ frames → AreFrames frames rec_in rec_out → IsSide (day_of rate) from → IsBelowDay rate drop from.src_in → HasName from
     → ((other : Side) → IsSameSide rate from other → IsSameCross rate cross (begun (said_kind cross) (Some other)))
-    → Step rate drop number past event
-pair_step rate drop number line frames channel to from cross rec_in rec_out past is labels names few mode out small lasts span from_is from_below from_named alike =
+    → Step rate drop layout number past event
+pair_step rate drop layout number line frames channel to from cross rec_in rec_out past is labels names few mode out small lasts span from_is from_below from_named alike =
     let event = whole line channel to cross rec_in rec_out in
     let first = first_said rate drop number event from in
     let says = main_said rate drop number event in
@@ -156,9 +158,9 @@ pair_step rate drop number line frames channel to from cross rec_in rec_out past
     pair_sound rate drop at one number frames to.reel from.reel channel cross from.src_in to.src_in to.src_out rec_in rec_out [] old from_below labels.source_in labels.source_out labels.record_in labels.record_out
     is.to.forward record_span lasts span.inside in
     let base : IsBehind at drop says before [] (said.Event says ∷ middle) = record { blocks = ap (λ m. block at m says [] ∷ block one m first [] ∷ old) mode; mode = mode; later = omega arith } in
-    let out_sped = speed_note rate at drop says before [] (said.Event says ∷ middle) f from from_is from_below count.small (λ _. side_out at one drop says first from.reel old refl lasting) base in
+    let out_sped = speed_note rate layout at drop says before [] (said.Event says ∷ middle) f from from_is from_below count.small (λ _. side_out at one drop says first from.reel old refl lasting) base in
     let out_notes = cond f (Speed (speed_of_side rate drop from) ∷ []) [] in
-    let sped = speed_note rate at drop says before out_notes out_sped.now t to is.to labels.source_in count.small
+    let sped = speed_note rate layout at drop says before out_notes out_sped.now t to is.to labels.source_in count.small
     (λ _. room rate drop at one says first to from old f refl refl lasting) out_sped.is in
     let notes = cond t (Speed (speed_of_side rate drop to) ∷ out_notes) out_notes in
     let from_names = from_note rate at drop says before notes sped.now from.name from_named sped.is in
@@ -177,22 +179,22 @@ pair_step rate drop number line frames channel to from cross rec_in rec_out past
     record {
       now = named.now;
       read = read;
-      sound = subst (λ o. AreSound rate past (lines_with rate drop number event o) named.now) (sym out) (
+      sound = subst (λ o. AreSound rate past (lines_with rate drop layout number event o) named.now) (sym out) (
         said.Event first,
         record {
-          says = event_says number from.reel channel Cut _ _ _ _ few from_is.reel tt (label_field rate drop from.src_in from_below) (label_field rate drop from.src_in from_below)
+          says = event_says layout number from.reel channel Cut _ _ _ _ few from_is.reel tt (label_field rate drop from.src_in from_below) (label_field rate drop from.src_in from_below)
               (label_field rate drop rec_in labels.record_in) (label_field rate drop rec_in labels.record_in);
           sound = subst (λ m. event_fault rate one (block one m first []) old ≡ None) (sym mode) first_fault;
         },
         (
           said.Event says,
           record {
-            says = event_says number to.reel channel cross _ _ _ _ few is.to.reel small (label_field rate drop to.src_in labels.source_in) (label_field rate drop to.src_out labels.source_out)
+            says = event_says layout number to.reel channel cross _ _ _ _ few is.to.reel small (label_field rate drop to.src_in labels.source_in) (label_field rate drop to.src_out labels.source_out)
                 (label_field rate drop rec_in labels.record_in) (label_field rate drop rec_out labels.record_out);
             sound = subst (λ m. event_fault rate at (block at m says []) (block one m first [] ∷ old) ≡ None) (sym mode) fault;
           },
-          sound_append rate (speed_lines_if rate drop f from ++ speed_lines_if rate drop t to) (name_lines from_head from.name ++ name_lines to_head to.name) (said.Event says ∷ middle) sped.now named.now
-              (sound_append rate (speed_lines_if rate drop f from) (speed_lines_if rate drop t to) (said.Event says ∷ middle) out_sped.now sped.now out_sped.sound sped.sound)
+          sound_append rate (speed_lines_if rate drop layout f from ++ speed_lines_if rate drop layout t to) (name_lines from_head from.name ++ name_lines to_head to.name) (said.Event says ∷ middle) sped.now named.now
+              (sound_append rate (speed_lines_if rate drop layout f from) (speed_lines_if rate drop layout t to) (said.Event says ∷ middle) out_sped.now sped.now out_sped.sound sped.sound)
               (sound_append rate (name_lines from_head from.name) (name_lines to_head to.name) sped.now from_names.now named.now from_names.sound named.sound),
         ),
       );
@@ -207,17 +209,17 @@ pair_step rate drop number line frames channel to from cross rec_in rec_out past
           (subst (λ o. IsSameCross rate cross (begun (said_kind cross) o)) (sym (picked_side (nat_lt 0 (duration (said_kind cross))) other lasting)) (alike other same));
     }
 
-by_cross : (rate : Rate) (drop : Bool) (number line : ℕ) (channel : Channel) (to : Side) (cross : Cross) (rec_in rec_out : ℤ) (past : List Statement) → let event = whole line channel to cross rec_in rec_out in
-    IsEvent (day_of rate) event → IsLabelled rate drop event → HasNames event → number ≤ 999 → mode_in past ≡ drop → Step rate drop number past event
-by_cross rate drop number line channel to Cut rec_in rec_out past is labels names few mode = cut_step rate drop number line channel to rec_in rec_out past is labels names few mode
-by_cross rate drop number line channel to (Dissolve frames from) rec_in rec_out past is labels names few mode =
-    pair_step rate drop number line frames channel to from (Dissolve frames from) rec_in rec_out past is labels names few mode refl is.cross.0.few refl is.cross.0 is.cross.1 labels.outgoing_in names.from
+by_cross : (rate : Rate) (drop : Bool) (layout : Layout) (number line : ℕ) (channel : Channel) (to : Side) (cross : Cross) (rec_in rec_out : ℤ) (past : List Statement) → let event = whole line channel to cross rec_in rec_out in
+    IsEvent (day_of rate) event → IsLabelled rate drop event → HasNames event → IsNumbered layout number → mode_in past ≡ drop → Step rate drop layout number past event
+by_cross rate drop layout number line channel to Cut rec_in rec_out past is labels names few mode = cut_step rate drop layout number line channel to rec_in rec_out past is labels names few mode
+by_cross rate drop layout number line channel to (Dissolve frames from) rec_in rec_out past is labels names few mode =
+    pair_step rate drop layout number line frames channel to from (Dissolve frames from) rec_in rec_out past is labels names few mode refl is.cross.0.few refl is.cross.0 is.cross.1 labels.outgoing_in names.from
     (λ other same. (refl, same))
-by_cross rate drop number line channel to (Wipe code frames from) rec_in rec_out past is labels names few mode =
-    pair_step rate drop number line frames channel to from (Wipe code frames from) rec_in rec_out past is labels names few mode refl (is.cross.0, is.cross.1.few) refl is.cross.1 is.cross.2 labels.outgoing_in names.from
+by_cross rate drop layout number line channel to (Wipe code frames from) rec_in rec_out past is labels names few mode =
+    pair_step rate drop layout number line frames channel to from (Wipe code frames from) rec_in rec_out past is labels names few mode refl (is.cross.0, is.cross.1.few) refl is.cross.1 is.cross.2 labels.outgoing_in names.from
     (λ other same. (refl, refl, same))
 
 -- the lines of an event
-pub step : (rate : Rate) (drop : Bool) (number : ℕ) (event : Event) (past : List Statement) → IsEvent (day_of rate) event → IsLabelled rate drop event → HasNames event → number ≤ 999 → mode_in past ≡ drop
-    → Step rate drop number past event
-step rate drop number event past is labels names few mode = by_cross rate drop number event.line event.channel event.to event.cross event.rec_in event.rec_out past is labels names few mode
+pub step : (rate : Rate) (drop : Bool) (layout : Layout) (number : ℕ) (event : Event) (past : List Statement) → IsEvent (day_of rate) event → IsLabelled rate drop event → HasNames event → IsNumbered layout number → mode_in past ≡ drop
+    → Step rate drop layout number past event
+step rate drop layout number event past is labels names few mode = by_cross rate drop layout number event.line event.channel event.to event.cross event.rec_in event.rec_out past is labels names few mode

@@ -1,14 +1,15 @@
 -- The fields of written lines.
-use Rattle.std.proofs.Common.{◌≡◌, ◌≢◌, ◌-◌, ℕ, zero, suc, true, List, [], ◌∷◌, ◌++◌, codes, length, refl, sym, ap, ◌∙◌, append_assoc, append-nil, ◌/◌, ◌%◌, ◌+◌}
+use Rattle.std.proofs.Common.{◌≡◌, ◌≢◌, ◌≤◌, ◌-◌, ℕ, zero, suc, true, List, [], ◌∷◌, ◌++◌, codes, length, refl, sym, ap, ◌∙◌, append_assoc, append-nil, ◌/◌, ◌%◌, ◌+◌, arith}
 use Rattle.text_lines.specs.First.{is_blank}
 use Rattle.text_lines.specs.Lines.{fields_of}
 use Rattle.text_lines.proofs.Places.{blank_is}
 use Rattle.text_lines.proofs.Splitting.{fields_at, fields_end, fields_skip}
+use Rattle.edl_list.specs.declared.layout.Layout.{Layout}
 use Rattle.edl_list.specs.declared.list.Cross.{Cross}
 use Rattle.edl_list.specs.declared.list.Cross.TheVariants.{Cut, Dissolve, Wipe}
 use Rattle.edl_list.specs.declared.list.Channel.{Channel}
 use Rattle.edl_list.specs.declared.list.Channel.TheVariants.{V, A, A2}
-use Rattle.edl_layout.specs.Columns.{spaces, column, digits, code_width, kind_column, duration_column, channel_text, channel_width, reel_width}
+use Rattle.edl_layout.specs.Columns.{spaces, column, digits, code_width, kind_column, duration_column, channel_text, channel_width}
 use Rattle.edl_layout.specs.Rows.{event_line}
 use Rattle.edl_law.proofs.SolidTexts.{solid, solid_blank, solid_digits}
 
@@ -59,6 +60,10 @@ append_some (x ∷ xs) b ys = λ e. absurd (cc)
 pub digits_field : (width n : ℕ) → IsField (digits (suc width) n)
 digits_field width n = record { some = append_some (digits width (n / 10)) (48 + n % 10) []; above = solid_digits (suc width) n }
 
+pub number_field : (width n : ℕ) → 1 ≤ width → IsField (digits width n)
+number_field zero n some = absurd (omega (arith, some))
+number_field (suc width) n some = digits_field width n
+
 -- the fields of the type and the duration
 abbrev pub kind_fields : Cross → List (List ℕ)
 kind_fields Cut = codes "C" ∷ []
@@ -82,11 +87,11 @@ channel_field A = letter_field 65 refl
 channel_field A2 = record { some = append_some [] 65 (50 ∷ []); above = refl }
 
 -- the fields of an event line
-pub fields_event : (number : ℕ) (reel : List ℕ) (channel : Channel) (cross : Cross) (a b c d : List ℕ) → IsField reel → IsField a → IsField b → IsField c → IsField d
-    → fields_of (event_line number reel channel (kind_column cross) (duration_column cross) a b c d)
-    ≡ digits 3 number ∷ reel ∷ channel_text channel ∷ (kind_fields cross ++ a ∷ b ∷ c ∷ d ∷ [])
-fields_event number reel channel cross a b c d r p q s t =
+pub fields_event : (layout : Layout) (number : ℕ) (reel : List ℕ) (channel : Channel) (cross : Cross) (a b c d : List ℕ) → 1 ≤ layout.number_width → IsField reel → IsField a → IsField b → IsField c → IsField d
+    → fields_of (event_line layout number reel channel (kind_column cross) (duration_column cross) a b c d)
+    ≡ digits layout.number_width number ∷ reel ∷ channel_text channel ∷ (kind_fields cross ++ a ∷ b ∷ c ∷ d ∷ [])
+fields_event layout number reel channel cross a b c d some r p q s t =
     let name = channel_field channel in
-    field_at (digits 3 number) _ (digits_field 2 number) ∙ ap (λ l. digits 3 number ∷ l) (fields_space _
-    ∙ fields_column reel_width reel _ r.some r.above ∙ ap (λ l. reel ∷ l) (fields_column channel_width (channel_text channel) _ name.some name.above
+    field_at (digits layout.number_width number) _ (number_field layout.number_width number some) ∙ ap (λ l. digits layout.number_width number ∷ l) (fields_space _
+    ∙ fields_column layout.reel_width reel _ r.some r.above ∙ ap (λ l. reel ∷ l) (fields_column channel_width (channel_text channel) _ name.some name.above
     ∙ ap (λ l. channel_text channel ∷ l) (fields_kind cross (labels_text a b c d) ∙ ap (λ l. kind_fields cross ++ l) (fields_labels a b c d p q s t))))

@@ -1,7 +1,7 @@
 -- What each written line says.
 use Rattle.std.proofs.Common.{◌≡◌, ◌≢◌, ◌≤◌, ◌/◌, ℕ, Bool, true, false, List, [], ◌∷◌, ◌++◌, codes, length, reverse, inl, refl, sym, ap, subst, ◌∙◌, append_assoc, append-nil, arith, IsUtf8}
 use Rattle.std.proofs.lemmas.List.{reverse-append, reverse-reverse}
-use Rattle.std.proofs.lemmas.List.Elements.{All-cons}
+use Rattle.std.proofs.lemmas.List.Elements.{All-cons, All-head}
 use Rattle.text_lines.specs.First.{is_blank, begins_with_blank, AreBlanks}
 use Rattle.text_lines.specs.Lines.{fields_of, trimmed, trimmed_front}
 use Rattle.text_lines.proofs.Places.{blank_is}
@@ -12,6 +12,7 @@ use Rattle.edl_line.specs.Saying.{Says, SaysTight, IsMode}
 use Rattle.edl_line.specs.Events.{IsKind, AreChannels}
 use Rattle.edl_line.specs.Numbers.{IsReel as IsReelField}
 use Rattle.edl_line.specs.Notes.{IsBehind, IsName}
+use Rattle.edl_list.specs.declared.layout.Layout.{Layout}
 use Rattle.edl_list.specs.declared.list.Reel.{Reel}
 use Rattle.edl_list.specs.declared.list.Reel.TheVariants.{Black, Named}
 use Rattle.edl_list.specs.declared.list.Channel.{Channel}
@@ -19,12 +20,12 @@ use Rattle.edl_list.specs.declared.list.Channel.TheVariants.{V, A, A2}
 use Rattle.edl_list.specs.declared.list.Cross.{Cross}
 use Rattle.edl_list.specs.declared.list.Cross.TheVariants.{Cut, Dissolve, Wipe}
 use Rattle.edl_list.specs.Formed.{IsReel}
-use Rattle.edl_layout.specs.Columns.{digits, spaces, column, reel_text, reel_width, channel_text, channel_width, kind_column, duration_column, HasSmallNumbers}
+use Rattle.edl_layout.specs.Columns.{digits, spaces, column, reel_text, channel_text, channel_width, kind_column, duration_column, HasSmallNumbers}
 use Rattle.edl_layout.specs.Rows.{event_line, from_head, to_head}
 use Rattle.edl_layout.specs.Spelling.{mode_line}
-use Rattle.edl_law.proofs.SolidTexts.{solid, solid_blank, solid_where, solid_append, solid_digits, digit_begins, line_tight}
-use Rattle.edl_law.proofs.FieldLemmas.{IsField, append_some, labels_text, field_at, field_end, fields_space, fields_spaces, fields_column, kind_fields, fields_event}
-use Rattle.edl_law.proofs.NumberLemmas.{three_digits, tenths_text}
+use Rattle.edl_law.proofs.SolidTexts.{solid, solid_blank, solid_where, solid_append, solid_digits, line_tight}
+use Rattle.edl_law.proofs.FieldLemmas.{IsField, append_some, labels_text, field_at, field_end, fields_space, fields_spaces, fields_column, kind_fields, fields_event, number_field}
+use Rattle.edl_law.proofs.NumberLemmas.{three_digits, tenths_text, IsNumbered, number_written}
 use Rattle.edl_law.proofs.StatementLemmas.{said_reel, said_channels, said_kind, said_event, said_speed}
 
 pub reel_field : (reel : Reel) → IsReel reel → IsField (reel_text reel)
@@ -63,28 +64,35 @@ behind front line back h = record { front = front ++ h.front; is = ap (λ l. fro
 labels_end : (a b c d : List ℕ) → EndsIn (labels_text a b c d) d
 labels_end a b c d = behind a _ d (behind (32 ∷ []) _ d (behind b _ d (behind (32 ∷ []) _ d (behind c _ d (behind (32 ∷ []) _ d (ends_here d))))))
 
-event_end : (number : ℕ) (reel : List ℕ) (channel : Channel) (cross : Cross) (a b c d : List ℕ) → EndsIn (event_line number reel channel (kind_column cross) (duration_column cross) a b c d) d
-event_end number reel channel cross a b c d =
+event_end : (layout : Layout) (number : ℕ) (reel : List ℕ) (channel : Channel) (cross : Cross) (a b c d : List ℕ) → EndsIn (event_line layout number reel channel (kind_column cross) (duration_column cross) a b c d) d
+event_end layout number reel channel cross a b c d =
     let tail = behind (32 ∷ []) _ d (labels_end a b c d) in
     let kind = behind (kind_column cross) _ d (behind (32 ∷ []) _ d (behind (duration_column cross) _ d tail)) in
     let name = behind (column channel_width (channel_text channel)) _ d (behind (32 ∷ []) _ d kind) in
-    behind (digits 3 number) _ d (behind (32 ∷ 32 ∷ []) _ d (behind (column reel_width reel) _ d (behind (32 ∷ []) _ d name)))
+    behind (digits layout.number_width number) _ d (behind (32 ∷ 32 ∷ []) _ d (behind (column layout.reel_width reel) _ d (behind (32 ∷ []) _ d name)))
+
+-- a line that begins with a field begins with no blank
+begins_solid : (field rest : List ℕ) → field ≢ [] → solid field ≡ true → begins_with_blank (field ++ rest) ≡ false
+begins_solid [] rest some above = absurd (some refl)
+begins_solid (b ∷ field) rest some above = All-head (λ x. is_blank x ≡ false) b field (solid_blank (b ∷ field) above)
 
 -- an event line
-pub event_says : (number : ℕ) (reel : Reel) (channel : Channel) (cross : Cross) (a b c d : List ℕ) → number ≤ 999 → IsReel reel → HasSmallNumbers cross → IsField a → IsField b → IsField c → IsField d
-    → Says (event_line number (reel_text reel) channel (kind_column cross) (duration_column cross) a b c d) (said.Event (said_event number reel channel cross a b c d))
-event_says number reel channel cross a b c d few is_reel small p q r s =
-    let line = event_line number (reel_text reel) channel (kind_column cross) (duration_column cross) a b c d in
-    let end = event_end number (reel_text reel) channel cross a b c d in
-    let tight : trimmed line ≡ line = line_tight line end.front d (digit_begins (number / 10 / 10)) end.is s.some s.above in
+pub event_says : (layout : Layout) (number : ℕ) (reel : Reel) (channel : Channel) (cross : Cross) (a b c d : List ℕ) → IsNumbered layout number → IsReel reel → HasSmallNumbers cross → IsField a → IsField b → IsField c → IsField d
+    → Says (event_line layout number (reel_text reel) channel (kind_column cross) (duration_column cross) a b c d) (said.Event (said_event number reel channel cross a b c d))
+event_says layout number reel channel cross a b c d few is_reel small p q r s =
+    let line = event_line layout number (reel_text reel) channel (kind_column cross) (duration_column cross) a b c d in
+    let end = event_end layout number (reel_text reel) channel cross a b c d in
+    let field = number_field layout.number_width number few.some in
+    let begins : begins_with_blank line ≡ false = begins_solid (digits layout.number_width number) _ field.some field.above in
+    let tight : trimmed line ≡ line = line_tight line end.front d begins end.is s.some s.above in
     subst (λ l. SaysTight l (said.Event (said_event number reel channel cross a b c d))) (sym tight)
     (record {
-      number = digits 3 number;
+      number = digits layout.number_width number;
       reel = reel_text reel;
       channels = channel_text channel;
       kind = kind_fields cross;
-      are = fields_event number (reel_text reel) channel cross a b c d (reel_field reel is_reel) p q r s;
-      is_number = three_digits number few;
+      are = fields_event layout number (reel_text reel) channel cross a b c d few.some (reel_field reel is_reel) p q r s;
+      is_number = number_written layout number few;
       is_reel = reel_said reel is_reel;
       are_channels = channel_said channel;
       is_kind = kind_said cross small;
@@ -180,42 +188,42 @@ pub nothing_says : Says [] said.Nothing
 nothing_says = inl trimmed_empty
 
 -- the text of an M2 line
-abbrev pub speed_text : Reel → ℕ → List ℕ → List ℕ
-speed_text reel tenths label =
-    codes "M2   " ++ (column reel_width (reel_text reel) ++ (codes " " ++ (digits 3 (tenths / 10) ++ (codes "." ++ (digits 1 tenths ++ (spaces 16 ++ (label ++ [])))))))
+abbrev pub speed_text : Layout → Reel → ℕ → List ℕ → List ℕ
+speed_text layout reel tenths label =
+    codes "M2   " ++ (column layout.reel_width (reel_text reel) ++ (codes " " ++ (digits 3 (tenths / 10) ++ (codes "." ++ (digits 1 tenths ++ (spaces 16 ++ (label ++ [])))))))
 
-speed_end : (reel : Reel) (tenths : ℕ) (label : List ℕ) → EndsIn (speed_text reel tenths label) label
-speed_end reel tenths label =
+speed_end : (layout : Layout) (reel : Reel) (tenths : ℕ) (label : List ℕ) → EndsIn (speed_text layout reel tenths label) label
+speed_end layout reel tenths label =
     let text = behind (digits 3 (tenths / 10)) _ label (behind (46 ∷ []) _ label (behind (digits 1 tenths) _ label (behind (spaces 16) _ label (ends_here label)))) in
-    behind (codes "M2   ") _ label (behind (column reel_width (reel_text reel)) _ label (behind (32 ∷ []) _ label text))
+    behind (codes "M2   ") _ label (behind (column layout.reel_width (reel_text reel)) _ label (behind (32 ∷ []) _ label text))
 
 abbrev tenths_column : ℕ → List ℕ
 tenths_column tenths = digits 3 (tenths / 10) ++ (codes "." ++ digits 1 tenths)
 
-number_field : (tenths : ℕ) → IsField (tenths_column tenths)
-number_field tenths = record {
+tenths_field : (tenths : ℕ) → IsField (tenths_column tenths)
+tenths_field tenths = record {
   some = append_some [] _ _;
   above = solid_append (digits 3 (tenths / 10)) (codes "." ++ digits 1 tenths) (solid_digits 3 (tenths / 10)) (solid_append (codes ".") (digits 1 tenths) refl (solid_digits 1 tenths));
 }
 
-fields_speed : (reel : Reel) (tenths : ℕ) (label : List ℕ) → IsReel reel → IsField label → fields_of (speed_text reel tenths label) ≡ codes "M2" ∷ reel_text reel ∷ tenths_column tenths ∷ label ∷ []
-fields_speed reel tenths label is_reel h =
+fields_speed : (layout : Layout) (reel : Reel) (tenths : ℕ) (label : List ℕ) → IsReel reel → IsField label → fields_of (speed_text layout reel tenths label) ≡ codes "M2" ∷ reel_text reel ∷ tenths_column tenths ∷ label ∷ []
+fields_speed layout reel tenths label is_reel h =
     let name = reel_field reel is_reel in
     field_at (codes "M2") _ (word_field 77 (50 ∷ []) refl) ∙ ap (λ l. codes "M2" ∷ l) (fields_space _ ∙ fields_space _
-    ∙ fields_column reel_width (reel_text reel) _ name.some name.above ∙ ap (λ l. reel_text reel ∷ l)
-    (field_at (tenths_column tenths) (spaces 15 ++ (label ++ [])) (number_field tenths) ∙ ap (λ l. tenths_column tenths ∷ l) (fields_spaces 15 (label ++ []) ∙ field_end label h)))
+    ∙ fields_column layout.reel_width (reel_text reel) _ name.some name.above ∙ ap (λ l. reel_text reel ∷ l)
+    (field_at (tenths_column tenths) (spaces 15 ++ (label ++ [])) (tenths_field tenths) ∙ ap (λ l. tenths_column tenths ∷ l) (fields_spaces 15 (label ++ []) ∙ field_end label h)))
 
 -- an M2 line
-pub speed_says : (reel : Reel) (tenths : ℕ) (label : List ℕ) → IsReel reel → tenths ≤ 9999 → IsField label → Says (speed_text reel tenths label) (said.Speed (said_speed reel tenths label))
-speed_says reel tenths label is_reel small h =
-    let line = speed_text reel tenths label in
-    let end = speed_end reel tenths label in
+pub speed_says : (layout : Layout) (reel : Reel) (tenths : ℕ) (label : List ℕ) → IsReel reel → tenths ≤ 9999 → IsField label → Says (speed_text layout reel tenths label) (said.Speed (said_speed reel tenths label))
+speed_says layout reel tenths label is_reel small h =
+    let line = speed_text layout reel tenths label in
+    let end = speed_end layout reel tenths label in
     let tight : trimmed line ≡ line = line_tight line end.front label (blank_is 77) end.is h.some h.above in
     subst (λ l. SaysTight l (said.Speed (said_speed reel tenths label))) (sym tight)
     (record {
       reel = reel_text reel;
       text = tenths_column tenths;
-      are = fields_speed reel tenths label is_reel h;
+      are = fields_speed layout reel tenths label is_reel h;
       is_reel = reel_said reel is_reel;
       is_speed = record { text = tenths_column tenths; is = refl; are_tenths = tenths_text tenths small };
     })

@@ -1,5 +1,5 @@
 -- The text of a list is read as the same list.
-use Rattle.std.proofs.Common.{◌≡◌, ℕ, Bool, false, List, [], ◌∷◌, ◌++◌, None, IsUtf8, codes, length, unwrap_or, refl, sym, ap, subst, ◌∙◌, arith}
+use Rattle.std.proofs.Common.{◌≡◌, ◌≤◌, ◌+◌, ◌^◌, ℕ, Bool, true, false, List, [], ◌∷◌, ◌++◌, None, IsUtf8, codes, length, unwrap_or, refl, sym, ap, subst, ◌∙◌, arith}
 use Rattle.std.proofs.lemmas.Str.{is_utf8-from_IsUtf8}
 use Rattle.tick_time.specs.declared.rates.Rate.{Rate}
 use Rattle.edl_line.specs.Statements as said
@@ -15,6 +15,8 @@ use Rattle.edl_text.specs.Events.{events_of}
 use Rattle.edl_text.specs.Lines.{AreSound, title_fault}
 use Rattle.edl_text.specs.Late.{AreFine}
 use Rattle.edl_text.specs.Lists.{IsList, events_in}
+use Rattle.edl_list.specs.Layouts.{layout_of, most_events}
+use Rattle.edl_layout.proofs.Widths.{widths_of}
 use Rattle.edl_law.specs.Law.{HasText}
 use Rattle.edl_law.proofs.LineLemmas.{AreShown, shown_lines, lines_written}
 use Rattle.edl_law.proofs.LineForms.{title_says, mode_says, nothing_says}
@@ -56,28 +58,34 @@ quiet rate [] = refl
 quiet rate (block ∷ blocks) = refl
 
 -- what is read of the text of a list
-pub record Reading (list : EventList) (drop : Bool) : Type 0 where
+pub record Reading (list : EventList) (drop wide : Bool) : Type 0 where
   pub read : EventList
-  pub reads : IsList list.rate (spelling list drop) read
+  pub reads : IsList list.rate (spelling list drop wide) read
   pub same : IsSame list read
 
-pub reading : (list : EventList) (drop : Bool) → HasText list drop → Reading list drop
-reading list drop h =
+-- the numbers from one on
+numbered : (wide : Bool) (n : ℕ) → n ≤ most_events (layout_of wide) → 1 + n ≤ 10 ^ (layout_of wide).number_width
+numbered true n h = omega (arith, h)
+numbered false n h = omega (arith, h)
+
+pub reading : (list : EventList) (drop wide : Bool) → HasText list drop wide → Reading list drop wide
+reading list drop wide h =
+    let layout = layout_of wide in
     let rate = list.rate in
     let head = titled rate list.title (cleaned list.title) h.title refl in
     let start = said.Mode drop ∷ head.now in
-    let path = walk rate drop 1 list.events start h.formed.events h.labels h.names (omega (arith, h.few)) refl in
+    let path = walk rate drop layout 1 list.events start h.formed.events h.labels h.names (widths_of wide) (numbered wide (length list.events) h.fits.few) refl in
     let past = said.Nothing ∷ path.now in
     let none : events_of rate (blocks_in start) ≡ [] = ap (λ b. events_of rate (noted (said.Mode drop) b)) head.blocks in
     let events : events_in rate past ≡ path.read = quiet rate (blocks_in path.now) ∙ path.events_are ∙ ap (λ l. l ++ path.read) none in
-    let body : AreSound rate head.now (mode_line drop ∷ lines_from rate drop 1 list.events) path.now =
+    let body : AreSound rate head.now (mode_line drop ∷ lines_from rate drop layout 1 list.events) path.now =
     (said.Mode drop, record { says = mode_says drop; sound = refl }, path.sound) in
     let last : AreSound rate path.now ([] ∷ []) past = (said.Nothing, record { says = nothing_says; sound = refl }, refl) in
-    let lines = list_lines list drop in
-    let shown : AreShown lines = shown_lines (title_lines list.title) (mode_line drop ∷ lines_from rate drop 1 list.events) (shown_title list.title)
-    (shown_mode drop, shown_events rate drop 1 list.events h.formed.events h.labels) in
+    let lines = list_lines list drop wide in
+    let shown : AreShown lines = shown_lines (title_lines list.title) (mode_line drop ∷ lines_from rate drop layout 1 list.events) (shown_title list.title)
+    (shown_mode drop, shown_events rate drop layout 1 list.events h.formed.events h.labels) in
     let whole : AreSound rate [] (lines ++ [] ∷ []) past =
-    sound_append rate lines ([] ∷ []) [] path.now past (sound_append rate (title_lines list.title) (mode_line drop ∷ lines_from rate drop 1 list.events) [] head.now path.now head.sound body) last in
+    sound_append rate lines ([] ∷ []) [] path.now past (sound_append rate (title_lines list.title) (mode_line drop ∷ lines_from rate drop layout 1 list.events) [] head.now path.now head.sound body) last in
     record {
       read = record { title = unwrap_or (title_in past) []; rate = rate; drop = unwrap_or (first_mode_in past) false; events = path.read };
       reads = record {

@@ -3,6 +3,7 @@ use Rattle.std.proofs.Common.{◌≡◌, ◌≤◌, ◌+◌, ◌&&◌, ◌||◌,
 use Rattle.tick_time.specs.declared.rates.Rate.{Rate}
 use Rattle.edl_line.specs.Statements as said
 use Rattle.edl_line.specs.Statements.{Statement, EventLine, Speed}
+use Rattle.edl_list.specs.declared.layout.Layout.{Layout}
 use Rattle.edl_list.specs.declared.list.Reel.{Reel}
 use Rattle.edl_list.specs.declared.list.Side.{Side}
 use Rattle.edl_list.specs.Formed.{IsReel, IsSide}
@@ -25,16 +26,16 @@ abbrev pub speed_of_side : Rate → Bool → Side → said.SpeedLine
 speed_of_side rate drop side = said_speed side.reel (written_tenths rate side) (label_text rate drop side.src_in)
 
 -- after the M2 line of a side, where it has one
-pub record Sped (rate : Rate) (line : ℕ) (drop : Bool) (says : EventLine) (before : List Block) (notes past : List Statement) (needed : Bool) (side : Side) : Type 0 where
+pub record Sped (rate : Rate) (layout : Layout) (line : ℕ) (drop : Bool) (says : EventLine) (before : List Block) (notes past : List Statement) (needed : Bool) (side : Side) : Type 0 where
   pub now : List Statement
-  pub sound : AreSound rate past (speed_lines_if rate drop needed side) now
+  pub sound : AreSound rate past (speed_lines_if rate drop layout needed side) now
   pub is : IsBehind line drop says before (cond needed (Speed (speed_of_side rate drop side) ∷ notes) notes) now
 
-pub speed_note : (rate : Rate) (line : ℕ) (drop : Bool) (says : EventLine) (before : List Block) (notes past : List Statement) (needed : Bool) (side : Side) → IsSide (day_of rate) side
+pub speed_note : (rate : Rate) (layout : Layout) (line : ℕ) (drop : Bool) (says : EventLine) (before : List Block) (notes past : List Statement) (needed : Bool) (side : Side) → IsSide (day_of rate) side
     → IsBelowDay rate drop side.src_in → count_of rate ≤ 60 → (needed ≡ true → has_side side.reel (block line drop says notes ∷ before) ≡ true) → IsBehind line drop says before notes past
-    → Sped rate line drop says before notes past needed side
-speed_note rate line drop says before notes past false side is below small side_there h = record { now = past; sound = refl; is = h }
-speed_note rate line drop says before notes past true side is below small side_there h =
+    → Sped rate layout line drop says before notes past needed side
+speed_note rate layout line drop says before notes past false side is below small side_there h = record { now = past; sound = refl; is = h }
+speed_note rate layout line drop says before notes past true side is below small side_there h =
     let speed = speed_of_side rate drop side in
     let tenths = written_tenths rate side in
     let label = label_text rate drop side.src_in in
@@ -43,7 +44,7 @@ speed_note rate line drop says before notes past true side is below small side_t
       sound = (
         Speed speed,
         record {
-          says = speed_says side.reel tenths label is.reel (tenths_small rate side is.speed small) (label_field rate drop side.src_in below);
+          says = speed_says layout side.reel tenths label is.reel (tenths_small rate side is.speed small) (label_field rate drop side.src_in below);
           sound = speed_sound rate drop past side.reel tenths _ label (block line drop says notes ∷ before) h.mode h.blocks (frame_known rate drop side.src_in below) (side_there refl);
         },
         refl,

@@ -7,9 +7,9 @@ ghost use Rattle.edl_list.specs.Speeds.{half_even};
 ghost use Rattle.edl_law.specs.Law.{SpellingIsRead};
 
 /// Law: the text of a list that [`edl_layout::write_list`] sends is read, at the rate of the list,
-/// as a list that is the same, and as no other. It holds of each well formed and even list of at
-/// most 999 events whose labels are below the day and whose text is no larger than a reader takes.
-/// It does nothing.
+/// as a list that is the same, and as no other. It holds of each well formed and even list that
+/// fits the layout that is asked for, whose labels are below the day and whose text is no larger
+/// than a reader takes. It does nothing.
 pub fn edl_round_trip()
     ensures { SpellingIsRead }
 {}

@@ -1,5 +1,6 @@
 pub mod TrimmedTexts
 pub mod Texts
 pub mod Days
-pub mod FirstPastDay
+pub mod FirstEvents
 pub mod Film
+pub mod Widths

@@ -5,6 +5,7 @@ use Rattle.tick_time.specs.declared.rates.Rate.{Rate}
 use Rattle.smpte_tc.specs.Modes.{mode_of}
 use Rattle.smpte_tc.specs.Day.{labels_of}
 use Rattle.edl_list.specs.Limits.{most_number}
+use Rattle.edl_list.specs.declared.layout.Layout.{Layout}
 use Rattle.edl_list.specs.declared.list.Channel.{Channel}
 use Rattle.edl_list.specs.declared.list.Channel.TheVariants.{V, A, A2}
 use Rattle.edl_list.specs.declared.list.Reel.{Reel}
@@ -12,11 +13,7 @@ use Rattle.edl_list.specs.declared.list.Reel.TheVariants.{Black, Named}
 use Rattle.edl_list.specs.declared.list.Cross.{Cross}
 use Rattle.edl_list.specs.declared.list.Cross.TheVariants.{Cut, Dissolve, Wipe}
 
--- how many digits the number of an event, a wipe code, a duration and the whole part of a speed
--- have
-abbrev pub number_width : ℕ
-number_width = 3
-
+-- how many digits a wipe code, a duration and the whole part of a speed have
 abbrev pub code_width : ℕ
 code_width = 3
 
@@ -26,15 +23,20 @@ duration_width = 3
 abbrev pub speed_width : ℕ
 speed_width = 3
 
--- how wide the columns of reels, channels and types are
-abbrev pub reel_width : ℕ
-reel_width = 8
-
+-- how wide the columns of channels and types are
 abbrev pub channel_width : ℕ
 channel_width = 5
 
 abbrev pub kind_width : ℕ
 kind_width = 4
+
+-- the widths that a layout can have: of numbers from one digit to six, and of reels from the two
+-- bytes of black to 32
+pub record AreWidths (layout : Layout) : Type 0 where
+  pub some : 1 ≤ layout.number_width
+  pub few : layout.number_width ≤ 6
+  pub black : 2 ≤ layout.reel_width
+  pub short : layout.reel_width ≤ 32
 
 -- so many spaces
 abbrev pub spaces : ℕ → List ℕ

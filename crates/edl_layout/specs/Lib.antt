@@ -3,3 +3,4 @@ pub mod Columns
 pub mod Rows
 pub mod Spelling
 pub mod Labelled
+pub mod Wide

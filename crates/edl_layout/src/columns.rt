@@ -1,13 +1,14 @@
 // What stands in the columns of a line.
-ghost use Rattle.std.specs.Prelude.{◌≡◌, ◌≤◌, ◌-◌, length};
+ghost use Rattle.std.specs.Prelude.{◌≡◌, ◌≤◌, ◌↔◌, IsTrue};
 ghost use Rattle.edl_list.specs.Limits.{most_number};
-ghost use Rattle.edl_list.specs.Formed.{IsReel};
-ghost use Rattle.edl_layout.specs.Columns.{digits, spaces, column, reel_text, reel_width, channel_text, channel_width, kind_column as kind_of, duration_column as duration_of, HasSmallNumbers};
+ghost use Rattle.edl_list.specs.Layouts.{FitsReel};
+ghost use Rattle.edl_layout.specs.Columns.{digits, spaces, column, reel_text, channel_text, channel_width, kind_column as kind_of, duration_column as duration_of, HasSmallNumbers};
 
-use edl_list::{Channel, Cross, Reel};
+use edl_list::{Channel, Cross, Layout, Reel};
+use text_lines::before;
 
-/// The spaces of a reel's column.
-const REEL_COLUMN: &[u8; 8] = b"        ";
+/// The spaces of the widest column, that of a reel in the wide layout.
+const WIDEST_COLUMN: &[u8; 32] = b"                                ";
 
 /// The column of the type of a cut.
 pub const CUT_COLUMN: &[u8; 4] = b"C   ";
@@ -27,11 +28,28 @@ pub fn three_digits(number: u32) -> [u8; 3]
     ]
 }
 
-/// The bytes of a reel as a line has them, at most eight: its name, and `BL` for black.
+/// The last six digits of a number.
+pub fn six_digits(number: u32) -> [u8; 6]
+    ensures { result ≡ digits 6 number }
+{
+    let tens = number / 10;
+    let hundreds = tens / 10;
+    let thousands = hundreds / 10;
+    let ten_thousands = thousands / 10;
+    let hundred_thousands = ten_thousands / 10;
+    [
+        b'0' + (hundred_thousands % 10) as u8,
+        b'0' + (ten_thousands % 10) as u8,
+        b'0' + (thousands % 10) as u8,
+        b'0' + (hundreds % 10) as u8,
+        b'0' + (tens % 10) as u8,
+        b'0' + (number % 10) as u8,
+    ]
+}
+
+/// The bytes of a reel as a line has them: its name, and `BL` for black.
 pub fn reel_bytes(reel: &Reel) -> &[u8]
-    requires { IsReel reel.now }
-    ensures text { result.now ≡ reel_text reel.now }
-    ensures short { length result.now ≤ reel_width }
+    ensures { result.now ≡ reel_text reel.now }
 {
     match reel {
         Reel::Black => b"BL",
@@ -39,12 +57,23 @@ pub fn reel_bytes(reel: &Reel) -> &[u8]
     }
 }
 
-/// The spaces that fill the column of a reel of this length in bytes, which is eight wide.
-pub fn padding(length: usize) -> &'static [u8]
-    requires { length ≤ reel_width }
-    ensures { result.now ≡ spaces (reel_width - length) }
+/// Whether the reel stands in its column.
+pub fn fits_reel(reel: &Reel, layout: Layout) -> bool
+    ensures { IsTrue result ↔ FitsReel layout reel.now }
 {
-    REEL_COLUMN.split_at(length).1
+    match reel {
+        Reel::Black => true,
+        Reel::Named(name) => name.as_str().len() <= layout.reel_width,
+    }
+}
+
+/// So many spaces, at most 32.
+#[tactic(auto, using(crate::proofs::Widths::widest_front))]
+pub fn padding(count: usize) -> &'static [u8]
+    requires { count ≤ 32 }
+    ensures { result.now ≡ spaces count }
+{
+    before(WIDEST_COLUMN, count)
 }
 
 /// The column of a channel, five wide: `V`, `A` or `A2`, and spaces behind it.

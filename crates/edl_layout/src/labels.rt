@@ -1,12 +1,15 @@
-// The labels of an event, and whether they are below the day.
+// The labels of an event, whether they are below the day, and whether reels stand in their columns.
 ghost use Rattle.std.specs.Prelude.{◌≡◌, ◌↔◌, IsTrue, IfSome};
 ghost use Rattle.edl_list.specs.Formed.{IsFrame, IsEvent, IsWellFormed};
 ghost use Rattle.edl_list.specs.Speeds.{day_of};
 ghost use Rattle.edl_list.specs.Labelled.{outgoing, IsLabelled, IsBelowDay};
+ghost use Rattle.edl_list.specs.Layouts.{FitsReel, FitsEvent};
 ghost use Rattle.edl_layout.specs.Columns.{label_text};
 ghost use Rattle.edl_layout.specs.Labelled.{IsFirstPast};
+ghost use Rattle.edl_layout.specs.Wide.{IsFirstWide};
 
-use edl_list::{Cross, Event, EventList};
+use crate::columns::fits_reel;
+use edl_list::{Cross, Event, EventList, Layout};
 use smpte_tc::label;
 use tick_time::Rate;
 
@@ -72,6 +75,43 @@ pub fn first_label_past_day(list: &EventList, drop: bool) -> Option<u32>
 {
     for event in list.events.as_slice() {
         if !is_labelled(event, list.rate, drop) {
+            return Some(event.line);
+        }
+    }
+    None
+}
+
+// Whether the reel of the outgoing side of an event that begins in this way stands in its column.
+fn fits_source(cross: &Cross, layout: Layout) -> bool
+    ensures { IsTrue result ↔ IfSome (outgoing cross.now)
+        (λ from. FitsReel layout from.reel) }
+{
+    match cross {
+        Cross::Cut => true,
+        Cross::Dissolve { from, .. } => fits_reel(&from.get().reel, layout),
+        Cross::Wipe { from, .. } => fits_reel(&from.get().reel, layout),
+    }
+}
+
+// Whether the reels of both sides of the event stand in their columns.
+fn fits_event(event: &Event, layout: Layout) -> bool
+    ensures { IsTrue result ↔ FitsEvent layout event.now }
+{
+    if !fits_reel(&event.to.reel, layout) {
+        return false;
+    }
+    fits_source(&event.cross, layout)
+}
+
+/// The line of the first event, in the order of the list, of which a side has a reel of more than
+/// eight bytes, so that the narrow layout has no column for it; none where the reel of each side
+/// stands in the eight columns of that layout.
+pub fn first_wide_reel(list: &EventList) -> Option<u32>
+    ensures { IsFirstWide list.now.events result }
+{
+    let layout = Layout::of(false);
+    for event in list.events.as_slice() {
+        if !fits_event(event, layout) {
             return Some(event.line);
         }
     }

@@ -1,14 +1,21 @@
-// Under what an event is written.
-ghost use Rattle.std.specs.Prelude.{◌≤◌};
-ghost use Rattle.edl_list.specs.Limits.{most_number};
+// How a list is written, and under which number an event is.
+ghost use Rattle.edl_layout.specs.Columns.{AreWidths};
 
+use edl_list::Layout;
 use tick_time::Rate;
 
-/// The number under which an event is written, and the rate and the mode of its labels.
+/// The rate and the mode of labels, and the layout of lines.
+#[derive(Clone, Copy)]
+pub struct Style {
+    pub rate: Rate,
+    pub drop: bool,
+    pub layout: Layout,
+    ghost widths: { AreWidths layout },
+}
+
+/// The number under which an event is written, and how.
 #[derive(Clone, Copy)]
 pub struct Numbering {
     pub number: u32,
-    pub rate: Rate,
-    pub drop: bool,
-    ghost few: { number ≤ most_number },
+    pub style: Style,
 }

@@ -1,26 +1,28 @@
 // The lines of events and of speeds.
-ghost use Rattle.std.specs.Prelude.{◌≤◌, ◌∷◌, [], codes};
+ghost use Rattle.std.specs.Prelude.{◌∷◌, [], codes};
 ghost use Rattle.std.specs.List.{concat};
 ghost use Rattle.dev_io.specs.Buffer.{HandsOver};
-ghost use Rattle.edl_list.specs.Limits.{most_number};
-ghost use Rattle.edl_list.specs.Formed.{IsReel, IsFrame, IsSide, IsEvent};
+ghost use Rattle.edl_list.specs.Formed.{IsFrame, IsSide, IsEvent};
+ghost use Rattle.edl_list.specs.Layouts.{FitsReel, FitsEvent};
 ghost use Rattle.edl_list.specs.Speeds.{day_of};
-ghost use Rattle.edl_layout.specs.Columns.{column, reel_text, reel_width};
+ghost use Rattle.edl_layout.specs.Columns.{AreWidths, column, digits, reel_text};
 ghost use Rattle.edl_layout.specs.Rows.{event_line, first_line, main_line};
 ghost use Rattle.edl_list.specs.Labelled.{IsLabelled, IsBelowDay};
 
 use crate::columns::{
     CUT_COLUMN, NO_DURATION, channel_column, duration_column, kind_column, padding, reel_bytes,
-    three_digits,
+    six_digits,
 };
 use crate::labels::label_of;
-use crate::numbering::Numbering;
+use crate::numbering::{Numbering, Style};
 use dev_io::{Out, OutBuffer};
-use edl_list::{Channel, Event, Reel, Side};
+use edl_list::{Channel, Event, Layout, Reel, Side};
+use text_lines::after;
 
 // What stands in an event line before the labels, the type and the duration as columns.
 #[derive(Clone, Copy)]
 struct Row<'a> {
+    layout: Layout,
     number: u32,
     reel: &'a Reel,
     channel: Channel,
@@ -37,15 +39,27 @@ struct Labels {
     record_out: [u8; 11],
 }
 
-/// Hands over the column of a reel, eight wide.
-pub fn put_reel<W: Out>(buffer: &mut OutBuffer, out: &mut W, reel: &Reel)
-    requires { IsReel reel.now }
+// Hands over the number of an event, in the digits of the layout.
+fn put_number<W: Out>(buffer: &mut OutBuffer, out: &mut W, number: u32, layout: Layout)
+    requires { AreWidths layout }
     ensures { HandsOver W.known W.faults out.old out.new buffer.old buffer.new
-        (column reel_width (reel_text reel.now)) }
+        (digits layout.number_width number) }
+{
+    let digits = six_digits(number);
+    buffer.put(out, after(&digits, digits.len() - layout.number_width));
+}
+
+/// Hands over the column of a reel.
+#[tactic(auto, using(crate::proofs::Widths::reel_short))]
+pub fn put_reel<W: Out>(buffer: &mut OutBuffer, out: &mut W, reel: &Reel, layout: Layout)
+    requires widths { AreWidths layout }
+    requires fits { FitsReel layout reel.now }
+    ensures { HandsOver W.known W.faults out.old out.new buffer.old buffer.new
+        (column layout.reel_width (reel_text reel.now)) }
 {
     let bytes = reel_bytes(reel);
     buffer.put(out, bytes);
-    buffer.put(out, padding(bytes.len()));
+    buffer.put(out, padding(layout.reel_width - bytes.len()));
 }
 
 // Hands over the labels of an event line, with spaces between.
@@ -65,17 +79,16 @@ fn put_labels<W: Out>(buffer: &mut OutBuffer, out: &mut W, labels: Labels)
 
 // Hands over an event line, without its end.
 fn put_row<W: Out>(buffer: &mut OutBuffer, out: &mut W, row: Row<'_>, labels: Labels)
-    requires number { row.number ≤ most_number }
-    requires reel { IsReel row.reel.now }
+    requires widths { AreWidths row.layout }
+    requires reel { FitsReel row.layout row.reel.now }
     ensures { HandsOver W.known W.faults out.old out.new buffer.old buffer.new
-        (event_line row.entry.number (reel_text row.entry.reel.now) row.entry.channel
-        row.entry.kind row.entry.duration labels.source_in labels.source_out
-        labels.record_in labels.record_out) }
+        (event_line row.entry.layout row.entry.number (reel_text row.entry.reel.now)
+        row.entry.channel row.entry.kind row.entry.duration labels.source_in
+        labels.source_out labels.record_in labels.record_out) }
 {
-    let number = three_digits(row.number);
-    buffer.put(out, &number);
+    put_number(buffer, out, row.number, row.layout);
     buffer.put(out, b"  ");
-    put_reel(buffer, out, row.reel);
+    put_reel(buffer, out, row.reel, row.layout);
     buffer.put(out, b" ");
     buffer.put(out, channel_column(row.channel));
     buffer.put(out, b" ");
@@ -89,13 +102,17 @@ fn put_row<W: Out>(buffer: &mut OutBuffer, out: &mut W, row: Row<'_>, labels: La
 /// Hands over the one line of a cut, or the second line of a pair, without its end.
 #[tactic(auto, using(crate::proofs::Days::below_kept))]
 pub fn put_main<W: Out>(buffer: &mut OutBuffer, out: &mut W, event: &Event, numbering: Numbering)
-    requires event { IsEvent (day_of numbering.rate) event.now }
-    requires labels { IsLabelled numbering.rate numbering.drop event.now }
+    requires event { IsEvent (day_of numbering.style.rate) event.now }
+    requires fits { FitsEvent numbering.style.layout event.now }
+    requires labels { IsLabelled numbering.style.rate numbering.style.drop event.now }
     ensures { HandsOver W.known W.faults out.old out.new buffer.old buffer.new
-        (main_line numbering.rate numbering.drop numbering.number event.now) }
+        (main_line numbering.style.rate numbering.style.drop numbering.style.layout
+        numbering.number event.now) }
 {
-    let Numbering { number, rate, drop } = numbering;
+    let Numbering { number, style } = numbering;
+    let Style { rate, drop, layout } = style;
     let row = Row {
+        layout,
         number,
         reel: &event.to.reel,
         channel: event.channel,
@@ -121,15 +138,19 @@ pub fn put_first<W: Out>(
     event: &Event,
     numbering: Numbering,
 )
-    requires from { IsSide (day_of numbering.rate) from.now }
-    requires record { IsFrame (day_of numbering.rate) event.now.rec_in }
-    requires source_in { IsBelowDay numbering.rate numbering.drop from.now.src_in }
-    requires record_in { IsBelowDay numbering.rate numbering.drop event.now.rec_in }
+    requires from { IsSide (day_of numbering.style.rate) from.now }
+    requires fits { FitsReel numbering.style.layout from.now.reel }
+    requires record { IsFrame (day_of numbering.style.rate) event.now.rec_in }
+    requires source_in { IsBelowDay numbering.style.rate numbering.style.drop from.now.src_in }
+    requires record_in { IsBelowDay numbering.style.rate numbering.style.drop event.now.rec_in }
     ensures { HandsOver W.known W.faults out.old out.new buffer.old buffer.new
-        (first_line numbering.rate numbering.drop numbering.number event.now from.now) }
+        (first_line numbering.style.rate numbering.style.drop numbering.style.layout
+        numbering.number event.now from.now) }
 {
-    let Numbering { number, rate, drop } = numbering;
+    let Numbering { number, style } = numbering;
+    let Style { rate, drop, layout } = style;
     let row = Row {
+        layout,
         number,
         reel: &from.reel,
         channel: event.channel,

@@ -1,52 +1,31 @@
 // Speeds, and the lines that give them.
-ghost use Rattle.std.specs.Prelude.{◌≡◌, ◌≤◌, Some, false, IsSome};
-ghost use Rattle.smpte_tc.specs.Modes.{mode_of};
+ghost use Rattle.std.specs.Prelude.{◌≡◌, ◌≤◌, Some};
 ghost use Rattle.dev_io.specs.Buffer.{HandsOver};
 ghost use Rattle.edl_list.specs.Limits.{most_tenths};
-ghost use Rattle.edl_list.specs.Formed.{IsReel, IsSide, IsSpeed};
-ghost use Rattle.edl_list.specs.Speeds.{day_of, count_of as frames_of, speed_of as speed_at};
+ghost use Rattle.edl_list.specs.Formed.{IsSide, IsSpeed};
+ghost use Rattle.edl_list.specs.Layouts.{FitsReel};
+ghost use Rattle.edl_list.specs.Speeds.{day_of, speed_of as speed_at};
 ghost use Rattle.edl_layout.specs.Rows.{needs_line as needs, speed_line, speed_lines_if, written_tenths as tenths_of, has_speed as is_fast, has_one_reel as is_one_reel};
 ghost use Rattle.edl_layout.specs.Spelling.{text_of};
 ghost use Rattle.edl_list.specs.Labelled.{IsBelowDay};
 
 use crate::columns::{reel_bytes, three_digits};
 use crate::labels::label_of;
+use crate::numbering::Style;
 use crate::rows::put_reel;
 use dev_io::{Out, OutBuffer};
-use edl_list::Side;
+use edl_list::{Side, count_of, half_even};
 use tick_time::Rate;
 
 // The rate's own speed, in millionths.
-const OWN_SPEED: u32 = 1_000_000;
-
-// How many frames timecode counts a second, and 0 where the rate has no timecode.
-fn count_of(rate: Rate) -> u32
-    ensures count { result ≡ frames_of rate }
-    ensures small { result ≤ 60 }
-    ensures some { IsSome (mode_of rate false) → 1 ≤ result }
-{
-    match rate.nominal() {
-        Some(count) => count as u32,
-        None => 0,
-    }
-}
+const OWN_SPEED: u64 = 1_000_000;
 
 // Tenths of a frame a second as millionths of so many frames a second, rounded half to even.
-fn millionths_of(tenths: u32, count: u32) -> u32
-    requires some { 1 ≤ count }
-    requires small { count ≤ 60 }
-    requires tenths { tenths ≤ most_tenths }
+fn millionths_of(tenths: u16, count: u32) -> u64
+    requires { 1 ≤ count }
     ensures { result ≡ speed_at count (Some tenths) }
 {
-    let whole = tenths * 100_000 / count;
-    let rest = tenths * 100_000 % count;
-    if 2 * rest < count {
-        whole
-    } else if count < 2 * rest {
-        whole + 1
-    } else {
-        whole + whole % 2
-    }
+    half_even(u64::from(tenths) * 100_000, u64::from(count))
 }
 
 /// Whether the speed of a side, in millionths, isn't the rate's own.
@@ -55,15 +34,13 @@ pub fn has_speed(side: &Side, rate: Rate) -> bool
     ensures { result ≡ is_fast rate side.now }
 {
     match side.speed {
-        Some(tenths) => millionths_of(u32::from(tenths), count_of(rate)) != OWN_SPEED,
+        Some(tenths) => millionths_of(tenths, count_of(rate)) != OWN_SPEED,
         None => false,
     }
 }
 
 // Whether both sides have one reel.
 fn has_one_reel(a: &Side, b: &Side) -> bool
-    requires first { IsReel a.now.reel }
-    requires second { IsReel b.now.reel }
     ensures { result ≡ is_one_reel a.now b.now }
 {
     reel_bytes(&a.reel) == reel_bytes(&b.reel)
@@ -99,18 +76,20 @@ fn written_tenths(side: &Side, rate: Rate) -> u32
 
 // Hands over the M2 line of a side, without its end.
 #[tactic(auto, using(crate::proofs::Days::below_kept))]
-fn put_speed<W: Out>(buffer: &mut OutBuffer, out: &mut W, side: &Side, rate: Rate, drop: bool)
-    requires side { IsSide (day_of rate) side.now }
-    requires source_in { IsBelowDay rate drop side.now.src_in }
+fn put_speed<W: Out>(buffer: &mut OutBuffer, out: &mut W, side: &Side, style: Style)
+    requires side { IsSide (day_of style.rate) side.now }
+    requires fits { FitsReel style.layout side.now.reel }
+    requires source_in { IsBelowDay style.rate style.drop side.now.src_in }
     ensures { HandsOver W.known W.faults out.old out.new buffer.old buffer.new
-        (speed_line rate drop side.now) }
+        (speed_line style.rate style.drop style.layout side.now) }
 {
+    let Style { rate, drop, layout } = style;
     let tenths = written_tenths(side, rate);
     let whole = three_digits(tenths / 10);
     let tenth = [b'0' + (tenths % 10) as u8];
     let source_in = label_of(side.src_in, rate, drop);
     buffer.put(out, b"M2   ");
-    put_reel(buffer, out, &side.reel);
+    put_reel(buffer, out, &side.reel, layout);
     buffer.put(out, b" ");
     buffer.put(out, &whole);
     buffer.put(out, b".");
@@ -125,16 +104,16 @@ pub fn put_speed_if<W: Out>(
     out: &mut W,
     needed: bool,
     side: &Side,
-    rate: Rate,
-    drop: bool,
+    style: Style,
 )
-    requires side { IsSide (day_of rate) side.now }
-    requires source_in { IsBelowDay rate drop side.now.src_in }
+    requires side { IsSide (day_of style.rate) side.now }
+    requires fits { FitsReel style.layout side.now.reel }
+    requires source_in { IsBelowDay style.rate style.drop side.now.src_in }
     ensures { HandsOver W.known W.faults out.old out.new buffer.old buffer.new
-        (text_of (speed_lines_if rate drop needed side.now)) }
+        (text_of (speed_lines_if style.rate style.drop style.layout needed side.now)) }
 {
     if needed {
-        put_speed(buffer, out, side, rate, drop);
+        put_speed(buffer, out, side, style);
         buffer.put(out, b"\n");
     }
 }

@@ -4,8 +4,9 @@ ghost use Rattle.std.specs.Prelude.{◌≡◌, pos, false};
 ghost use Rattle.edl_list.specs.Formed.{IsEvent};
 ghost use Rattle.edl_list.specs.Speeds.{day_of};
 ghost use Rattle.edl_list.specs.Labelled.{IsLabelled};
+ghost use Rattle.edl_list.specs.Layouts.{narrow, wide_layout, FitsEvent};
 
-use crate::{first_label_past_day, write_event, write_list};
+use crate::{first_label_past_day, first_wide_reel, write_event, write_list};
 use dev_io::MemOut;
 use edl_list::{Channel, Cross, Event, EventList, Reel, Side};
 use sequences::{Sequence, Text};
@@ -28,6 +29,8 @@ fn black(name: Text, rate: Rate) -> Event
     requires den { rate.den ≡ pos 1 }
     ensures event { IsEvent (day_of rate) result }
     ensures labels { IsLabelled rate false result }
+    ensures narrow { FitsEvent narrow result }
+    ensures wide { FitsEvent wide_layout result }
 {
     Event {
         line: 1,
@@ -55,12 +58,13 @@ fn an_empty_list(rt: HostRuntime) -> Result<(), Fail> {
         events: Sequence::new(alloc),
     };
     let mut out = MemOut::new(alloc, 100)?;
-    write_list(&list, false, &mut out)?;
+    write_list(&list, false, false, &mut out)?;
     assert_eq!(rt;
         out.sent(),
         b"TITLE: EMPTY\nFCM: NON-DROP FRAME\n".as_slice()
     );
     assert_eq!(rt; first_label_past_day(&list, true), None);
+    assert_eq!(rt; first_wide_reel(&list), None);
     Ok(())
 }
 
@@ -70,10 +74,25 @@ fn an_event(rt: HostRuntime) -> Result<(), Fail> {
     let rate = rate_24();
     let event = black(Text::of(alloc, " a\tb\x7f")?, rate);
     let mut out = MemOut::new(alloc, 400)?;
-    write_event(&event, 12, rate, false, &mut out)?;
+    write_event(&event, 12, rate, false, false, &mut out)?;
     let want = b"012  BL       A2    C        00:00:01:00 00:00:05:00 01:00:00:00 01:00:02:00
 M2   BL       048.0                00:00:01:00
 * FROM CLIP NAME: a b
+";
+    assert_eq!(rt; out.sent(), want.as_slice());
+    Ok(())
+}
+
+#[test]
+fn a_wide_event(rt: HostRuntime) -> Result<(), Fail> {
+    let alloc = rt.alloc();
+    let rate = rate_24();
+    let event = black(Text::of(alloc, "")?, rate);
+    let mut out = MemOut::new(alloc, 400)?;
+    write_event(&event, 1000, rate, false, true, &mut out)?;
+    let want =
+        b"001000  BL                               A2    C        00:00:01:00 00:00:05:00 01:00:00:00 01:00:02:00
+M2   BL                               048.0                00:00:01:00
 ";
     assert_eq!(rt; out.sent(), want.as_slice());
     Ok(())

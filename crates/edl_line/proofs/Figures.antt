@@ -16,14 +16,18 @@ below digits most all few = omega (arith, digits_value-lt 10 digits all, pow-le-
 pub is_number : (field : List ℕ) (most : ℕ) → IsNumeral 10 field → length field ≤ most → IsNumber most field (digits_value 10 field)
 is_number field most digits few = record { digits = digits; few = few; value = refl }
 
--- a digit more of at most four leaves a number below ten thousand
-pub one_more : (digits : List ℕ) (i : ℕ) → AllDigits 10 digits → length digits ≤ 4 → i < length digits
-    → digits_value 10 (take i digits) * 10 + (get_or digits i 0 - 48) < 10000
+-- a number of at most four digits fits sixteen bits
+pub fits_short : (n most : ℕ) → n < 10 ^ most → most ≤ 4 → n < 65536
+fits_short n most small few = omega (arith, small, pow-le-pow_right {n = 10} (omega arith) {i = most} {j = 4} few)
+
+-- a digit more of at most six leaves a number below a million
+pub one_more : (digits : List ℕ) (i : ℕ) → AllDigits 10 digits → length digits ≤ 6 → i < length digits
+    → digits_value 10 (take i digits) * 10 + (get_or digits i 0 - 48) < 1000000
 one_more digits i all few within =
     let range = digit_at digits i all within in
     let push = digits_value_push 10 (take i digits) (get_or digits i 0) in
     let more : digits_value 10 (take (i + 1) digits) ≡ digits_value 10 (take i digits ++ get_or digits i 0 ∷ []) = ap (digits_value 10) (take_more digits i 0 within) in
-    omega (arith, range, digit_value_digit (get_or digits i 0) range, push, more, digits_value-take-le 10 digits (i + 1) (omega arith), below digits 4 all few)
+    omega (arith, range, digit_value_digit (get_or digits i 0) range, push, more, digits_value-take-le 10 digits (i + 1) (omega arith), below digits 6 all few)
 
 -- a field writes one number
 pub number_unique : (most : ℕ) (field : List ℕ) (a b : ℕ) → IsNumber most field a → IsNumber most field b → a ≡ b

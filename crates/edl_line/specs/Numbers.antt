@@ -6,7 +6,7 @@ use Rattle.edl_line.specs.Statements.{Reel, Black, Named}
 
 -- how many digits the number of an event has at most
 abbrev pub number_digits : ℕ
-number_digits = 3
+number_digits = 6
 
 -- how many digits the duration of a dissolve or wipe has at most
 abbrev pub duration_digits : ℕ

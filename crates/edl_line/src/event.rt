@@ -8,7 +8,9 @@ ghost use Rattle.edl_line.specs.StateLines.{fields_in, duration_in};
 ghost use Rattle.edl_line.specs.declared.statement.Kind.{Kind as KindSaid};
 
 use crate::fields::EventFields;
-use crate::numbers::{CODE_DIGITS, DURATION_DIGITS, NUMBER_DIGITS, number_of, reel_of};
+use crate::numbers::{
+    CODE_DIGITS, DURATION_DIGITS, NUMBER_DIGITS, number_of, reel_of, short_number_of,
+};
 use crate::statement::{Channels, EventLine, Kind};
 use text_lines::{is_text, strip_front};
 
@@ -98,7 +100,7 @@ fn lasting_of(kind: &[u8], duration: &[u8]) -> Option<Kind>
         ((said : KindSaid) → IsKind (kind.now ∷ duration.now ∷ []) said → ⊥)
         (IsKind (kind.now ∷ duration.now ∷ [])) }
 {
-    let frames = number_of(duration, DURATION_DIGITS)?;
+    let frames = short_number_of(duration, DURATION_DIGITS)?;
     if is_text(kind, b"D") {
         return Some(Kind::Dissolve(frames));
     }
@@ -113,7 +115,7 @@ fn wipe_code(kind: &[u8]) -> Option<u16>
 {
     let digits = strip_front(kind, b"W")?;
     if digits.len() == CODE_DIGITS {
-        number_of(digits, CODE_DIGITS)
+        short_number_of(digits, CODE_DIGITS)
     } else {
         None
     }

@@ -9,7 +9,7 @@ use crate::statement::ReelName;
 use text_lines::{are_within, is_text, reel_name};
 
 /// How many digits the number of an event has at most.
-pub(crate) const NUMBER_DIGITS: usize = 3;
+pub(crate) const NUMBER_DIGITS: usize = 6;
 
 /// How many digits the duration of a dissolve or wipe has at most.
 pub(crate) const DURATION_DIGITS: usize = 3;
@@ -22,8 +22,8 @@ pub(crate) const SPEED_DIGITS: usize = 3;
 
 // The number that a field of digits writes, at most so many.
 #[tactic(auto, using(crate::proofs::Figures::is_number, crate::proofs::Figures::below))]
-pub(crate) fn number_of(field: &[u8], most: usize) -> Option<u16>
-    requires { most ≤ 4 }
+pub(crate) fn number_of(field: &[u8], most: usize) -> Option<u32>
+    requires { most ≤ 6 }
     ensures number { MatchOption result
         ((number : ℕ) → IsNumber most field.now number → ⊥)
         (IsNumber most field.now) }
@@ -36,6 +36,21 @@ pub(crate) fn number_of(field: &[u8], most: usize) -> Option<u16>
     }
 }
 
+// The number that a field of digits writes, at most so many, in sixteen bits.
+#[tactic(auto, using(crate::proofs::Figures::fits_short))]
+pub(crate) fn short_number_of(field: &[u8], most: usize) -> Option<u16>
+    requires { most ≤ 4 }
+    ensures number { MatchOption result
+        ((number : ℕ) → IsNumber most field.now number → ⊥)
+        (IsNumber most field.now) }
+    ensures bound { IfSome result (λ number. number < 10 ^ most) }
+{
+    match number_of(field, most) {
+        Some(number) => Some(number as u16),
+        None => None,
+    }
+}
+
 // Whether the field is one digit or more.
 #[tactic(auto, using(tick_time::proofs::DigitBytes::digits_of, tick_time::proofs::DigitBytes::of_digits))]
 fn is_numeral(field: &[u8]) -> bool
@@ -44,15 +59,15 @@ fn is_numeral(field: &[u8]) -> bool
     !field.is_empty() && are_within(field, b'0', b'9')
 }
 
-// The number that at most four digits write.
-fn value_of(digits: &[u8]) -> u16
+// The number that at most six digits write.
+fn value_of(digits: &[u8]) -> u32
     requires digits { AllDigits 10 digits.now }
-    requires few { length digits.now ≤ 4 }
+    requires few { length digits.now ≤ 6 }
     ensures { result ≡ digits_value 10 digits.now }
 {
-    let mut number: u16 = 0;
+    let mut number: u32 = 0;
     'digits: for digit in digits {
-        number = number * 10 + u16::from(*digit - b'0');
+        number = number * 10 + u32::from(*digit - b'0');
     }
     number
 }

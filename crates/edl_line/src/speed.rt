@@ -7,7 +7,7 @@ ghost use Rattle.edl_line.specs.Views.{speed_said};
 ghost use Rattle.edl_line.specs.StateLines.{speed_fields_in};
 
 use crate::fields::SpeedFields;
-use crate::numbers::{SPEED_DIGITS, number_of, reel_of};
+use crate::numbers::{SPEED_DIGITS, reel_of, short_number_of};
 use crate::statement::SpeedLine;
 use text_lines::{after, before, first_byte, is_text, strip_front};
 
@@ -63,7 +63,7 @@ fn tenths_of(text: &[u8]) -> Option<u16>
     ensures { MatchOption result ((tenths : ℕ) → IsTenths text.now tenths → ⊥) (IsTenths text.now) }
 {
     let point = first_byte(text, b'.')?;
-    let whole = number_of(before(text, point), SPEED_DIGITS)?;
-    let tenth = number_of(after(text, point + 1), 1)?;
+    let whole = short_number_of(before(text, point), SPEED_DIGITS)?;
+    let tenth = short_number_of(after(text, point + 1), 1)?;
     Some(whole * 10 + tenth)
 }

@@ -22,8 +22,8 @@ pub enum Statement<'a> {
 /// An event line.
 #[derive(Clone, Copy, Debug)]
 pub struct EventLine<'a> {
-    /// The number of the event, of one to three digits.
-    pub number: u16,
+    /// The number of the event, of one to six digits.
+    pub number: u32,
     /// The reel of the source.
     pub reel: ReelName<'a>,
     /// The channels of the record.
@@ -39,7 +39,7 @@ pub struct EventLine<'a> {
 pub enum ReelName<'a> {
     /// Black, `BL`, which is no source.
     Black,
-    /// The name of a source: one to eight bytes from `!` to `~`.
+    /// The name of a source: from one to 32 bytes from `!` to `~`.
     Named(&'a str),
 }
 

@@ -111,6 +111,13 @@ fn reads_events(rt: HostRuntime) {
     assert!(rt; has_event(b"\t999 BL B C a b\tc d \t", "BL", Kind::Cut));
     assert!(rt;
         has_event(
+            b"999999 THIRTY-TWO-BYTES-ARE-ONE-REEL-01 V C a b c d",
+            "THIRTY-TWO-BYTES-ARE-ONE-REEL-01",
+            Kind::Cut
+        )
+    );
+    assert!(rt;
+        has_event(
             b"002 REEL-001 V D 024 a b c d",
             "REEL-001",
             Kind::Dissolve(24)
@@ -132,7 +139,7 @@ fn reads_events(rt: HostRuntime) {
 fn reads_channels(rt: HostRuntime) {
     let table: [(&[u8], bool, bool, bool); 8] = [
         (b"12 AX V C a b c d", true, false, false),
-        (b"12 AX A C a b c d", false, true, false),
+        (b"000012 AX A C a b c d", false, true, false),
         (b"12 AX A2 C a b c d", false, false, true),
         (b"12 AX AA C a b c d", false, true, true),
         (b"12 AX B C a b c d", true, true, false),
@@ -185,9 +192,12 @@ fn refuses_lines(rt: HostRuntime) {
         (b"AUD 3", LineFault::Split),
         (b"SPLIT", LineFault::Split),
         (b" SPLIT: x", LineFault::Split),
-        (b"0001 AX V C a b c d", LineFault::Form),
+        (b"1000000 AX V C a b c d", LineFault::Form),
         (b"1x AX V C a b c d", LineFault::Form),
-        (b"001 NINEBYTES V C a b c d", LineFault::Form),
+        (
+            b"1 THIRTY-THREE-BYTES-ARE-NO-REEL-01 V C a b c d",
+            LineFault::Form,
+        ),
         (b"001 A\x7f V C a b c d", LineFault::Form),
         (b"001 AX v C a b c d", LineFault::Form),
         (b"001 AX V C a b c", LineFault::Form),

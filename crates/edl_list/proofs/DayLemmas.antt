@@ -1,5 +1,5 @@
 -- The frames of a day, and how long they last.
-use Rattle.std.proofs.Common.{◌≡◌, refl, sym, ap, subst, ◌∙◌, ℕ, suc, ◌*◌, ◌/◌, ◌%◌, ◌≤◌, ◌==◌, ℤ, pos, negsuc, ◌-ℤ◌, ◌≤ℤ◌, Bool, true, false, cond, List, [], ◌∷◌, length, Option, Some, None, IsSome, option_map, unwrap_or, unsigned_abs, arith}
+use Rattle.std.proofs.Common.{◌≡◌, refl, sym, ap, subst, ◌∙◌, ℕ, ◌*◌, ◌/◌, ◌≤◌, ◌==◌, ℤ, pos, negsuc, ◌≤ℤ◌, Bool, true, false, cond, length, Option, Some, None, IsSome, option_map, unwrap_or, unsigned_abs, arith}
 use Rattle.std.specs.Prelude.{nat_le}
 use Rattle.std.proofs.lemmas.Int.{ints}
 use Rattle.std.proofs.lemmas.Bool.Decides.{Decides-eqb}
@@ -8,7 +8,7 @@ use Rattle.std.proofs.Math.Nat.{mul-div-le, mul_assoc, mul_comm}
 use Rattle.tick_time.specs.declared.rates.Rate.{Rate}
 use Rattle.tick_time.specs.Rates.{per_millionth, unit, frame, nominal, relative_count}
 use Rattle.smpte_tc.specs.declared.modes.Mode.{Mode}
-use Rattle.smpte_tc.specs.Modes.{mode, mode_of}
+use Rattle.smpte_tc.specs.Modes.{mode, mode_of, plain_mode}
 use Rattle.smpte_tc.specs.Day.{counted_of}
 use Rattle.smpte_tc.proofs.Dropping.{day_count}
 use Rattle.smpte_tc.proofs.WrittenLabels.{mode_fair}
@@ -120,3 +120,21 @@ count_fits rate h = let p = day_paced rate h in record { some = p.some; small = 
 pub side_slow : (rate : Rate) → IsSome (mode_of rate false) → (side : Side)
     → IsSide (day_of rate) side → side_speed rate side ≤ 1000 * 1000000
 side_slow rate h side s = speed_small (count_of rate) side.speed (day_paced rate h).some s.speed
+
+-- where a rate has drop-frame timecode it has timecode of the same count without
+pub dropped_mode : (num den : ℤ) (p q r : Bool) (m : Mode) → (unsigned_abs den == 1001) ≡ p
+    → (unsigned_abs num == 30000) ≡ q → (unsigned_abs num == 60000) ≡ r
+    → cond p (cond q (Some (mode 30 2)) (cond r (Some (mode 60 4)) None)) None ≡ Some m
+    → plain_mode num den ≡ Some (mode m.nominal 0)
+dropped_mode num den true true r m ep eq er h =
+    let d : unsigned_abs den ≡ 1001 = (Decides-eqb (unsigned_abs den) 1001).0 ep in
+    let n : unsigned_abs num ≡ 30000 = (Decides-eqb (unsigned_abs num) 30000).0 eq in
+    let same : mode 30 2 ≡ m = cc h in
+    rw (d, n) (ap (λ (k : Mode). Some (mode k.nominal 0)) same)
+dropped_mode num den true false true m ep eq er h =
+    let d : unsigned_abs den ≡ 1001 = (Decides-eqb (unsigned_abs den) 1001).0 ep in
+    let n : unsigned_abs num ≡ 60000 = (Decides-eqb (unsigned_abs num) 60000).0 er in
+    let same : mode 60 4 ≡ m = cc h in
+    rw (d, n) (ap (λ (k : Mode). Some (mode k.nominal 0)) same)
+dropped_mode num den true false false m ep eq er h = absurd (cc h)
+dropped_mode num den false q r m ep eq er h = absurd (cc h)

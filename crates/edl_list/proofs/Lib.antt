@@ -1,3 +1,4 @@
 pub mod SpeedLemmas
 pub mod DayLemmas
 pub mod ChannelLemmas
+pub mod LayoutLemmas

@@ -1,6 +1,7 @@
--- What follows for the events of a well formed list: their order on a channel, and that their
--- frames and speeds lie within the ranges of times and speeds.
-use Rattle.std.specs.Prelude.{◌≡◌, ◌≤◌, ◌*◌, ℕ, ℤ, pos, ◌*ℤ◌, ◌≤ℤ◌, false, Some, IsSome, AllPairs}
+-- What follows for the events of a well formed list: their order on a channel, that their frames
+-- and speeds lie within the ranges of times and speeds, and that their reels stand in the wide
+-- layout.
+use Rattle.std.specs.Prelude.{◌≡◌, ◌≤◌, ◌*◌, ℕ, ℤ, pos, ◌*ℤ◌, ◌≤ℤ◌, false, Some, IsSome, All, AllPairs}
 use Rattle.tick_time.specs.declared.rates.Rate.{Rate}
 use Rattle.tick_time.specs.Rates.{frame}
 use Rattle.tick_time.specs.Times.{IsInRange}
@@ -10,6 +11,7 @@ use Rattle.edl_list.specs.declared.list.Event.{Event}
 use Rattle.edl_list.specs.declared.list.EventList.{EventList}
 use Rattle.edl_list.specs.Speeds.{count_of, day_of, side_speed, speed_of}
 use Rattle.edl_list.specs.Formed.{IsSide, IsWellFormed}
+use Rattle.edl_list.specs.Layouts.{wide_layout, FitsEvent}
 
 -- on one channel the second event begins at the end of the first or behind it
 abbrev pub RunsOn : Event → Event → Type 0
@@ -51,3 +53,7 @@ abbrev pub HaveOneSpeed : Type 0
 HaveOneSpeed =
     (count m n : ℕ) → IsCount count
     → speed_of count (Some m) ≡ speed_of count (Some n) → m ≡ n
+
+-- the reels of a well formed list stand in the wide layout
+abbrev pub HaveColumns : Type 0
+HaveColumns = (list : EventList) → IsWellFormed list → All (FitsEvent wide_layout) list.events

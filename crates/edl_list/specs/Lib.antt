@@ -4,4 +4,5 @@ pub mod Speeds
 pub mod Formed
 pub mod Alike
 pub mod Labelled
+pub mod Layouts
 pub mod Laws

@@ -2,8 +2,7 @@
 use Rattle.std.specs.Prelude.{ℕ}
 use Rattle.edl_list.specs.declared.list.TheConstants.{MOST_NUMBER, MOST_TENTHS}
 
--- the greatest number of three digits: of an event, of the frames of a dissolve or wipe, and of a
--- wipe's code
+-- the greatest number of three digits: of the frames of a dissolve or wipe, and of a wipe's code
 abbrev pub most_number : ℕ
 most_number = MOST_NUMBER
 

@@ -1,5 +1,5 @@
 // Laws of well formed lists, each as the contract of an empty function.
-ghost use Rattle.edl_list.specs.Laws.{HaveOrder, HaveTimes, HaveCounts, HaveSpeeds, HaveOneSpeed};
+ghost use Rattle.edl_list.specs.Laws.{HaveOrder, HaveTimes, HaveCounts, HaveSpeeds, HaveOneSpeed, HaveColumns};
 
 /// Law: of two events of a well formed list that are on one channel, the later begins at the end of
 /// the earlier or behind it. It does nothing.
@@ -23,4 +23,9 @@ pub fn side_speeds()
 /// Law: two speeds in tenths that give the same millionths are equal. It does nothing.
 pub fn equal_speeds()
     ensures { HaveOneSpeed }
+{}
+
+/// Law: the reels of a well formed list stand in the columns of the wide layout. It does nothing.
+pub fn wide_columns()
+    ensures { HaveColumns }
 {}

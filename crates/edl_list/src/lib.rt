@@ -7,10 +7,14 @@
 #![tactic(auto)]
 
 mod laws;
+mod layout;
 mod list;
+mod speeds;
 
-pub use laws::{channel_order, equal_speeds, frames_as_times, side_speeds};
+pub use laws::{channel_order, equal_speeds, frames_as_times, side_speeds, wide_columns};
+pub use layout::{Layout, most_events};
 pub use list::{Channel, Cross, Event, EventList, EventSeq, MOST_NUMBER, MOST_TENTHS, Reel, Side};
+pub use speeds::{count_of, half_even};
 
 #[cfg(test)]
 mod tests;

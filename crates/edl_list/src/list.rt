@@ -4,8 +4,7 @@ use owned::Owned;
 use sequences::{Sequence, Text};
 use tick_time::Rate;
 
-/// The greatest number of three digits: of an event, of the frames of a dissolve or wipe, and of a
-/// wipe's code. So a list has at most so many events.
+/// The greatest number of three digits: of the frames of a dissolve or wipe, and of a wipe's code.
 pub const MOST_NUMBER: usize = 999;
 
 /// The greatest speed, in tenths of a frame a second.
@@ -27,7 +26,7 @@ pub enum Channel {
 pub enum Reel {
     /// Black, or silence: `BL` in a list.
     Black,
-    /// The source of that name. In a well formed list a name has one to eight bytes from 0x21 to
+    /// The source of that name. In a well formed list a name has from one to 32 bytes from 0x21 to
     /// 0x7E and isn't `BL`.
     Named(Text),
 }

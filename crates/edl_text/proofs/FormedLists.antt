@@ -1,5 +1,5 @@
 -- The list that sound lines say is well formed.
-use Rattle.std.proofs.Common.{◌≡◌, ◌≢◌, ◌⊎◌, ℕ, ◌-◌, ◌^◌, ◌<◌, ◌≤◌, ◌==◌, ◌&&◌, ◌||◌, Bool, true, false, not, cond, nat_lt, ℤ, pos, ◌+ℤ◌, ◌≤ℤ◌, ◌<ℤ◌, unsigned_abs, List, [], ◌∷◌, map, length, get_or, Option, Some, None, is_some, IsSome, option_map, unwrap_or, inl, inr, refl, sym, ap, subst, ◌∙◌, arith, rules}
+use Rattle.std.proofs.Common.{◌≡◌, ◌≢◌, ◌⊎◌, ℕ, ◌-◌, ◌^◌, ◌<◌, ◌≤◌, ◌==◌, ◌&&◌, ◌||◌, Bool, true, false, not, cond, nat_lt, pos, ◌+ℤ◌, ◌≤ℤ◌, ◌<ℤ◌, unsigned_abs, List, [], ◌∷◌, map, length, get_or, Option, Some, None, is_some, IsSome, option_map, unwrap_or, inl, inr, refl, sym, ap, subst, ◌∙◌, arith, rules}
 use Rattle.std.specs.Option.{option_or}
 use Rattle.std.specs.Str.{bytes_eq}
 use Rattle.std.specs.List.{All, AllPairs, position}
@@ -17,7 +17,7 @@ use Rattle.text_lines.specs.ReelNames.{IsReelName}
 use Rattle.smpte_tc.specs.declared.modes.Mode.{Mode}
 use Rattle.smpte_tc.specs.Answers.{ninth, means_drop}
 use Rattle.smpte_tc.specs.Day.{counted_of, labels_with, spelled}
-use Rattle.smpte_tc.specs.Modes.{mode, mode_of, plain_mode}
+use Rattle.smpte_tc.specs.Modes.{mode, mode_of}
 use Rattle.smpte_tc.proofs.Dropping.{day_count}
 use Rattle.edl_line.specs.Numbers as numbers
 use Rattle.edl_line.specs.Numbers.{IsNumber}
@@ -41,6 +41,7 @@ use Rattle.edl_text.specs.Lists.{events_in, IsSaid}
 use Rattle.edl_order.specs.Order.{StandsBefore}
 use Rattle.edl_text.specs.StateSaid.{AreSaid}
 use Rattle.smpte_tc.proofs.WrittenLabels.{mode_fair}
+use Rattle.edl_list.proofs.DayLemmas.{dropped_mode}
 use Rattle.edl_text.proofs.LineByLine.{none_of_four, not_below}
 use Rattle.edl_text.proofs.Noting.{with_note}
 
@@ -54,21 +55,6 @@ plain_day rate m e = (ap (λ o. unwrap_or (option_map (λ (k : Mode). length (co
   where
     some : (m : Mode) → IsSome (Some m)
     some m = search rules
-
-dropped_mode : (num den : ℤ) (p q r : Bool) (m : Mode) → (unsigned_abs den == 1001) ≡ p → (unsigned_abs num == 30000) ≡ q → (unsigned_abs num == 60000) ≡ r
-    → cond p (cond q (Some (mode 30 2)) (cond r (Some (mode 60 4)) None)) None ≡ Some m → plain_mode num den ≡ Some (mode m.nominal 0)
-dropped_mode num den true true r m ep eq er h =
-    let d : unsigned_abs den ≡ 1001 = (Decides-eqb (unsigned_abs den) 1001).0 ep in
-    let n : unsigned_abs num ≡ 30000 = (Decides-eqb (unsigned_abs num) 30000).0 eq in
-    let same : mode 30 2 ≡ m = cc h in
-    rw (d, n) (ap (λ (k : Mode). Some (mode k.nominal 0)) same)
-dropped_mode num den true false true m ep eq er h =
-    let d : unsigned_abs den ≡ 1001 = (Decides-eqb (unsigned_abs den) 1001).0 ep in
-    let n : unsigned_abs num ≡ 60000 = (Decides-eqb (unsigned_abs num) 60000).0 er in
-    let same : mode 60 4 ≡ m = cc h in
-    rw (d, n) (ap (λ (k : Mode). Some (mode k.nominal 0)) same)
-dropped_mode num den true false false m ep eq er h = cc h
-dropped_mode num den false q r m ep eq er h = cc h
 
 in_mode : (rate : Rate) (drop : Bool) (m : Mode) (n : ℕ) → mode_of rate drop ≡ Some m → n < length (counted_of m) → InDay rate n
 in_mode rate false m n e h =

@@ -19,7 +19,7 @@ use std::alloc::{AllocError, Global};
 #[derive(Drop)]
 pub(crate) struct Pending {
     pub(crate) line: u32,
-    pub(crate) number: u16,
+    pub(crate) number: u32,
     pub(crate) channels: Channels,
     pub(crate) kind: Kind,
     pub(crate) frames: Frames,

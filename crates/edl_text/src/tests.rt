@@ -89,7 +89,7 @@ fn no_event(rt: HostRuntime) -> Result<(), Fail> {
 fn a_dissolve_of_one_reel(rt: HostRuntime) -> Result<(), Fail> {
     let text = "1 A1 V C 00:00:01:00 00:00:02:00 00:00:00:00 00:00:01:00
 2 A1 V C 00:00:02:00 00:00:02:00 00:00:01:00 00:00:01:00
-2 A1 V D 012 00:00:05:00 00:00:05:00 00:00:01:00 00:00:02:00
+000002 A1 V D 012 00:00:05:00 00:00:05:00 00:00:01:00 00:00:02:00
 M2 A1 024.0 00:00:02:00
 M2 A1 000.0 00:00:05:00
 * FROM CLIP NAME: one
@@ -123,11 +123,11 @@ M2 A1 000.0 00:00:05:00
 #[test]
 fn three_channels_and_an_earlier_line(rt: HostRuntime) -> Result<(), Fail> {
     let text = "1 T1 AA/V C 00:00:00:00 00:00:01:00 00:00:01:00 00:00:02:00
-2 T2 A2 C 00:00:00:00 00:00:01:00 00:00:00:00 00:00:01:00";
+999999 THIRTY-TWO-BYTES-ARE-ONE-REEL-01 A2 C 00:00:00:00 00:00:01:00 00:00:00:00 00:00:01:00";
     let list = read(rt.alloc(), rate_of("24")?, text, 7)?;
     assert_eq!(rt; list.events.len(), 4);
     let first = list.events.get(0).ok_or("an event")?;
-    assert!(rt; is_event(first, 2, [0, 24, 0, 24], "T2"));
+    assert!(rt; is_event(first, 2, [0, 24, 0, 24], "THIRTY-TWO-BYTES-ARE-ONE-REEL-01"));
     let last = list.events.get(3).ok_or("an event")?;
     assert!(rt; is_event(last, 1, [0, 24, 24, 48], "T1"));
     assert!(rt; last.channel == Channel::A2);
@@ -160,6 +160,14 @@ fn faults(rt: HostRuntime) -> Result<(), Fail> {
         ("AUD 3\n+", EdlFault::Split(1)),
         ("* a note\n+\nAUD", EdlFault::Form(2)),
         ("* FROM CLIP NAME: x", EdlFault::Form(1)),
+        (
+            "1000000 T1 V C 00:00:00:00 00:00:01:00 00:00:00:00 00:00:01:00",
+            EdlFault::Form(1),
+        ),
+        (
+            "1 THIRTY-THREE-BYTES-ARE-NO-REEL-01 V C 00:00:00:00 00:00:01:00 00:00:00:00 00:00:01:00",
+            EdlFault::Form(1),
+        ),
         ("1 T1 V D 010 0 0 0 0", EdlFault::Form(1)),
         (
             "1 T1 V C 00:00:00:00 00:00:01:00 00:00:00:00 00:00:01:00\nM2 T2 -10.0 x",

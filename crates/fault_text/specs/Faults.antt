@@ -13,6 +13,10 @@ use Rattle.media_list.specs.declared.faults.MediaFault.{MediaFault}
 use Rattle.media_list.specs.declared.faults.MediaFault.TheVariants as media
 use Rattle.edl_frames.specs.declared.faults.ConformFault.{ConformFault}
 use Rattle.edl_frames.specs.declared.faults.ConformFault.TheVariants as conform
+use Rattle.edl_frames.specs.declared.reasons.Why.{Why}
+use Rattle.edl_frames.specs.declared.reasons.Why.TheVariants as why
+use Rattle.edl_frames.specs.declared.reasons.NotCarried.{NotCarried}
+use Rattle.edl_frames.specs.declared.reasons.NotCarried.TheVariants as carried
 use Rattle.fault_text.specs.Reasons.{refusal, number_text, item_text, field_text}
 
 -- bytes that are no JSON text
@@ -78,13 +82,39 @@ coord_fault_text (coord.Speed place) = refusal (codes "K5") (codes "Speed") (ite
 coord_fault_text (coord.Long place) = refusal (codes "K4") (codes "Long") (item_text place)
 coord_fault_text coord.Memory = []
 
+-- a timeline that isn't written as a list, at the place of a child or of the whole
+abbrev pub why_text : Why → List ℕ → List ℕ
+why_text why.Tracks place = refusal (codes "N1") (codes "Tracks") (item_text place)
+why_text why.Nested place = refusal (codes "N2") (codes "Nested") (item_text place)
+why_text why.OffFrame place = refusal (codes "N3") (codes "OffFrame") (item_text place)
+why_text why.NoReel place = refusal (codes "N4") (codes "NoReel") (item_text place)
+why_text why.RateDiffers place = refusal (codes "N5") (codes "RateDiffers") (item_text place)
+why_text why.SourceDay place = refusal (codes "N6") (codes "SourceDay") (item_text place)
+why_text why.Effect place = refusal (codes "N7") (codes "Effect") (item_text place)
+why_text why.Speed place = refusal (codes "N8") (codes "Speed") (item_text place)
+why_text why.Phase place = refusal (codes "N9") (codes "Phase") (item_text place)
+why_text why.Overlap place = refusal (codes "N10") (codes "Overlap") (item_text place)
+why_text why.Kind place = refusal (codes "N11") (codes "Kind") (item_text place)
+why_text why.Outside place = refusal (codes "N12") (codes "Outside") (item_text place)
+why_text why.Events place = refusal (codes "N13") (codes "Events") (item_text place)
+why_text why.RecordDay place = refusal (codes "N14") (codes "RecordDay") (item_text place)
+why_text why.NoTimecode place = refusal (codes "N15") (codes "NoTimecode") (item_text place)
+
+abbrev pub not_carried_text : NotCarried → List ℕ
+not_carried_text (carried.At place why) = why_text why place
+not_carried_text carried.Memory = []
+
 -- a list whose rate has no timecode, or none with drop-frame where that is written
 abbrev pub no_timecode_text : List ℕ
-no_timecode_text = refusal (codes "N15") (codes "NoTimecode") (item_text [])
+no_timecode_text = why_text why.NoTimecode []
 
 -- a list with more events than one that is written may have
 abbrev pub events_text : List ℕ
-events_text = refusal (codes "N13") (codes "Events") (item_text [])
+events_text = why_text why.Events []
+
+-- a list whose event of that line has a reel that the narrow layout has no room for
+abbrev pub reel_text : ℕ → List ℕ
+reel_text line = refusal (codes "L11") (codes "Reel") (number_text line)
 
 -- a list whose event of that line has a label past the day
 abbrev pub day_text : ℕ → List ℕ

@@ -2,11 +2,11 @@
 
 ghost use Rattle.std.specs.Prelude.{◌≡◌, ◌≢◌, [], MatchOption};
 ghost use Rattle.fault_text.specs.Reasons.{reason_text, refusal, number_text, item_text, field_text};
-ghost use Rattle.fault_text.specs.Faults.{json_fault_text, list_fault_text, media_fault_text, conform_fault_text, fault_text, coord_fault_text, no_timecode_text, events_text, day_text, not_timeline_text, range_text};
+ghost use Rattle.fault_text.specs.Faults.{json_fault_text, list_fault_text, media_fault_text, conform_fault_text, fault_text, coord_fault_text, not_carried_text, why_text, no_timecode_text, events_text, reel_text, day_text, not_timeline_text, range_text};
 
 use crate::reasons::{Detail, Reason};
 use coord::CoordFault;
-use edl_frames::ConformFault;
+use edl_frames::{ConformFault, NotCarried, Why};
 use edl_text::EdlFault;
 use json_text::JsonFault;
 use media_list::MediaFault;
@@ -115,6 +115,42 @@ pub fn coord_reason(fault: CoordFault) -> Option<Reason>
     }
 }
 
+/// What is told of a timeline that isn't written as a list, with the place of the child or of the
+/// whole; `None` exactly for want of memory.
+pub fn not_carried_reason(fault: NotCarried) -> Option<Reason>
+    ensures { MatchOption result (fault ≡ NotCarried.Memory)
+        (λ reason. (fault ≢ NotCarried.Memory)
+        × (reason_text reason ≡ not_carried_text fault)) }
+{
+    match fault {
+        NotCarried::At { place, why } => Some(why_reason(why, place)),
+        NotCarried::Memory => None,
+    }
+}
+
+// What is told of why the child at a place isn't written.
+fn why_reason(why: Why, place: Place) -> Reason
+    ensures { reason_text result ≡ why_text why place }
+{
+    match why {
+        Why::Tracks => item_reason("N1", "Tracks", place),
+        Why::Nested => item_reason("N2", "Nested", place),
+        Why::OffFrame => item_reason("N3", "OffFrame", place),
+        Why::NoReel => item_reason("N4", "NoReel", place),
+        Why::RateDiffers => item_reason("N5", "RateDiffers", place),
+        Why::SourceDay => item_reason("N6", "SourceDay", place),
+        Why::Effect => item_reason("N7", "Effect", place),
+        Why::Speed => item_reason("N8", "Speed", place),
+        Why::Phase => item_reason("N9", "Phase", place),
+        Why::Overlap => item_reason("N10", "Overlap", place),
+        Why::Kind => item_reason("N11", "Kind", place),
+        Why::Outside => item_reason("N12", "Outside", place),
+        Why::Events => item_reason("N13", "Events", place),
+        Why::RecordDay => item_reason("N14", "RecordDay", place),
+        Why::NoTimecode => item_reason("N15", "NoTimecode", place),
+    }
+}
+
 /// A list is to be written, and its rate has no timecode, or none with drop-frame where that is
 /// asked.
 pub fn no_timecode_reason() -> Reason
@@ -128,6 +164,14 @@ pub fn events_reason() -> Reason
     ensures { reason_text result ≡ events_text }
 {
     root_reason("N13", "Events")
+}
+
+/// A list is to be written in the narrow layout, and the event of that line has a reel that this
+/// has no room for.
+pub fn reel_reason(line: u32) -> Reason
+    ensures { reason_text result ≡ reel_text line }
+{
+    line_reason("L11", "Reel", line)
 }
 
 /// A list is to be written, and the event of that line has a label past the day.

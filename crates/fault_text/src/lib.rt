@@ -10,7 +10,8 @@ mod reasons;
 
 pub use faults::{
     conform_reason, coord_reason, day_reason, events_reason, json_reason, list_reason,
-    media_reason, no_timecode_reason, not_timeline_reason, range_reason, schema_reason,
+    media_reason, no_timecode_reason, not_carried_reason, not_timeline_reason, range_reason,
+    reel_reason, schema_reason,
 };
 pub use reasons::{Detail, Reason, put_reason};
 

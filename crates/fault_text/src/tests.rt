@@ -1,11 +1,12 @@
 //! The texts of messages.
 
 use crate::{
-    Reason, coord_reason, day_reason, json_reason, list_reason, no_timecode_reason, put_reason,
-    schema_reason,
+    Reason, coord_reason, day_reason, json_reason, list_reason, no_timecode_reason,
+    not_carried_reason, put_reason, reel_reason, schema_reason,
 };
 use coord::CoordFault;
 use dev_io::{MemOut, OutBuffer};
+use edl_frames::{NotCarried, Why};
 use edl_text::EdlFault;
 use json_text::JsonFault;
 use otio_model::Place;
@@ -50,6 +51,7 @@ fn numbers(rt: HostRuntime) -> Result<(), Fail> {
         &Some(no_timecode_reason()),
         ": N15 NoTimecode at .\n",
     )?;
+    check(&rt, alloc, &Some(reel_reason(8)), ": L11 Reel at 8\n")?;
     check(&rt, alloc, &Some(day_reason(7)), ": L10 Day at 7\n")
 }
 
@@ -67,6 +69,35 @@ fn places(rt: HostRuntime) -> Result<(), Fail> {
         &coord_reason(CoordFault::Long(place)),
         ": K4 Long at 0/12\n",
     )
+}
+
+#[test]
+fn children_that_are_not_carried(rt: HostRuntime) -> Result<(), Fail> {
+    let alloc = rt.alloc();
+    let mut place = Place::new(alloc);
+    place.push(1)?;
+    place.push(0)?;
+    let fault = NotCarried::At {
+        place,
+        why: Why::Overlap,
+    };
+    check(
+        &rt,
+        alloc,
+        &not_carried_reason(fault),
+        ": N10 Overlap at 1/0\n",
+    )?;
+    let whole = NotCarried::At {
+        place: Place::new(alloc),
+        why: Why::Events,
+    };
+    check(
+        &rt,
+        alloc,
+        &not_carried_reason(whole),
+        ": N13 Events at .\n",
+    )?;
+    check(&rt, alloc, &not_carried_reason(NotCarried::Memory), "")
 }
 
 #[test]

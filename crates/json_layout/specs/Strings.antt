@@ -1,5 +1,5 @@
 -- Strings as JSON writes them (RFC 8259, section 7).
-use Rattle.std.specs.Prelude.{◌==◌, ◌/◌, ◌%◌, ℕ, Bool, nat_lt, ◌||◌, List, [], ◌∷◌, ◌++◌, if◌then◌else◌}
+use Rattle.std.specs.Prelude.{◌≡◌, ◌<◌, ◌==◌, ◌/◌, ◌%◌, ℕ, Bool, false, nat_lt, ◌||◌, List, [], ◌∷◌, ◌++◌, get_or, if◌then◌else◌}
 use Rattle.std.specs.Char.{digit_char}
 use Rattle.std.specs.List.{flat_map}
 
@@ -33,3 +33,7 @@ quoted bytes = 34 ∷ (escaped bytes ++ 34 ∷ [])
 -- whether a byte needs an escape in a string
 abbrev pub needs_escape : ℕ → Bool
 needs_escape b = nat_lt b 32 || b == 34 || b == 92
+
+-- none of so many first bytes needs an escape
+abbrev pub IsPlain : ℕ → List ℕ → Type 0
+IsPlain count bytes = (k : ℕ) → k < count → needs_escape (get_or bytes k 0) ≡ false

@@ -1,10 +1,13 @@
 // JSON strings as they are written.
-ghost use Rattle.std.specs.Prelude.{◌≡◌, ◌<◌, ◌∷◌, ◌++◌, [], position};
+ghost use Rattle.std.specs.Prelude.{◌≡◌, ◌<◌, ◌≤◌, ◌+◌, ◌∷◌, ◌++◌, [], false, IsTrue, drop, length, position, take};
 ghost use Rattle.std.specs.Char.{digit_char};
 ghost use Rattle.dev_io.specs.Buffer.{HandsOver};
-ghost use Rattle.json_layout.specs.Strings.{code_escape, escape, escaped, quoted, needs_escape};
+ghost use Rattle.json_layout.specs.Strings.{IsPlain, code_escape, escape, escaped, quoted, needs_escape};
 
 use dev_io::{Out, OutBuffer};
+
+// The bytes of a block, which are looked at together.
+const BLOCK: usize = 64;
 
 /// Hands these bytes over as a JSON string (RFC 8259, section 7): between `"`, with `"` and `\`
 /// behind a `\`, the control characters below U+0020 as `\b`, `\f`, `\n`, `\r`, `\t` or `\u00xx`,
@@ -44,6 +47,70 @@ pub fn put_escaped<W: Out>(buffer: &mut OutBuffer, out: &mut W, bytes: &[u8])
 
 // The index of the first byte that needs an escape.
 fn first_escaped(bytes: &[u8]) -> Option<usize>
+    ensures { result ≡ position needs_escape bytes.now }
+{
+    let plain = plain_count(bytes);
+    match escaped_in(bytes.split_at(plain).1) {
+        Some(index) => Some(plain + index),
+        None => None,
+    }
+}
+
+// How many of the first bytes need no escape, by whole blocks of them.
+fn plain_count(bytes: &[u8]) -> usize
+    ensures within { result ≤ length bytes.now }
+    ensures plain { IsPlain result bytes.now }
+{
+    let mut at = 0;
+    'pieces: while bytes.len() - at >= BLOCK && are_plain(block_at(bytes, at)) {
+        at += BLOCK;
+    }
+    at
+}
+
+// A block of the bytes.
+fn block_at(bytes: &[u8], at: usize) -> &[u8]
+    requires { at + 64 ≤ length bytes.now }
+    ensures { result.now ≡ take 64 (drop at bytes.now) }
+{
+    bytes.split_at(at).1.split_at(BLOCK).0
+}
+
+// Whether no byte needs an escape. Each is looked at, which is quick.
+fn are_plain(bytes: &[u8]) -> bool
+    ensures { IsTrue result → IsPlain (length bytes.now) bytes.now }
+{
+    let mut needing = 0;
+    for byte in bytes {
+        needing = larger(needing, needs(*byte));
+    }
+    needing == 0
+}
+
+// The larger of two bytes.
+fn larger(one: u8, other: u8) -> u8
+    ensures one { one ≤ result }
+    ensures other { other ≤ result }
+{
+    if one < other { other } else { one }
+}
+
+// 1 where the byte needs an escape, and 0 where it doesn't.
+fn needs(byte: u8) -> u8
+    ensures { result ≡ 0 → needs_escape byte ≡ false }
+{
+    if is_escaped(byte) { 1 } else { 0 }
+}
+
+// Whether the byte needs an escape.
+fn is_escaped(byte: u8) -> bool
+    ensures { result ≡ needs_escape byte }
+{
+    byte < b' ' || byte == b'"' || byte == b'\\'
+}
+
+// The index of the first byte that needs an escape, looked for one by one.
+fn escaped_in(bytes: &[u8]) -> Option<usize>
     ensures { result ≡ position needs_escape bytes.now }
 {
     bytes

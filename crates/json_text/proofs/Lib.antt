@@ -15,3 +15,4 @@ pub mod NamedFaults
 pub mod Skims
 pub mod OneText
 pub mod Ascii
+pub mod GatheredLemmas

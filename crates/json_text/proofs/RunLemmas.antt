@@ -79,7 +79,7 @@ behind_stays limit (LevelOfMap pairs name) ls b h =
     at_blank (λ x. behind_in (LevelOfMap pairs name ∷ ls) x ≡ Ok (state (LevelOfMap pairs name ∷ ls) behind)) b h refl refl refl refl
 
 -- a character of one byte
-plain_step : (limit : ℕ) (levels : List Level) (role : Role) (t : List ℕ) (b : ℕ) → is_open b ≡ true → b < 128
+pub plain_step : (limit : ℕ) (levels : List Level) (role : Role) (t : List ℕ) (b : ℕ) → is_open b ≡ true → b < 128
     → step limit levels (text role t plain) b ≡ Ok (state levels (text role (t ++ (b ∷ [])) plain))
 plain_step limit levels role t b e h =
     let q : (b == 34) ≡ false = grind (arith, nat_tests) in
@@ -212,7 +212,7 @@ open_take zero bytes h = tt
 open_take (suc n) [] h = tt
 open_take (suc n) (b ∷ bytes) h = (h.0, open_take n bytes h.1)
 
-take_of_take : (n m : ℕ) (bytes : List ℕ) → n ≤ length (take m bytes) → take n (take m bytes) ≡ take n bytes
+pub take_of_take : (n m : ℕ) (bytes : List ℕ) → n ≤ length (take m bytes) → take n (take m bytes) ≡ take n bytes
 take_of_take zero m bytes h = refl
 take_of_take (suc n) zero bytes h = absurd (omega arith)
 take_of_take (suc n) (suc m) [] h = absurd (omega arith)

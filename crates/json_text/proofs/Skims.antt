@@ -7,7 +7,7 @@ use Rattle.json_value.specs.declared.Json.TheVariants.{Str}
 use Rattle.json_text.specs.Grammar.{AreBlank}
 use Rattle.json_text.specs.State.Machine as spec
 use Rattle.json_text.specs.State.Machine.{state, run}
-use Rattle.json_text.specs.State.Runs.{Skims, AreOpen, place_behind}
+use Rattle.json_text.specs.State.Runs.{Skims, AreOpen, StandsFor, place_behind}
 use Rattle.json_text.specs.State.Stands.{state_of, levels_of, open_in, hand_of, AddsText, IsTaken}
 use Rattle.json_text.specs.declared.machine.Machine.{Machine}
 use Rattle.json_text.specs.declared.state.Level.{Level}
@@ -38,6 +38,19 @@ pub open_skimmed : {E : Type 0} (old new : Machine) (role : Role) (bytes : List 
     → IfOk r (λ count. AreOpen (take count bytes)) → IfOk r (λ count. IsUtf8 (take count bytes)) → IfOk r (λ count. Skims count (state_of old) bytes (state_of new))
 open_skimmed old new role bytes (Ok count) e h opens u = open_skims old new role bytes count e h opens u
 open_skimmed old new role bytes (Err k) e h opens u = tt
+
+-- characters that were gathered
+pub gathered_skims : (old : Machine) (role : Role) (bytes made t : List ℕ) (count : ℕ)
+    → old.hand ≡ Text role Plain → count ≤ length bytes → StandsFor (take count bytes) made
+    → t ≡ old.text.items ++ made
+    → Skims count (state_of old) bytes (state (levels_of old) (hand_of old.hand t old.root))
+gathered_skims old role bytes made t count e l f g = record {
+  within = l;
+  ran = ap (λ h. run 127 (state (levels_of old) (hand_of h old.text.items old.root))
+      (take count bytes)) e
+      ∙ f.ran 127 (levels_of old) role old.text.items
+      ∙ sym (λ i. Ok (state (levels_of old) (hand_of (e i) (g i) old.root)));
+}
 
 -- white space
 blank_skims : (m : Machine) (hand : spec.Hand) (bytes : List ℕ) (count : ℕ) (levels : List Level) → state_of m ≡ state levels hand → Stays 127 levels hand → count ≤ length bytes

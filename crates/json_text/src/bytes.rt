@@ -1,11 +1,11 @@
 //! Single bytes of JSON text, and what they stand for.
 
-ghost use Rattle.std.specs.Prelude.{◌≡◌, ◌≤◌, ◌++◌, [], true, false, OnOk, IfOk, MatchOption, IsTrue, length, take, drop};
+ghost use Rattle.std.specs.Prelude.{◌≡◌, ◌≤◌, ◌<◌, ◌++◌, [], true, false, OnOk, IfOk, IfSome, MatchOption, IsTrue, length, take, drop};
 ghost use Rattle.std.specs.Char as chars;
 ghost use Rattle.std.specs.Str.{is_utf8, IsAscii};
 ghost use Rattle.json_text.specs.Grammar as grammar;
 ghost use Rattle.json_text.specs.State.Machine as spec;
-ghost use Rattle.json_text.specs.State.Runs.{is_open};
+ghost use Rattle.json_text.specs.State.Runs.{is_open, AreOpen};
 
 use crate::state::Place;
 use sequences::Text;
@@ -23,6 +23,24 @@ pub(crate) fn is_open(byte: u8) -> bool
     ensures { result ≡ is_open byte }
 {
     32 <= byte && byte != b'"' && byte != b'\\'
+}
+
+/// Whether all bytes stand for themselves in a string. Each is looked at, which is quick.
+pub(crate) fn are_open(bytes: &[u8]) -> bool
+    ensures { IsTrue result → AreOpen bytes.now }
+{
+    let mut closing = 0;
+    for byte in bytes {
+        closing = larger(closing, closes(*byte));
+    }
+    closing == 0
+}
+
+/// 0 where the byte stands for itself in a string, and 1 where it doesn't.
+fn closes(byte: u8) -> u8
+    ensures { result ≡ 0 → is_open byte ≡ true }
+{
+    if is_open(byte) { 0 } else { 1 }
 }
 
 /// The first bytes, up to so many.
@@ -46,7 +64,8 @@ pub(crate) fn after(bytes: &[u8], count: usize) -> &[u8]
 
 /// The character that a backslash and this byte stand for.
 pub(crate) fn escaped(byte: u8) -> Option<u8>
-    ensures { result ≡ grammar.escaped byte }
+    ensures value { result ≡ grammar.escaped byte }
+    ensures ascii { IfSome result (λ character. character < 128) }
 {
     match byte {
         b'"' | b'\\' | b'/' => Some(byte),
@@ -70,6 +89,15 @@ pub(crate) fn digit_value(byte: u8) -> u8
         b'a'..=b'z' => byte - b'a' + 10,
         _ => 36,
     }
+}
+
+/// What four digits of base 16 stand for.
+pub(crate) fn of_digits16(a: u8, b: u8, c: u8, d: u8) -> u32
+    ensures value { result ≡ grammar.of_digits16 a b c d }
+    ensures small { result ≤ 160000 }
+{
+    let high = u32::from(digit_value(a)) * 16 + u32::from(digit_value(b));
+    (high * 16 + u32::from(digit_value(c))) * 16 + u32::from(digit_value(d))
 }
 
 /// The ranges of the bytes behind the first byte of a character; none where no character of several

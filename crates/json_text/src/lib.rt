@@ -14,6 +14,7 @@ ghost use Rattle.json_text.specs.Faults.{IsFault};
 ghost use Rattle.json_text.specs.declared.faults.JsonFault.{JsonFault};
 
 mod bytes;
+mod escapes;
 mod faults;
 mod machine;
 mod reader;

@@ -8,12 +8,24 @@ ghost use Rattle.json_text.specs.Grammar.{AreBlank};
 ghost use Rattle.json_text.specs.State.Runs.{IsRan, Skims, AreOpen, EndsAt, place_behind};
 ghost use Rattle.json_text.specs.State.Stands.{AddsText};
 
-use crate::bytes::{after, before, ends, is_ascii, is_open, is_whitespace, next_place, text_from};
+use crate::bytes::{
+    after, are_open, before, ends, is_ascii, is_open, is_whitespace, next_place, text_from,
+};
+use crate::escapes::gathered;
 use crate::machine::Machine;
 use crate::state::{Hand, Level, Part, Place, Ran, Role, Taken};
 use json_value::Json;
 use sequences::{Text, TextRoom};
 use std::alloc::AllocError;
+
+/// Runs of a string that are shorter are gathered with the escapes behind them.
+const FEW: usize = 32;
+
+/// So many bytes are looked at one by one before whole blocks are.
+const HEAD: usize = 16;
+
+/// The bytes of a block.
+const BLOCK: usize = 64;
 
 impl Machine {
     /// Takes the bytes up to the first that can't be taken.
@@ -86,7 +98,22 @@ impl Machine {
                 Role::Name => self.whole_name(bytes, count),
             };
         }
-        self.skim_open(bytes, count)
+        if count < FEW {
+            self.skim_gathered(role, bytes)
+        } else {
+            self.skim_open(bytes, count)
+        }
+    }
+
+    /// Takes characters of ASCII and whole escapes of a string.
+    fn skim_gathered(&mut self, role: Role, bytes: &[u8]) -> Result<usize, AllocError>
+        requires { self.old.hand ≡ Hand.Text role Part.Plain }
+        ensures { IfOk result (λ count. Skims count (state_of self.old) bytes.now
+            (state_of self.new)) }
+    {
+        let (count, made) = gathered(bytes);
+        self.text.extend_from_slice(made.as_slice())?;
+        Ok(count)
     }
 
     /// Takes a whole string that is a value, with its end, which is at that index.
@@ -177,6 +204,23 @@ impl Machine {
 
 /// How many of the first bytes stand before a quote, a backslash or a control character.
 fn open_count(bytes: &[u8]) -> usize
+    ensures within { result ≤ length bytes.now }
+    ensures opens { AreOpen (take result bytes.now) }
+{
+    let first = open_front(before(bytes, HEAD));
+    if first < HEAD {
+        return first;
+    }
+    let mut at = HEAD;
+    'pieces: while bytes.len() - at >= BLOCK && are_open(before(after(bytes, at), BLOCK)) {
+        at += BLOCK;
+    }
+    at + open_front(after(bytes, at))
+}
+
+/// How many of the first bytes stand before a quote, a backslash or a control character, one by
+/// one.
+fn open_front(bytes: &[u8]) -> usize
     ensures within { result ≤ length bytes.now }
     ensures opens { AreOpen (take result bytes.now) }
 {

@@ -5,7 +5,7 @@ ghost use Rattle.json_text.specs.State.Machine as spec;
 ghost use Rattle.json_text.specs.Grammar as grammar;
 ghost use Rattle.json_text.specs.State.Stands.{state_of, levels_of, hand_of, part_of, IsTaken};
 
-use crate::bytes::{digit_value, escaped, push_char, tails, text_from};
+use crate::bytes::{digit_value, escaped, of_digits16, push_char, tails, text_from};
 use crate::machine::Machine;
 use crate::state::{Digits, Hand, Level, Part, Role, Stop, Taken};
 use json_value::Json;
@@ -278,15 +278,6 @@ fn refused(byte: u8) -> Stop
     } else {
         Stop::Utf8
     }
-}
-
-/// What four digits of base 16 stand for.
-fn of_digits16(a: u8, b: u8, c: u8, d: u8) -> u32
-    ensures value { result ≡ grammar.of_digits16 a b c d }
-    ensures small { result ≤ 160000 }
-{
-    let high = u32::from(digit_value(a)) * 16 + u32::from(digit_value(b));
-    (high * 16 + u32::from(digit_value(c))) * 16 + u32::from(digit_value(d))
 }
 
 /// The character that two halves make.

@@ -1,13 +1,12 @@
 -- The fields between the tabs of a line, and those that are texts.
-use Rattle.std.proofs.Common.{◌≡◌, ◌+◌, ◌<◌, ◌≤◌, ◌==◌, ℕ, Bool, true, false, List, [], ◌∷◌, ◌++◌, All, IsUtf8, take, drop, length, get_or, refl, sym, ap, subst, ◌∙◌, length-append, arith}
+use Rattle.std.proofs.Common.{◌≡◌, ◌+◌, ◌<◌, ◌==◌, ℕ, Bool, true, false, List, [], ◌∷◌, ◌++◌, IsUtf8, take, drop, length, get_or, refl, sym, ap, subst, ◌∙◌, length-append, arith}
 use Rattle.std.specs.List.{onto_first}
 use Rattle.std.specs.Str.{IsCharBoundary}
 use Rattle.std.proofs.lemmas.Grind.{common_steps}
 use Rattle.std.proofs.lemmas.List.Splits.{slice_split_at, slice_split_none, slice_split-cons_yes, slice_split-cons_no, length-slice_split}
-use Rattle.std.proofs.lemmas.Str.{IsUtf8-from_ascii, IsUtf8-drop, IsUtf8-past_char, IsCharBoundary-before_ascii}
+use Rattle.std.proofs.lemmas.Str.{IsUtf8-drop, IsUtf8-past_char, IsCharBoundary-before_ascii}
 use Rattle.std.proofs.Math.Seq.{drop-append_seam}
 use Rattle.text_lines.specs.First.{HasNone, IsFirst}
-use Rattle.media_list.specs.Words.{IsListedReel}
 use Rattle.media_list.specs.Lines.{Fields, field_list, tab_fields}
 
 -- the field before a tab
@@ -82,10 +81,3 @@ url_is_text line f u e =
     let whole : IsUtf8 (joined (field_list f)) = subst IsUtf8 (sym (join line) ∙ ap joined e) u in
     behind_tab f.count f.url (behind_tab f.start _
     (behind_tab f.rate _ (behind_tab f.reel _ whole)))
-
-below_128 : (name : List ℕ) → All (λ b. (33 ≤ b) × (b ≤ 126)) name → (i : ℕ) → get_or name i 0 < 128
-below_128 name h i = grind (arith, common_steps, h i 0)
-
--- the name of a reel is a text
-pub reel_is_text : (name : List ℕ) → IsListedReel name → IsUtf8 name
-reel_is_text name h = IsUtf8-from_ascii name (below_128 name h.prints)

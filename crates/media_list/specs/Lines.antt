@@ -9,7 +9,8 @@ use Rattle.tick_time.specs.declared.rates.Rate.{Rate}
 use Rattle.media_rows.specs.Rows.{by_reel, by_url}
 use Rattle.media_rows.specs.declared.row.MediaRow.{MediaRow}
 use Rattle.rate_words.specs.RateWords.{IsRateWord}
-use Rattle.media_list.specs.Words.{IsNumber, IsListedReel, IsStartForm, start_frame}
+use Rattle.text_lines.specs.ReelNames.{IsReelName}
+use Rattle.media_list.specs.Words.{IsNumber, IsStartForm, start_frame}
 use Rattle.media_list.specs.declared.faults.MediaFault.{MediaFault}
 use Rattle.media_list.specs.declared.faults.MediaFault.TheVariants as faults
 
@@ -43,7 +44,7 @@ pub record IsForm (line : List ℕ) (f : Fields) : Type 0 where
   pub text : IsUtf8 line
   pub other : is_comment line ≡ false
   pub fields : tab_fields line ≡ field_list f
-  pub reel : IsListedReel f.reel
+  pub reel : IsReelName f.reel
   pub rate : IsNumeral f.rate
   pub start : IsStartForm f.start
   pub count : IsNumber f.count

@@ -1,5 +1,5 @@
--- Numbers, reels and starts, each as one field of a line spells it.
-use Rattle.std.specs.Prelude.{◌≡◌, ◌≢◌, ◌≤◌, ◌⊎◌, ℕ, ℤ, pos, true, false, List, All, Option, Some, codes, length, if◌then◌else◌}
+-- Numbers and starts, each as one field of a line spells it.
+use Rattle.std.specs.Prelude.{◌≡◌, ◌≤◌, ◌⊎◌, ℕ, ℤ, pos, true, false, List, Option, Some, length, if◌then◌else◌}
 use Rattle.std.specs.Option.{option_map}
 use Rattle.std.specs.Str.Parse.{IsNumeral as IsDigits, digits_value}
 use Rattle.tick_time.specs.declared.rates.Rate.{Rate}
@@ -10,22 +10,10 @@ use Rattle.record_points.specs.Words.{is_label_form}
 abbrev pub most_digits : ℕ
 most_digits = 18
 
--- how many bytes a listed reel has at most: as many as the reel of a list
-abbrev pub most_listed_bytes : ℕ
-most_listed_bytes = 8
-
 -- one digit or more, at most as many as a number has; zeros may stand first
 pub record IsNumber (field : List ℕ) : Type 0 where
   pub digits : IsDigits 10 field
   pub few : length field ≤ most_digits
-
--- the name of a listed reel: one byte or more, at most as many as such a reel has, each from `!` to
--- `~`, and not the two letters of black
-pub record IsListedReel (field : List ℕ) : Type 0 where
-  pub some : 1 ≤ length field
-  pub short : length field ≤ most_listed_bytes
-  pub prints : All (λ b. (33 ≤ b) × (b ≤ 126)) field
-  pub not_black : field ≢ codes "BL"
 
 -- the form of a start: a number, or that of a label (SMPTE ST 12-1)
 abbrev pub IsStartForm : List ℕ → Type 0

@@ -5,7 +5,7 @@ ghost use Rattle.media_list.specs.Lines.{Fields, IsForm, tab_fields, field_list}
 ghost use Rattle.media_list.specs.Lines.{is_comment as is_comment_line};
 ghost use Rattle.media_list.specs.Views.{fields_in};
 
-use crate::words::{is_listed_reel, is_number, is_start_form};
+use crate::words::{is_number, is_reel, is_start_form};
 use text_lines::{after, before, first_byte};
 use tick_time::is_numeral;
 
@@ -71,7 +71,7 @@ pub(crate) fn form_of(line: &[u8]) -> Option<LineFields<'_>>
         (λ f. IsForm line.now (fields_in f)) }
 {
     let fields = split_fields(line)?;
-    if is_listed_reel(fields.reel)
+    if is_reel(fields.reel)
         && is_numeral(fields.rate)
         && is_start_form(fields.start)
         && is_number(fields.count)

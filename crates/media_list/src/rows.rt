@@ -6,7 +6,8 @@ ghost use Rattle.tick_time.specs.Times.{IsInRange};
 ghost use Rattle.record_points.specs.Frames.{IsFrame};
 ghost use Rattle.media_list.specs.Lines.{IsSpanInRange, IsSpan, IsSkipped, IsRow, IsOwnFault};
 ghost use Rattle.media_list.specs.Views.{fields_in, row_of_fields};
-ghost use Rattle.media_list.specs.Words.{IsNumber, IsListedReel, IsStartForm, start_frame};
+ghost use Rattle.text_lines.specs.ReelNames.{IsReelName};
+ghost use Rattle.media_list.specs.Words.{IsNumber, IsStartForm, start_frame};
 
 use crate::faults::MediaFault;
 use crate::fields::{LineFields, form_of, is_comment};
@@ -122,14 +123,14 @@ pub(crate) fn row_of(
 }
 
 /// The row of these fields, with this rate and span.
-#[tactic(auto, using(crate::proofs::TabLemmas::reel_is_text))]
+#[tactic(auto, using(text_lines::proofs::ReelLemmas::reel_is_text))]
 fn row_from(
     alloc: Global,
     fields: &LineFields<'_>,
     rate: Rate,
     span: Span,
 ) -> Result<MediaRow, AllocError>
-    requires reel { IsListedReel fields.now.reel.now }
+    requires reel { IsReelName fields.now.reel.now }
     requires url { IsUtf8 fields.now.url.now }
     ensures { IfOk result
         (λ row. row ≡ row_of_fields (fields_in fields.now) rate span.start span.count) }

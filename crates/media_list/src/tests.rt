@@ -14,7 +14,10 @@ const FAULTS: [(&str, MediaFault); 24] = [
     ("BL\t24\t0\t1\ta", MediaFault::Line(1)),
     ("\t24\t0\t1\ta", MediaFault::Line(1)),
     ("A 1\t24\t0\t1\ta", MediaFault::Line(1)),
-    ("A23456789\t24\t0\t1\ta", MediaFault::Line(1)),
+    (
+        "THIRTY-THREE-BYTES-ARE-NO-REEL-01\t24\t0\t1\ta",
+        MediaFault::Line(1),
+    ),
     ("A1\t024\t0\t1\ta", MediaFault::Line(1)),
     ("A1\t24\t-1\t1\ta", MediaFault::Line(1)),
     ("A1\t24\t\t1\ta", MediaFault::Line(1)),
@@ -46,7 +49,7 @@ const ROWS: [(&str, &str, i64, i64); 7] = [
     ("A1\t24\t0\t24000000\ta", "24.0", 0, 24_000_000),
     ("A1\t24\t007\t010\t", "24.0", 7, 10),
     (
-        "A2345678\t24.00\t01:00:00:00\t1\tZ\u{fc}rich ",
+        "THIRTY-TWO-BYTES-ARE-ONE-REEL-01\t24.00\t01:00:00:00\t1\tZ\u{fc}rich ",
         "24.0",
         86_400,
         1,

@@ -3,26 +3,24 @@
 ghost use Rattle.std.specs.Prelude.{◌≡◌, ◌≤◌, ◌<◌, ◌↔◌, ◌^◌, pos, IsTrue, IfSome, length};
 ghost use Rattle.std.specs.Str.Parse.{AllDigits, digits_value};
 ghost use Rattle.record_points.specs.Frames.{IsFrame};
-ghost use Rattle.media_list.specs.Words.{IsNumber, IsListedReel, IsStartForm, start_frame};
+ghost use Rattle.text_lines.specs.ReelNames.{IsReelName};
+ghost use Rattle.media_list.specs.Words.{IsNumber, IsStartForm, start_frame};
 
 use record_points::{frame_of_label, is_label_form};
-use text_lines::{are_within, is_text};
+use text_lines::{are_within, reel_name};
 use tick_time::Rate;
-
-/// How many bytes a listed reel has at most.
-const MOST_LISTED_BYTES: usize = 8;
 
 /// How many digits a number has at most.
 const MOST_DIGITS: usize = 18;
 
-/// Whether a field is the name of a listed reel.
-pub(crate) fn is_listed_reel(field: &[u8]) -> bool
-    ensures { IsTrue result ↔ IsListedReel field.now }
+/// Whether a field is the name of a reel.
+pub(crate) fn is_reel(field: &[u8]) -> bool
+    ensures { IsTrue result ↔ IsReelName field.now }
 {
-    !field.is_empty()
-        && field.len() <= MOST_LISTED_BYTES
-        && are_within(field, b'!', b'~')
-        && !is_text(field, b"BL")
+    match reel_name(field) {
+        Some(_) => true,
+        None => false,
+    }
 }
 
 /// Whether a field is a number.

@@ -9,6 +9,8 @@ mod conform_tests;
 #[cfg(test)]
 mod frame_tests;
 #[cfg(test)]
+mod list_tests;
+#[cfg(test)]
 mod object_tests;
 #[cfg(test)]
 mod pieces_tests;

@@ -146,7 +146,13 @@ const FAR: &[u8] = b"{
 ";
 
 // Lists that are written as lists.
-const LISTS: [Case; 13] = [
+const LISTS: [Case; 14] = [
+    (
+        "convert --to edl c.otio",
+        Status::Refused,
+        b"",
+        b"otio: c.otio: G3 NotTimeline\n",
+    ),
     ("convert --to edl a.edl", Status::Done, ONE_SPELLED, b""),
     ("convert a.edl --to edl", Status::Done, ONE_SPELLED, b""),
     (
@@ -402,11 +408,11 @@ fn other_words_are_answered_by_the_usage_text(rt: HostRuntime) -> Result<(), Fai
         "convert",
         "convert --to edl",
         "convert --from edl --to json a.edl",
-        "convert --to edl c.otio",
-        "convert -o l.edl c.otio",
+        "convert --to edl --wide --wide a.edl",
+        "convert --media m.txt -o l.edl a.edl",
         "convert --to edl a.edl a.edl",
         "convert --to edl -b.edl",
-        "convert --to edl list.json",
+        "convert --to edl --media - -",
         "convert --to json -x",
         "convert --to json a.edl",
         "convert --to edl --rate 29.5 a.edl",

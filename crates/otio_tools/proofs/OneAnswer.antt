@@ -1,5 +1,5 @@
 -- There is one answer, and without faults of devices it is given.
-use Rattle.std.proofs.Common.{◌≡◌, ◌||◌, ◌++◌, ℕ, Bool, Option, List, [], ◌∷◌, All, Some, None, IsSome, refl, sym, ap, subst, ◌∙◌, IfSome, inl, inr, arith}
+use Rattle.std.proofs.Common.{◌≡◌, ◌||◌, ◌++◌, ℕ, Bool, Option, List, [], ◌∷◌, All, Some, None, IsSome, false, refl, sym, ap, subst, ◌∙◌, IfSome, inl, inr, arith}
 use Rattle.std.proofs.lemmas.List.Elements.{All-head, All-tail}
 use Rattle.std.proofs.lemmas.Grind.{common_steps}
 use Rattle.dev_io.specs.Known.{KnownFiles}
@@ -11,6 +11,10 @@ use Rattle.tick_time.specs.declared.rates.Rate.{Rate}
 use Rattle.edl_list.specs.declared.list.Event.{Event}
 use Rattle.edl_list.specs.declared.list.EventList.{EventList}
 use Rattle.edl_list.specs.Labelled.{IsLabelled}
+use Rattle.edl_list.specs.Layouts.{narrow, layout_of, FitsEvent}
+use Rattle.edl_layout.specs.Labelled.{IsFirstNot}
+use Rattle.edl_layout.specs.Wide.{IsFirstWide}
+use Rattle.edl_layout.specs.Spelling.{spelling}
 use Rattle.edl_text.specs.Lists.{IsList}
 use Rattle.edl_text.proofs.OneList.{one_list}
 use Rattle.otio_model.specs.declared.roots.Object.{Object}
@@ -19,7 +23,7 @@ use Rattle.otio_model.specs.Timelines.{bare}
 use Rattle.schema_write.specs.Objects.{json_of}
 use Rattle.coord.proofs.OneFault.{same_fault, no_fault_of}
 use Rattle.coord.proofs.SpareLemmas.{faultless_bare, fault_bare}
-use Rattle.fault_text.specs.Faults.{coord_fault_text, conform_fault_text, day_text}
+use Rattle.fault_text.specs.Faults.{coord_fault_text, conform_fault_text, not_carried_text, reel_text, day_text}
 use Rattle.frame_rows.specs.Rows.{listing_of, listing_text}
 use Rattle.frame_rows.specs.declared.listing.Listing.{Listing}
 use Rattle.frame_rows.proofs.SpareLemmas.{listing_bare, text_bare}
@@ -30,18 +34,23 @@ use Rattle.source_files.specs.declared.kinds.Content.{Content}
 use Rattle.source_files.specs.declared.kinds.Content.TheVariants.{Value, Root, Film, Events, Rows}
 use Rattle.source_files.proofs.Order.{first_once, each_or_first}
 use Rattle.command_words.specs.declared.requests.Command.{Command}
-use Rattle.command_words.specs.declared.requests.Command.TheVariants.{ListToList, ListToObjects, ToObjects, ToJson, Frames, ListFrames}
+use Rattle.command_words.specs.declared.requests.Command.TheVariants.{ListToList, ListToObjects, TimelineToList, ToObjects, ToJson, Frames, ListFrames}
 use Rattle.command_words.specs.declared.requests.FramesAsked.{FramesAsked}
 use Rattle.media_rows.specs.declared.row.MediaRow.{MediaRow}
 use Rattle.media_list.specs.Lists.{IsMediaList}
 use Rattle.media_list.proofs.OneOutcome.{list_once as media_list_once}
 use Rattle.edl_frames.specs.Shown.{MediaRows}
+use Rattle.edl_frames.specs.Carried.{not_carried, IsListOf, IsNotCarried}
+use Rattle.edl_frames.specs.declared.reasons.NotCarried.{NotCarried}
+use Rattle.edl_frames.specs.declared.reasons.NotCarried.TheVariants as carried
 use Rattle.edl_frames_law.proofs.OneTimeline.{one_timeline}
+use Rattle.otio_tools.proofs.OneCarried.{carried_once}
 use Rattle.edl_frames_law.proofs.OneFault.{one_fault as one_conform_fault, no_fault as no_conform_fault}
 use Rattle.otio_tools.specs.Asked.{Asked, Asks, asked_for, files_of, kind_of, media_source}
 use Rattle.otio_tools.specs.Forms.{Answer, done, refused}
 use Rattle.otio_tools.specs.Frames.{AnswersTimeline, Unsound, NoLabel, Listed}
-use Rattle.otio_tools.specs.Events.{AnswersEvents, NoTimecode, TooMany, PastDay, Spelled}
+use Rattle.otio_tools.specs.Events.{AnswersEvents, NoTimecode, TooMany, WideReel, PastDay, Spelled}
+use Rattle.otio_tools.specs.Carried.{AnswersCarried, NotSound, Left, Carried}
 use Rattle.otio_tools.specs.Conformed.{media_in, AnswersConformed, NotConformed, Conformed}
 use Rattle.otio_tools.specs.Answer.{object_json, AnswersWritten, Answers, NoCommand, OnFiles, AnswersHeld, AnswersUnread, Gone, Faulty, AnswersAsked, Unread, Judged}
 use Rattle.otio_tools.specs.Run.{Streams, Ends, Gives, Completes}
@@ -55,66 +64,97 @@ none_some : {X : Type 0} (o : Option X) → o ≡ None → IsSome o → ⊥
 none_some None e h = grind (arith, common_steps)
 none_some (Some x) e h = cc
 
--- the first event past the day is one
-past_once : (rate : Rate) (drop : Bool) (before other after behind : List Event) (e f : Event)
-    → before ++ e ∷ after ≡ other ++ f ∷ behind
-    → All (IsLabelled rate drop) before → All (IsLabelled rate drop) other
-    → (IsLabelled rate drop e → ⊥) → (IsLabelled rate drop f → ⊥) → e ≡ f
-past_once rate drop [] [] after behind e f h p q a b = cc
-past_once rate drop [] (o ∷ other) after behind e f h p q a b = let k : e ≡ o =
-    cc in absurd (a (subst (IsLabelled rate drop) (sym k)
-    (All-head (IsLabelled rate drop) o other q)))
-past_once rate drop (o ∷ before) [] after behind e f h p q a b = let k : o ≡ f =
-    cc in absurd (b (subst (IsLabelled rate drop) k (All-head (IsLabelled rate drop) o before p)))
-past_once rate drop (o ∷ before) (u ∷ other) after behind e f h p q a b =
+-- the first event that isn't such is one
+such_once : (Is : Event → Type 0) (before other after behind : List Event) (e f : Event)
+    → before ++ e ∷ after ≡ other ++ f ∷ behind → All Is before → All Is other → (Is e → ⊥)
+    → (Is f → ⊥) → e ≡ f
+such_once Is [] [] after behind e f h p q a b = cc
+such_once Is [] (o ∷ other) after behind e f h p q a b = let k : e ≡ o =
+    cc in absurd (a (subst Is (sym k) (All-head Is o other q)))
+such_once Is (o ∷ before) [] after behind e f h p q a b = let k : o ≡ f =
+    cc in absurd (b (subst Is k (All-head Is o before p)))
+such_once Is (o ∷ before) (u ∷ other) after behind e f h p q a b =
     let k : before ++ e ∷ after ≡ other ++ f ∷ behind =
-    cc in past_once rate drop before other after behind e f k
-    (All-tail (IsLabelled rate drop) o before p) (All-tail (IsLabelled rate drop) u other q) a b
+    cc in such_once Is before other after behind e f k (All-tail Is o before p)
+    (All-tail Is u other q) a b
 
-past_none : (rate : Rate) (drop : Bool) (before after events : List Event) (e : Event)
-    → events ≡ before ++ e ∷ after → All (IsLabelled rate drop) events
-    → (IsLabelled rate drop e → ⊥) → ⊥
-past_none rate drop [] after events e h p a = let all : All (IsLabelled rate drop) (e ∷ after) =
-    subst (All (IsLabelled rate drop)) h p in a (All-head (IsLabelled rate drop) e after all)
-past_none rate drop (o ∷ before) after events e h p a =
-    let all : All (IsLabelled rate drop) (o ∷ (before ++ e ∷ after)) =
-    subst (All (IsLabelled rate drop)) h p in past_none rate drop before after (before
-    ++ e ∷ after) e refl (All-tail (IsLabelled rate drop) o (before ++ e ∷ after) all) a
+none_such : (Is : Event → Type 0) (before after events : List Event) (e : Event)
+    → events ≡ before ++ e ∷ after → All Is events → (Is e → ⊥) → ⊥
+none_such Is [] after events e h p a = let all : All Is (e ∷ after) =
+    subst (All Is) h p in a (All-head Is e after all)
+none_such Is (o ∷ before) after events e h p a =
+    let all : All Is (o ∷ (before ++ e ∷ after)) =
+    subst (All Is) h p in none_such Is before after (before
+    ++ e ∷ after) e refl (All-tail Is o (before ++ e ∷ after) all) a
+
+-- the line of the first event that isn't such is one
+line_once : (Is : Event → Type 0) (events : List Event) (l k : ℕ) → IsFirstNot Is events (Some l)
+    → IsFirstNot Is events (Some k) → l ≡ k
+line_once Is events l k p q =
+    let same : p.2 ≡ q.2 = such_once Is p.0 q.0 p.1 q.1 p.2 q.2 (sym p.3 ∙ q.3) p.5 q.5 p.6 q.6 in
+    p.4 ∙ ap (λ (x : Event). x.line) same ∙ sym q.4
+
+line_none : (Is : Event → Type 0) (events : List Event) (l : ℕ) → IsFirstNot Is events (Some l)
+    → All Is events → ⊥
+line_none Is events l p q = none_such Is p.0 p.1 events p.2 p.3 q p.6
+
+-- no reel is wide where each stands in the narrow layout
+wide_none : (wide : Bool) (events : List Event) (l : ℕ) → wide ≡ false
+    → IsFirstWide events (Some l) → All (FitsEvent (layout_of wide)) events → ⊥
+wide_none wide events l e p q = line_none (FitsEvent narrow) events l p
+    (subst (λ w. All (FitsEvent (layout_of w)) events) e q)
 
 -- a list of events has at most one answer
-events_once : (name : List ℕ) (target : Option (List ℕ)) (list : EventList) (drop : Bool)
-    (a b : Answer) → AnswersEvents name target list drop a → AnswersEvents name target list drop b
-    → a ≡ b
-events_once name target list drop a b (NoTimecode n e) (NoTimecode m f) = e ∙ sym f
-events_once name target list drop a b (NoTimecode n e) (TooMany m k f) = absurd (none_some _ n m)
-events_once name target list drop a b (NoTimecode n e) (PastDay c l p f) =
-    absurd (none_some _ n c.timecode)
-events_once name target list drop a b (NoTimecode n e) (Spelled c p f) =
-    absurd (none_some _ n c.timecode)
-events_once name target list drop a b (TooMany n k e) (NoTimecode m f) = absurd (none_some _ m n)
-events_once name target list drop a b (TooMany n k e) (TooMany m h f) = e ∙ sym f
-events_once name target list drop a b (TooMany n k e) (PastDay c l p f) =
-    absurd (omega (arith, k, c.few))
-events_once name target list drop a b (TooMany n k e) (Spelled c p f) =
-    absurd (omega (arith, k, c.few))
-events_once name target list drop a b (PastDay c l p e) (NoTimecode m f) =
+events_once : (name : List ℕ) (target : Option (List ℕ)) (list : EventList) (drop wide : Bool)
+    (a b : Answer) → AnswersEvents name target list drop wide a
+    → AnswersEvents name target list drop wide b → a ≡ b
+events_once name target list drop wide a b (NoTimecode n e) (NoTimecode m f) = e ∙ sym f
+events_once name target list drop wide a b (NoTimecode n e) (TooMany u h f) =
+    absurd (none_some _ n u)
+events_once name target list drop wide a b (NoTimecode n e) (WideReel u v j o s f) =
+    absurd (none_some _ n u)
+events_once name target list drop wide a b (NoTimecode n e) (PastDay d o q f) =
+    absurd (none_some _ n d.timecode)
+events_once name target list drop wide a b (NoTimecode n e) (Spelled d q f) =
+    absurd (none_some _ n d.timecode)
+events_once name target list drop wide a b (TooMany t k e) (NoTimecode m f) =
+    absurd (none_some _ m t)
+events_once name target list drop wide a b (TooMany t k e) (TooMany u h f) = e ∙ sym f
+events_once name target list drop wide a b (TooMany t k e) (WideReel u v j o s f) =
+    absurd (omega (arith, k, v))
+events_once name target list drop wide a b (TooMany t k e) (PastDay d o q f) =
+    absurd (omega (arith, k, d.fits.few))
+events_once name target list drop wide a b (TooMany t k e) (Spelled d q f) =
+    absurd (omega (arith, k, d.fits.few))
+events_once name target list drop wide a b (WideReel t w i l r e) (NoTimecode m f) =
+    absurd (none_some _ m t)
+events_once name target list drop wide a b (WideReel t w i l r e) (TooMany u h f) =
+    absurd (omega (arith, h, w))
+events_once name target list drop wide a b (WideReel t w i l r e) (WideReel u v j o s f) =
+    e ∙ ap (λ n. refused name (reel_text n)) (line_once (FitsEvent narrow) list.events l o r s) ∙ sym f
+events_once name target list drop wide a b (WideReel t w i l r e) (PastDay d o q f) =
+    absurd (wide_none wide list.events l i r d.fits.reels)
+events_once name target list drop wide a b (WideReel t w i l r e) (Spelled d q f) =
+    absurd (wide_none wide list.events l i r d.fits.reels)
+events_once name target list drop wide a b (PastDay c l p e) (NoTimecode m f) =
     absurd (none_some _ m c.timecode)
-events_once name target list drop a b (PastDay c l p e) (TooMany m h f) =
-    absurd (omega (arith, h, c.few))
-events_once name target list drop a b (PastDay c l p e) (PastDay d k q f) =
-    let same : p.2 ≡ q.2 = past_once list.rate drop p.0 q.0 p.1 q.1 p.2 q.2 (sym p.3
-    ∙ q.3) p.5 q.5 p.6 q.6 in
-    let line : l ≡ k = p.4 ∙ ap (λ (x : Event). x.line) same ∙ sym q.4 in e
-    ∙ ap (λ n. refused name (day_text n)) line ∙ sym f
-events_once name target list drop a b (PastDay c l p e) (Spelled d q f) =
-    absurd (past_none list.rate drop p.0 p.1 list.events p.2 p.3 q p.6)
-events_once name target list drop a b (Spelled c p e) (NoTimecode m f) =
+events_once name target list drop wide a b (PastDay c l p e) (TooMany u h f) =
+    absurd (omega (arith, h, c.fits.few))
+events_once name target list drop wide a b (PastDay c l p e) (WideReel u v j o s f) =
+    absurd (wide_none wide list.events o j s c.fits.reels)
+events_once name target list drop wide a b (PastDay c l p e) (PastDay d o q f) =
+    e ∙ ap (λ n. refused name (day_text n)) (line_once (IsLabelled list.rate drop) list.events l o p q) ∙ sym f
+events_once name target list drop wide a b (PastDay c l p e) (Spelled d q f) =
+    absurd (line_none (IsLabelled list.rate drop) list.events l p q)
+events_once name target list drop wide a b (Spelled c p e) (NoTimecode m f) =
     absurd (none_some _ m c.timecode)
-events_once name target list drop a b (Spelled c p e) (TooMany m h f) =
-    absurd (omega (arith, h, c.few))
-events_once name target list drop a b (Spelled c p e) (PastDay d k q f) =
-    absurd (past_none list.rate drop q.0 q.1 list.events q.2 q.3 p q.6)
-events_once name target list drop a b (Spelled c p e) (Spelled d q f) = e ∙ sym f
+events_once name target list drop wide a b (Spelled c p e) (TooMany u h f) =
+    absurd (omega (arith, h, c.fits.few))
+events_once name target list drop wide a b (Spelled c p e) (WideReel u v j o s f) =
+    absurd (wide_none wide list.events o j s c.fits.reels)
+events_once name target list drop wide a b (Spelled c p e) (PastDay d o q f) =
+    absurd (line_none (IsLabelled list.rate drop) list.events o q p)
+events_once name target list drop wide a b (Spelled c p e) (Spelled d q f) = e ∙ sym f
 
 -- a start is a label of the record rate or none
 label_or_none : (asked : FramesAsked) (t u : Timeline) (listing : Listing) → bare t ≡ bare u
@@ -181,15 +221,15 @@ read_or_unread held file content a is (Faulty why p e) =
     (there_once p.0 is.bytes (held file.name) p.1 is.there) p.2)
 
 -- what a file holds, and what those behind it do
-record Reads (held : Held) (file : Source) (files : List Source)
+pub record Reads (held : Held) (file : Source) (files : List Source)
     (contents : List Content) : Type 0 where
-  content : Content
-  more : List Content
-  are : contents ≡ content ∷ more
-  first : IsRead held file content
-  others : AreRead held files more
+  pub content : Content
+  pub more : List Content
+  pub are : contents ≡ content ∷ more
+  pub first : IsRead held file content
+  pub others : AreRead held files more
 
-first_read : (held : Held) (file : Source) (files : List Source) (contents : List Content)
+pub first_read : (held : Held) (file : Source) (files : List Source) (contents : List Content)
     → AreRead held (file ∷ files) contents → Reads held file files contents
 first_read held file files [] h = absurd h
 first_read held file files (content ∷ more) h =
@@ -211,7 +251,7 @@ object_held bytes (Film timeline) h = absurd h
 object_held bytes (Events list) h = absurd h
 object_held bytes (Rows rows) h = absurd h
 
-timeline_held : (bytes : List ℕ) (content : Content) → Holds kinds.Timeline bytes content
+pub timeline_held : (bytes : List ℕ) (content : Content) → Holds kinds.Timeline bytes content
     → (timeline : Timeline) × (content ≡ Film timeline) × IsTimeline bytes timeline
 timeline_held bytes (Film timeline) h = (timeline, refl, h)
 timeline_held bytes (Value value) h = absurd h
@@ -228,7 +268,7 @@ list_held rate bytes (Root object) h = absurd h
 list_held rate bytes (Film timeline) h = absurd h
 list_held rate bytes (Rows rows) h = absurd h
 
-media_held : (bytes : List ℕ) (content : Content) → Holds kinds.Media bytes content
+pub media_held : (bytes : List ℕ) (content : Content) → Holds kinds.Media bytes content
     → (rows : List MediaRow) × (content ≡ Rows rows) × IsMediaList bytes rows
 media_held bytes (Rows rows) h = (rows, refl, h)
 media_held bytes (Value value) h = absurd h
@@ -320,14 +360,22 @@ content_once ToObjects name bytes media target c d m n a b p q rows x y =
     let second = subst (Answered ToObjects name media target n b) w.1 y in
     first ∙ ap (λ json. done target (layout json))
     (same_json v.0 w.0 (object_json_once bytes v.0 w.0 v.2 w.2)) ∙ sym second
-content_once (ListToList rate drop) name bytes media target c d m n a b p q rows x y =
+content_once (ListToList rate drop wide) name bytes media target c d m n a b p q rows x y =
     let v = list_held rate bytes c p in
     let w = list_held rate bytes d q in
-    let first = subst (Answered (ListToList rate drop) name media target m a) v.1 x in
-    let second = subst (Answered (ListToList rate drop) name media target n b) w.1 y in
+    let first = subst (Answered (ListToList rate drop wide) name media target m a) v.1 x in
+    let second = subst (Answered (ListToList rate drop wide) name media target n b) w.1 y in
     let same : w.0 ≡ v.0 = one_list rate bytes w.0 v.0 w.2 v.2 in
-    events_once name target v.0 (drop || v.0.drop) a b first
-    (subst (λ (l : EventList). AnswersEvents name target l (drop || l.drop) b) same second)
+    events_once name target v.0 (drop || v.0.drop) wide a b first
+    (subst (λ (l : EventList). AnswersEvents name target l (drop || l.drop) wide b) same second)
+content_once (TimelineToList drop wide) name bytes media target c d m n a b p q rows x y =
+    let v = timeline_held bytes c p in
+    let w = timeline_held bytes d q in
+    let first = subst (Answered (TimelineToList drop wide) name media target m a) v.1 x in
+    let second = subst (Answered (TimelineToList drop wide) name media target n b) w.1 y in
+    carried_once drop wide name (media_in m) target v.0 w.0 a b
+    (timeline_bare_once bytes v.0 w.0 v.2 w.2) first
+    (subst (λ r. AnswersCarried drop wide name r target w.0 b) (sym rows) second)
 content_once (ListToObjects rate) name bytes media target c d m n a b p q rows x y =
     let v = list_held rate bytes c p in
     let w = list_held rate bytes d q in

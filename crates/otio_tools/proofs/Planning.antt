@@ -1,5 +1,5 @@
 -- From what was read of files to what is planned.
-use Rattle.std.proofs.Common.{◌≡◌, ◌≢◌, ◌≤◌, ◌<◌, ◌^◌, ℕ, List, [], ◌∷◌, Some, None, Result, Ok, Err, IfOk, refl, sym, subst, ap, arith}
+use Rattle.std.proofs.Common.{◌≡◌, ◌≢◌, ◌≤◌, ◌<◌, ◌^◌, ℕ, Bool, List, [], ◌∷◌, Some, None, Result, Ok, Err, IfOk, IfErr, refl, sym, subst, ap, arith}
 use Rattle.std.specs.declared.option.Option.{Option}
 use Rattle.dev_io.specs.Known.{KnownFiles}
 use Rattle.dev_io.specs.Calls.{Tells}
@@ -29,7 +29,17 @@ use Rattle.edl_frames.specs.Counted.{item_count}
 use Rattle.edl_frames.specs.Faults.{IsConformFault}
 use Rattle.edl_frames.specs.declared.faults.ConformFault.{ConformFault}
 use Rattle.edl_frames.specs.declared.faults.ConformFault.TheVariants as conform
-use Rattle.fault_text.specs.Faults.{conform_fault_text}
+use Rattle.fault_text.specs.Faults.{conform_fault_text, coord_fault_text, not_carried_text}
+use Rattle.coord.specs.Soundness.{IsFaultless, IsFaultOf}
+use Rattle.coord.specs.declared.faults.CoordFault.{CoordFault}
+use Rattle.coord.specs.declared.faults.CoordFault.TheVariants as coord
+use Rattle.edl_frames.specs.Carried.{not_carried, IsListOf, IsNotCarried}
+use Rattle.edl_frames_law.specs.Premises.{AreListed}
+use Rattle.edl_frames.specs.declared.reasons.NotCarried.{NotCarried}
+use Rattle.edl_frames.specs.declared.reasons.NotCarried.TheVariants as carried
+use Rattle.command_words.specs.declared.requests.FramesAsked.{FramesAsked}
+use Rattle.otio_tools.specs.Frames.{AnswersTimeline, Unsound}
+use Rattle.otio_tools.specs.Carried.{AnswersCarried, NotSound, Left}
 use Rattle.edl_frames_law.proofs.ItemCounts.{timeline_count}
 use Rattle.limits.specs.Limits.{most_items}
 use Rattle.otio_model.specs.Counts.{count as count_below}
@@ -37,7 +47,7 @@ use Rattle.otio_tools.specs.Asked.{Asked, files_of, media_source, asked_for, kin
 use Rattle.otio_tools.specs.Forms.{Answer, done, absent, refused}
 use Rattle.otio_tools.specs.Answer.{object_json, AnswersHeld, AnswersUnread, Gone, Faulty, AnswersAsked, Unread, Judged}
 use Rattle.otio_tools.specs.Run.{FailsUnder}
-use Rattle.otio_tools.specs.Plan.{HasFormedList, Suffices, IsRefusedHeld, PlansHeld, IsStop, Plans, AreContents, IsConformedTo, media_content, text_planned}
+use Rattle.otio_tools.specs.Plan.{HasFormedList, Suffices, IsRefusedHeld, PlansHeld, IsStop, Plans, AreContents, IsCarriedBy, IsConformedTo, media_content, text_planned}
 use Rattle.edl_list.specs.declared.list.EventList.{EventList}
 use Rattle.otio_model.specs.declared.timelines.Timeline.{Timeline}
 use Rattle.otio_tools.specs.Conformed.{media_in, AnswersConformed, Conformed, NotConformed}
@@ -253,3 +263,59 @@ pub not_conformed_as : (name : List ℕ) (list : EventList) (media : MediaRows)
 not_conformed_as name list media Is fault (Broken reason) is told =
     λ target. NotConformed fault told.0 is (ap (refused name) told.1)
 not_conformed_as name list media Is fault Memory is told = λ target. tt
+
+-- how a timeline that isn't sound is refused where its frames are asked for
+pub unsound_frames : (asked : FramesAsked) (name : List ℕ) (timeline : Timeline)
+    (fault : CoordFault) (refusal : Refusal) → IsFaultOf timeline fault
+    → IsRefused (λ why. (fault ≢ coord.Memory) × (why ≡ coord_fault_text fault)) refusal
+    → Suffices (λ target answer. AnswersTimeline asked name target timeline answer) name
+    (Err refusal)
+unsound_frames asked name timeline fault (Broken reason) is told =
+    λ target. Unsound fault told.0 is (ap (refused name) told.1)
+unsound_frames asked name timeline fault Memory is told = λ target. tt
+
+-- how one is refused where it is to be written as a list
+pub unsound_list : (drop wide : Bool) (name : List ℕ) (media : MediaRows) (timeline : Timeline)
+    (fault : CoordFault) (refusal : Refusal) → IsFaultOf timeline fault
+    → IsRefused (λ why. (fault ≢ coord.Memory) × (why ≡ coord_fault_text fault)) refusal
+    → Suffices (λ target answer. AnswersCarried drop wide name media target timeline answer) name
+    (Err refusal)
+unsound_list drop wide name media timeline fault (Broken reason) is told =
+    λ target. NotSound fault told.0 is (ap (refused name) told.1)
+unsound_list drop wide name media timeline fault Memory is told = λ target. tt
+
+-- how a sound timeline is refused that a list doesn't carry
+pub left_as : (drop wide : Bool) (name : List ℕ) (media : MediaRows) (timeline : Timeline)
+    (fault : NotCarried) (refusal : Refusal) → IsFaultless timeline
+    → IsNotCarried timeline media drop wide fault
+    → IsRefused (λ why. (fault ≢ carried.Memory) × (why ≡ not_carried_text fault)) refusal
+    → Suffices (λ target answer. AnswersCarried drop wide name media target timeline answer) name
+    (Err refusal)
+left_as drop wide name media timeline fault (Broken reason) sound is told =
+    λ target. Left sound fault told.0 is (ap (refused name) told.1)
+left_as drop wide name media timeline fault Memory sound is told = λ target. tt
+
+-- the list of a timeline's events, asked for with this media list
+carried_with : (t : Timeline) (media : MediaRows) (drop wide : Bool)
+    (result : Result EventList NotCarried) → IfOk result (IsListOf t media drop wide)
+    → IfOk result (λ list. not_carried t media drop wide ≡ None) → AreListed media
+    → IfOk result (IsCarriedBy t media drop wide)
+carried_with t media drop wide (Ok list) is carried listed =
+    record { is = is; carried = carried; listed = listed }
+carried_with t media drop wide (Err fault) is carried listed = tt
+
+pub carried_by : (t : Timeline) (asked media : MediaRows) (drop wide : Bool)
+    (result : Result EventList NotCarried) → asked ≡ media
+    → IfOk result (IsListOf t asked drop wide)
+    → IfOk result (λ list. not_carried t asked drop wide ≡ None) → AreListed asked
+    → IfOk result (IsCarriedBy t media drop wide)
+carried_by t asked media drop wide result e is carried listed =
+    subst (λ m. IfOk result (IsCarriedBy t m drop wide)) e
+    (carried_with t asked drop wide result is carried listed)
+
+pub left_by : (t : Timeline) (asked media : MediaRows) (drop wide : Bool)
+    (result : Result EventList NotCarried) → asked ≡ media
+    → IfErr result (IsNotCarried t asked drop wide)
+    → IfErr result (IsNotCarried t media drop wide)
+left_by t asked media drop wide result e h =
+    subst (λ m. IfErr result (IsNotCarried t m drop wide)) e h

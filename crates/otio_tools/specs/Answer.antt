@@ -12,11 +12,12 @@ use Rattle.source_files.specs.declared.kinds.Content.{Content}
 use Rattle.source_files.specs.declared.kinds.Content.TheVariants.{Value, Root, Film, Events}
 use Rattle.command_words.specs.Asked.{AskNothing}
 use Rattle.command_words.specs.declared.requests.Command.{Command}
-use Rattle.command_words.specs.declared.requests.Command.TheVariants.{ListToList, ListToObjects, ToObjects, ToJson, Frames, ListFrames}
+use Rattle.command_words.specs.declared.requests.Command.TheVariants.{ListToList, ListToObjects, TimelineToList, ToObjects, ToJson, Frames, ListFrames}
 use Rattle.otio_tools.specs.Asked.{Asked, Asks}
 use Rattle.otio_tools.specs.Forms.{Answer, done, refused, absent, usage}
 use Rattle.otio_tools.specs.Events.{AnswersEvents}
 use Rattle.otio_tools.specs.Frames.{AnswersTimeline}
+use Rattle.otio_tools.specs.Carried.{AnswersCarried}
 use Rattle.otio_tools.specs.Conformed.{media_in, AnswersConformed}
 
 -- the JSON of an object that is written, in the current schemas and the written order
@@ -31,15 +32,18 @@ AnswersWritten target timeline answer =
 -- The answer to a command on what its files hold, in their order: a value or an object in the one
 -- layout, a list in its one spelling, with drop-frame timecode where that is asked for or is in
 -- force at its first event line, the timeline that a list conforms to with the media list behind
--- it, or the rows of frames. A refusal is told of one of the files.
+-- it, the list of a timeline's events with the media list behind it, or the rows of frames. A
+-- refusal is told of one of the files.
 abbrev pub AnswersHeld : Command → List Source → Option (List ℕ) → List Content → Answer → Type 0
 AnswersHeld ToJson files target (Value value ∷ more) answer = answer ≡ done target (layout value)
 AnswersHeld ToObjects files target (Root object ∷ more) answer =
     answer ≡ done target (layout (object_json object))
-AnswersHeld (ListToList rate drop) (file ∷ files) target (Events list ∷ more) answer =
-    AnswersEvents file.name target list (drop || list.drop) answer
+AnswersHeld (ListToList rate drop wide) (file ∷ files) target (Events list ∷ more) answer =
+    AnswersEvents file.name target list (drop || list.drop) wide answer
 AnswersHeld (ListToObjects rate) (file ∷ files) target (Events list ∷ more) answer =
     AnswersConformed file.name list (media_in more) (AnswersWritten target) answer
+AnswersHeld (TimelineToList drop wide) (file ∷ files) target (Film timeline ∷ more) answer =
+    AnswersCarried drop wide file.name (media_in more) target timeline answer
 AnswersHeld (Frames asked) (file ∷ files) target (Film timeline ∷ more) answer =
     AnswersTimeline asked file.name target timeline answer
 AnswersHeld (ListFrames rate asked) (file ∷ files) target (Events list ∷ more) answer =

@@ -6,7 +6,7 @@ use Rattle.source_files.specs.declared.kinds.Kind.{Kind}
 use Rattle.source_files.specs.declared.kinds.Kind.TheVariants as kinds
 use Rattle.command_words.specs.Asked.{Ask}
 use Rattle.command_words.specs.declared.requests.Command.{Command}
-use Rattle.command_words.specs.declared.requests.Command.TheVariants.{ListToList, ListToObjects, ToObjects, ToJson, Frames, ListFrames}
+use Rattle.command_words.specs.declared.requests.Command.TheVariants.{ListToList, ListToObjects, TimelineToList, ToObjects, ToJson, Frames, ListFrames}
 
 pub record Asked : Type 0 where
   pub command : Command
@@ -16,8 +16,9 @@ pub record Asked : Type 0 where
 
 -- what a command reads its file as
 abbrev pub kind_of : Command → Kind
-kind_of (ListToList rate drop) = kinds.List rate
+kind_of (ListToList rate drop wide) = kinds.List rate
 kind_of (ListToObjects rate) = kinds.List rate
+kind_of (TimelineToList drop wide) = kinds.Timeline
 kind_of ToObjects = kinds.Object
 kind_of ToJson = kinds.Json
 kind_of (Frames asked) = kinds.Timeline
@@ -40,8 +41,9 @@ asked_for command name media target =
 
 -- the command lists frames
 abbrev pub ListsFrames : Command → Type 0
-ListsFrames (ListToList rate drop) = ⊥
+ListsFrames (ListToList rate drop wide) = ⊥
 ListsFrames (ListToObjects rate) = ⊥
+ListsFrames (TimelineToList drop wide) = ⊥
 ListsFrames ToObjects = ⊥
 ListsFrames ToJson = ⊥
 ListsFrames (Frames asked) = Unit {0}

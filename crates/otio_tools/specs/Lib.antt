@@ -8,3 +8,5 @@ pub mod Answer
 pub mod Run
 pub mod Plan
 pub mod Texts
+pub mod Carried
+pub mod Kept

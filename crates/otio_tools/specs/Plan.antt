@@ -28,6 +28,8 @@ use Rattle.dev_io.specs.Causes.{Rose}
 use Rattle.limits.specs.Limits.{most_items}
 use Rattle.edl_frames.specs.Shown.{MediaRows}
 use Rattle.edl_frames.specs.Conformed.{IsTimelineOf}
+use Rattle.edl_frames.specs.Carried.{not_carried, IsListOf}
+use Rattle.edl_frames_law.specs.Premises.{AreListed}
 use Rattle.edl_frames.specs.Refused.{IsAccepted}
 use Rattle.edl_frames.specs.Counted.{item_count}
 use Rattle.otio_tools.specs.Asked.{Asked, ListsFrames, files_of}
@@ -42,7 +44,7 @@ use Rattle.otio_tools.specs.declared.planned.Planned.TheVariants.{Events, Value,
 
 -- the text of what is to be sent
 abbrev pub text_planned : Planned → List ℕ
-text_planned (Events list drop) = spelling list drop
+text_planned (Events list drop wide) = spelling list drop wide
 text_planned (Value value) = layout value
 text_planned (Root object) = layout (object_json object)
 text_planned (Rows timeline listing) = listing_text timeline listing
@@ -79,6 +81,13 @@ pub record IsConformedTo (list : EventList) (media : MediaRows)
   pub accepted : IsAccepted list media
   pub few : item_count list ≤ most_items
 
+-- the list of a timeline's events, which a list carries
+pub record IsCarriedBy (timeline : Timeline) (media : MediaRows) (drop wide : Bool)
+    (list : EventList) : Type 0 where
+  pub is : IsListOf timeline media drop wide list
+  pub carried : not_carried timeline media drop wide ≡ None
+  pub listed : AreListed media
+
 -- what a media list adds to what was read
 abbrev pub media_content : MediaRows → List Content
 media_content None = []
@@ -113,10 +122,10 @@ HasFormedList (content.Root object) = ⊥
 HasFormedList (content.Film timeline) = ⊥
 HasFormedList (content.Rows rows) = ⊥
 
--- a list that can be written in this mode
-pub record IsWritableIn (list : EventList) (drop : Bool) : Type 0 where
+-- a list that can be written in this mode and layout
+pub record IsWritableIn (list : EventList) (drop wide : Bool) : Type 0 where
   pub formed : IsWellFormed list
-  pub can : CanBeWritten list drop
+  pub can : CanBeWritten list drop wide
   pub labelled : IsFirstPast list.rate drop list.events None
 
 -- a timeline whose rows can be written
@@ -126,13 +135,13 @@ pub record CanBeShown (timeline : Timeline) : Type 0 where
 
 -- what is planned can be written
 abbrev pub Fits : Planned → Type 0
-Fits (Events list drop) = IsWritableIn list drop
+Fits (Events list drop wide) = IsWritableIn list drop wide
 Fits (Value value) = Unit {0}
 Fits (Root object) = Unit {0}
 Fits (Rows timeline listing) = CanBeShown timeline
 
 abbrev pub AreRows : Planned → Type 0
-AreRows (Events list drop) = ⊥
+AreRows (Events list drop wide) = ⊥
 AreRows (Value value) = ⊥
 AreRows (Root object) = ⊥
 AreRows (Rows timeline listing) = Unit {0}

@@ -7,6 +7,7 @@ ghost use Rattle.frame_rows.specs.Rows.{listing_text};
 ghost use Rattle.command_words.specs.Asked.{Ask, AskNothing};
 ghost use Rattle.otio_tools.specs.Answer.{object_json};
 ghost use Rattle.otio_tools.specs.Texts.{text_at};
+ghost use Rattle.otio_tools.specs.Kept.{KeepsShown};
 ghost use Rattle.otio_tools.specs.Run.{Completes, Ends, Says, KeepsStill, no_memory, streams};
 ghost use Rattle.otio_tools.specs.Plan.{AreRows, CanBeShown, Carries, Complains, Fits, HasSendCause, IsWritableIn, Writes, WritesTo, text_planned, message_about, message_unsent, status_of, status_unsent};
 ghost use Rattle.source_files.specs.declared.faults.ReadFault.TheVariants.{Refused as RefusedFor};
@@ -28,7 +29,7 @@ use std::alloc::Global;
 use std::mem;
 
 const USAGE: &[u8] = b"otio: usage
-  otio convert [--from F] [--to T] [--rate R] [--drop] [--media LIST] [-o OUT] FILE
+  otio convert [--from F] [--to T] [--rate R] [--drop] [--wide] [--media LIST] [-o OUT] FILE
   otio cat [--rate R] [--media LIST] [-o OUT] FILE...
   otio stat [--rate R] [--media LIST] [-o OUT] FILE
   otio tool [OPTIONS] [--rate R] [--media LIST] [-o OUT] FILE...
@@ -47,6 +48,12 @@ const USAGE: &[u8] = b"otio: usage
 /// has it. For any other FILE, or with `--from otio`, it reads an object of OpenTimelineIO, old
 /// names and versions included, and sends its layout in the current schemas; with `--to json` it
 /// sends the layout of the JSON text, and reads no schema.
+///
+/// With `--to edl`, or where OUT ends with `.edl`, it sends the list of the events of a sound
+/// timeline, with drop-frame timecode where `--drop` stands and with the reels of the media list
+/// that `--media` names, else with those of the clips' metadata. Refused is the first child that a
+/// list doesn't carry. With `--wide` a list has event numbers of six digits and reels of up to 32
+/// bytes, else numbers of three digits and reels of up to eight bytes.
 ///
 /// `frames FILE` reads an object too, or a list, which it conforms in the same way, and sends a row
 /// for each record frame and root child of a sound timeline: the frame's number, the child's index
@@ -75,6 +82,12 @@ pub fn run<F: Files, W: Out, E: Out>(
         let sent = streams W.faults W.known E.faults E.known out.old out.new err.old err.new in
         Tells (Ends said (F.faults files.old) (F.faults files.new) sent result)
         (F.known files.old) (F.known files.new) }
+
+    // A timeline that is written as a list keeps its frames: the text that was sent reads as one
+    // list, and what that conforms to shows what the timeline shows.
+    ensures kept { let said = map (λ w. string_bytes w) words.now.items in
+        let sent = streams W.faults W.known E.faults E.known out.old out.new err.old err.new in
+        IfSome (F.known files.old) (KeepsShown said sent result) }
 
     // Where no device failed, the status is that of the answer.
     ensures complete { let said = map (λ w. string_bytes w) words.now.items in
@@ -216,7 +229,7 @@ fn write_planned<W: Out>(alloc: Global, planned: &Planned, out: &mut W) -> Resul
         (W.faults out.new) result }
 {
     match planned {
-        Planned::Events(list, drop) => write_events(list, *drop, out),
+        Planned::Events { list, drop, wide } => write_events(list, *drop, *wide, out),
         Planned::Value(value) => write_value(value, out),
         Planned::Root(object) => write_root(object, out),
         Planned::Rows(timeline, listing) => write_frames(alloc, timeline, listing, out),
@@ -224,13 +237,18 @@ fn write_planned<W: Out>(alloc: Global, planned: &Planned, out: &mut W) -> Resul
 }
 
 // Sends a list.
-fn write_events<W: Out>(list: &EventList, drop: bool, out: &mut W) -> Result<(), RowFault>
-    requires { IsWritableIn list.now drop }
-    ensures told { Tells (SendsAll (spelling list.now drop) result) (W.known out.old)
+fn write_events<W: Out>(
+    list: &EventList,
+    drop: bool,
+    wide: bool,
+    out: &mut W,
+) -> Result<(), RowFault>
+    requires { IsWritableIn list.now drop wide }
+    ensures told { Tells (SendsAll (spelling list.now drop wide) result) (W.known out.old)
         (W.known out.new) }
     ensures cause { HasSendCause ⊥ (W.faults out.old) (W.faults out.new) result }
 {
-    match write_list(list, drop, out) {
+    match write_list(list, drop, wide, out) {
         Ok(()) => Ok(()),
         Err(_) => Err(RowFault::Sink),
     }

@@ -1,9 +1,9 @@
 // The frames of a timeline.
-ghost use Rattle.std.specs.Prelude.{◌<◌, ◌^◌, ℕ, List, Result, IfOk};
+ghost use Rattle.std.specs.Prelude.{◌≡◌, ◌≢◌, ◌<◌, ◌^◌, ℕ, List, IfOk};
 ghost use Rattle.otio_model.specs.Counts.{count as count_below};
-ghost use Rattle.otio_model.specs.declared.timelines.Timeline.{Timeline as AnyTimeline};
-ghost use Rattle.coord.specs.Soundness.{IsFaultless, IsFaultOf};
-ghost use Rattle.command_words.specs.declared.requests.FramesAsked.{FramesAsked as AnyAsked};
+ghost use Rattle.coord.specs.Soundness.{IsFaultless};
+ghost use Rattle.fault_text.specs.Faults.{coord_fault_text};
+ghost use Rattle.source_files.specs.Reading.{IsRefused};
 ghost use Rattle.otio_tools.specs.Frames.{AnswersTimeline};
 ghost use Rattle.otio_tools.specs.Plan.{Fits, Suffices};
 
@@ -50,11 +50,10 @@ fn rows_of(timeline: Timeline, asked: FramesAsked) -> Result<Planned, Refusal>
     }
 }
 
-// How the first fault of a timeline is refused.
-fn unsound(fault: CoordFault) -> Refusal
-    ensures { (asked : AnyAsked) (name : List ℕ) (timeline : AnyTimeline) → IsFaultOf timeline fault
-        → Suffices (λ target answer. AnswersTimeline asked name target timeline answer) name
-        (Result.Err result) }
+/// How the first fault of a timeline is refused.
+pub fn unsound(fault: CoordFault) -> Refusal
+    ensures { IsRefused (λ why. (fault ≢ CoordFault.Memory)
+        × (why ≡ coord_fault_text fault)) result }
 {
     match coord_reason(fault) {
         Some(reason) => Refusal::Broken(reason),

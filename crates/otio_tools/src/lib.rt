@@ -6,12 +6,14 @@ ghost use Rattle.source_files.specs.Reading.{Held};
 ghost use Rattle.otio_tools.specs.Answer.{Answers};
 ghost use Rattle.otio_tools.specs.Forms.{Answer};
 
+mod carried;
 mod command;
 mod conformed;
 mod frames;
 mod list;
 mod planned;
 mod say;
+mod texts;
 
 pub use command::run;
 

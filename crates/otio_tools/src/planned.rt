@@ -11,6 +11,7 @@ ghost use Rattle.otio_tools.specs.Answer.{AnswersHeld};
 ghost use Rattle.otio_tools.specs.Plan.{Plans, PlansHeld, Suffices, AreContents, AreRows, Fits, HasFormedList, IsFor, media_content};
 ghost use Rattle.otio_tools.specs.Texts.{text_at};
 
+use crate::carried::timeline_to_list;
 use crate::conformed::{conformed_frames_to_write, conformed_to_write};
 use crate::frames::frames_to_write;
 use crate::list::list_to_write;
@@ -27,8 +28,15 @@ use std::alloc::Global;
 /// What is to be sent.
 #[derive(Drop)]
 pub enum Planned {
-    /// A list, in its one spelling, with drop-frame timecode or without.
-    Events(EventList, bool),
+    /// A list, in its one spelling.
+    Events {
+        /// The list.
+        list: EventList,
+        /// Whether it is written with drop-frame timecode.
+        drop: bool,
+        /// Whether it is written in the wide layout.
+        wide: bool,
+    },
     /// A value, in its layout.
     Value(Json),
     /// An object, in the layout of its JSON.
@@ -98,8 +106,9 @@ fn kind_asked(command: Command) -> Kind
     ensures { result ≡ kind_of command }
 {
     match command {
-        Command::ListToList { rate, drop: _ } => Kind::List(rate),
+        Command::ListToList { rate, .. } => Kind::List(rate),
         Command::ListToObjects { rate } => Kind::List(rate),
+        Command::TimelineToList { .. } => Kind::Timeline,
         Command::ToObjects => Kind::Object,
         Command::ToJson => Kind::Json,
         Command::Frames(_) => Kind::Timeline,
@@ -185,8 +194,11 @@ fn judge(
     ensures kind { IfOk result (λ planned. IsFor command planned) }
 {
     match command {
-        Command::ListToList { rate: _, drop } => list_to_write(list_in(content), drop),
+        Command::ListToList { drop, wide, .. } => list_to_write(list_in(content), drop, wide),
         Command::ListToObjects { rate: _ } => conformed_to_write(alloc, list_in(content), media),
+        Command::TimelineToList { drop, wide } => {
+            timeline_to_list(alloc, timeline_in(content), media, drop, wide)
+        }
         Command::ToObjects => Ok(Planned::Root(object_in(content))),
         Command::ToJson => Ok(Planned::Value(value_in(content))),
         Command::Frames(asked) => frames_to_write(alloc, timeline_in(content), asked),

@@ -14,13 +14,14 @@ use Rattle.otio_model.specs.Lengths.{added, lengths, length_of, or_zero}
 use Rattle.otio_model.specs.Overlaps.{within}
 use Rattle.coord.specs.Looks.{Show, Blank, Frame, Mix, Look, Weight, weight, is_blank, blank, mixed, mix_shows, item_shows, track_shows, stack_shows}
 use Rattle.coord.specs.Sights.{exact, View, sight, sights, seen, looks, shows_inside}
-use Rattle.coord.specs.Images.{Image, Empty, Single, Mixture, Kind, image, is_mix}
+use Rattle.coord.specs.Images.{Image, Empty, Single, Mixture, Kind, image, is_empty, is_mix}
 use Rattle.show_prog.specs.Pictures.{image_of, image_step}
-use Rattle.show_prog.specs.Walk.{mixture, is_empty}
+use Rattle.show_prog.specs.Walk.{mixture}
 use Rattle.show_prog.specs.declared.picture.Picture.{Picture}
 use Rattle.show_prog.specs.declared.picture.Picture.TheVariants.{Blank as NoPicture}
 use Rattle.show_prog.specs.declared.picture.Picture.TheOpen.{Picture-F}
 use Rattle.show_prog.specs.declared.picture.Picture.TheFolds.{fold-roll-Picture}
+use Rattle.coord.proofs.ImageLemmas.{empty_is}
 use Rattle.coord.proofs.SightLemmas.{looks-items, look_length}
 use Rattle.show_prog.proofs.Steps.{is_within, missed_before, missed_behind}
 use Rattle.show_prog.proofs.Walk.{total_is}
@@ -49,11 +50,6 @@ on_err (Ok x) P h = tt
 on_err (Err e) P h = h
 
 -- ---- mixes
-
-pub empty_is : (s : Show) → is_empty (image s) ≡ is_blank s
-empty_is Blank = refl
-empty_is (Frame k m r) = refl
-empty_is (Mix k a b w) = refl
 
 pub mix_not_blank : (s : Show) → is_mix s ≡ true → is_blank s ≡ false
 mix_not_blank Blank e = absurd (cc e)

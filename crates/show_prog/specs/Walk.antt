@@ -10,7 +10,7 @@ use Rattle.otio_model.specs.Overlaps.{within}
 use Rattle.coord.specs.Looks.{Weight, Show, Blank, mixed, weight, item_shows}
 use Rattle.coord.specs.Keys.{text_in, member_in}
 use Rattle.coord.specs.Sights.{View, sight, looks}
-use Rattle.coord.specs.Images.{Image, Empty, Single, Mixture, kind_of}
+use Rattle.coord.specs.Images.{Image, Empty, Mixture, kind_of, is_empty}
 use Rattle.show_prog.specs.declared.lists.ActiveTransition.{ActiveTransition}
 use Rattle.show_prog.specs.declared.lists.Held.{Held}
 use Rattle.show_prog.specs.declared.weights.Share.{Share}
@@ -77,11 +77,6 @@ IsHeld l at (Some h) = IsHolder l at h
 
 abbrev pub weight_of : Share → Weight
 weight_of s = record { num = s.num; den = s.den }
-
-abbrev pub is_empty : Image → Bool
-is_empty Empty = true
-is_empty (Single key number) = false
-is_empty (Mixture kind from to weight) = false
 
 -- what is seen of a mix; of two that are empty nothing
 abbrev pub mixture : List ℕ → Image → Image → ℤ → ℤ → Image

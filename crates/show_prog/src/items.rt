@@ -13,8 +13,8 @@ ghost use Rattle.coord.specs.Sights.{exact, sight, looks, shows_inside};
 ghost use Rattle.coord.specs.Speeds as speeds;
 ghost use Rattle.coord.specs.Speeds.{speed_of};
 ghost use Rattle.coord.specs.Soundness.{AreFaultless, fault_of, IsFaultlessItem};
-ghost use Rattle.show_prog.specs.Walk.{side, mixture, is_empty};
-ghost use Rattle.coord.specs.Images.{image, is_mix};
+ghost use Rattle.show_prog.specs.Walk.{side, mixture};
+ghost use Rattle.coord.specs.Images.{image, is_empty, is_mix};
 ghost use Rattle.show_prog.specs.Pictures.{image_of};
 
 use crate::clips::{mix_kind, show_clip};

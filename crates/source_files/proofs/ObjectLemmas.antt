@@ -6,6 +6,7 @@ use Rattle.otio_model.specs.declared.roots.Object.{Object}
 use Rattle.schema_up.specs.Upgrades.{upgraded}
 use Rattle.schema_rows.specs.Counts.{count_of}
 use Rattle.schema_rows.specs.Faults.{IsFirstFault}
+use Rattle.schema_rows.specs.Stands.{Stands}
 use Rattle.schema_rows.specs.declared.faults.SchemaFault.{SchemaFault}
 use Rattle.schema_rows.specs.declared.faults.SchemaFault.TheVariants.{Memory as WantOfMemory}
 use Rattle.fault_text.specs.Faults.{fault_text}
@@ -30,6 +31,12 @@ object_judged value (Err Failed) bytes s few is = s
 object_judged value (Err (Refused refusal)) bytes s few is =
     refused_by (RefusesValue (upgraded value)) (RefusesObject bytes) refusal
     (λ why r. inr (value, is, r)) s
+
+-- what a value of some bytes stands for is what some value stands for
+pub stands_for : (value : Json) (result : Result Object ReadFault) → StandsAs value result
+    → IfOk result (λ object. (read : Json) × Stands read object)
+stands_for value (Ok object) s = (value, s)
+stands_for value (Err fault) s = tt
 
 -- how the first fault of a value is refused
 pub value_refused : (value : Json) (fault : SchemaFault) (reason : Reason) → fault ≢ WantOfMemory

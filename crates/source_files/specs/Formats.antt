@@ -127,11 +127,19 @@ IsCalm kinds.Timeline taken = IsCalmJson taken
 IsCalm (kinds.List rate) taken = IsCalmList rate taken
 IsCalm kinds.Media taken = IsCalmMedia taken
 
+-- some value stands for the timeline, by the tables of the schemas, and it has few items
+pub record IsOfTables (timeline : Timeline) : Type 0 where
+  pub value : Json
+  pub object : Object
+  pub stands : Stands value object
+  pub root : out-Object object ≡ Object-F.Timeline timeline
+  pub few : count_below timeline.tracks.children < 2 ^ 32
+
 -- what is known of what was read whatever the files tell
 abbrev pub Suits : Kind → Content → Type 0
 Suits kinds.Json (Value value) = Unit {0}
 Suits kinds.Object (Root object) = count_of object ≤ most_items
-Suits kinds.Timeline (Film timeline) = count_below timeline.tracks.children < 2 ^ 32
+Suits kinds.Timeline (Film timeline) = IsOfTables timeline
 Suits (kinds.List rate) (Events list) = IsWellFormed list
 Suits kinds.Media (Rows rows) = Unit {0}
 Suits kind content = ⊥

@@ -1,15 +1,15 @@
 // Objects of OpenTimelineIO in the file in hand.
-ghost use Rattle.std.specs.Prelude.{◌≡◌, ◌≢◌, ◌≤◌, ◌<◌, ◌^◌, ℕ, List, IfOk};
+ghost use Rattle.std.specs.Prelude.{◌≡◌, ◌≢◌, ◌≤◌, ℕ, List, IfOk};
 ghost use Rattle.dev_io.specs.Calls.{Tells};
 ghost use Rattle.limits.specs.Limits.{most_items};
 ghost use Rattle.json_value.specs.declared.Json.{Json as JsonValue};
-ghost use Rattle.otio_model.specs.Counts.{count as count_below};
 ghost use Rattle.schema_up.specs.Upgrades.{upgraded};
 ghost use Rattle.schema_rows.specs.Counts.{count_of};
 ghost use Rattle.schema_rows.specs.Faults.{IsFirstFault};
 ghost use Rattle.schema_rows.specs.Numerals.{HasNumerals};
+ghost use Rattle.schema_rows.specs.Stands.{Stands};
 ghost use Rattle.schema_rows.specs.declared.faults.SchemaFault.TheVariants.{Memory as WantOfMemory};
-ghost use Rattle.source_files.specs.Formats.{IsObject, IsTimeline, IsCalmJson, RefusesValue, RefusesObject, RefusesTimeline};
+ghost use Rattle.source_files.specs.Formats.{IsObject, IsOfTables, IsTimeline, IsCalmJson, RefusesValue, RefusesObject, RefusesTimeline};
 ghost use Rattle.source_files.specs.Hand.{Judges, ReadsHand};
 ghost use Rattle.source_files.specs.Values.{StandsAs};
 ghost use Rattle.source_files.specs.Reading.{IsRefused, Raised};
@@ -32,6 +32,7 @@ pub fn read_object<F: Files>(alloc: Global, files: &mut F) -> Result<Object, Rea
     ensures told { Tells (ReadsHand IsObject RefusesObject IsCalmJson result) (F.known files.old)
         (F.known files.new) }
     ensures few { IfOk result (λ object. count_of object ≤ most_items) }
+    ensures stands { IfOk result (λ object. (value : JsonValue) × Stands value object) }
     ensures cause { Raised result (F.faults files.old) (F.faults files.new) }
 {
     match read_json(alloc, files) {
@@ -45,7 +46,7 @@ pub fn read_object<F: Files>(alloc: Global, files: &mut F) -> Result<Object, Rea
 pub fn read_timeline<F: Files>(alloc: Global, files: &mut F) -> Result<Timeline, ReadFault>
     ensures told { Tells (ReadsHand IsTimeline RefusesTimeline IsCalmJson result)
         (F.known files.old) (F.known files.new) }
-    ensures few { IfOk result (λ timeline. count_below timeline.tracks.children < 2 ^ 32) }
+    ensures tables { IfOk result IsOfTables }
     ensures cause { Raised result (F.faults files.old) (F.faults files.new) }
 {
     match read_object(alloc, files) {
@@ -57,9 +58,10 @@ pub fn read_timeline<F: Files>(alloc: Global, files: &mut F) -> Result<Timeline,
 // The timeline that an object is.
 fn timeline_in(object: Object) -> Result<Timeline, ReadFault>
     requires few { count_of object ≤ most_items }
+    requires stands { (value : JsonValue) × Stands value object }
     ensures judged { (bytes : List ℕ) → IsObject bytes object →
         Judges IsTimeline RefusesTimeline bytes result }
-    ensures few { IfOk result (λ timeline. count_below timeline.tracks.children < 2 ^ 32) }
+    ensures tables { IfOk result IsOfTables }
     ensures calm { (n : ℕ) → Raised result n n }
 {
     match object {

@@ -17,6 +17,6 @@ mod trim;
 pub use field::split_field;
 pub use line::{split_line, strip_return};
 pub use part::{after, before, first_blank, first_byte, is_blank};
-pub use reel::{are_within, reel_name};
+pub use reel::{MOST_REEL_BYTES, are_within, reel_name};
 pub use text::{is_text, strip_back, strip_front};
 pub use trim::{trim_blanks, trim_front};

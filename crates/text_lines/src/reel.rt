@@ -5,9 +5,9 @@ ghost use Rattle.text_lines.specs.ReelNames.{IsReelName};
 use crate::text::is_text;
 
 /// How many bytes the name of a reel has at most.
-const MOST_REEL_BYTES: usize = 8;
+pub const MOST_REEL_BYTES: usize = 32;
 
-/// The bytes as the name of a reel: one to eight bytes, each from `!` to `~` (0x21 to 0x7E), and
+/// The bytes as the name of a reel: from one to 32 bytes, each from `!` to `~` (0x21 to 0x7E), and
 /// not `BL`, which is black; none where they are no such name.
 #[tactic(auto, using(crate::proofs::ReelLemmas::reel_is_text))]
 pub fn reel_name(bytes: &[u8]) -> Option<&str>

@@ -3,7 +3,7 @@ use Rattle.edl_law.proofs.RoundTrip.{reading}
 use Rattle.edl_law.proofs.edl_round_trip.Goals as goal
 
 pub returns : goal.returns
-returns c = λ list drop h. let r = reading list drop h in record {
+returns c = λ list drop wide h. let r = reading list drop wide h in record {
   read = r.read;
   reads = r.reads;
   same = r.same;

@@ -1,11 +1,15 @@
 -- What came of several bytes.
-use Rattle.std.specs.Prelude.{◌≡◌, ℕ, ◌<◌, ◌≤◌, Bool, true, not, ◌&&◌, ◌==◌, nat_le, List, [], ◌∷◌, Option, Some, None, Ok, Err, length, take, slice_index}
+use Rattle.std.specs.Prelude.{◌≡◌, ℕ, ◌<◌, ◌≤◌, Bool, true, not, ◌&&◌, ◌==◌, nat_le, List, [], ◌∷◌, ◌++◌, Option, Some, None, Ok, Err, length, take, slice_index}
+use Rattle.std.specs.Char.{IsScalar, digit_value, encode_utf8}
 use Rattle.json_text.specs.declared.state.Ran.{Ran}
 use Rattle.json_text.specs.declared.state.Ran.TheVariants.{All, Stops}
 use Rattle.json_text.specs.declared.state.Stop.{Stop}
 use Rattle.json_text.specs.declared.state.Stop.TheVariants.{Syntax, Utf8, Depth}
 use Rattle.json_text.specs.declared.faults.JsonFault.{JsonFault}
-use Rattle.json_text.specs.State.Machine.{MachineState, run, step, next_place}
+use Rattle.json_text.specs.declared.state.Level.{Level}
+use Rattle.json_text.specs.declared.state.Role.{Role}
+use Rattle.json_text.specs.Grammar.{of_digits16}
+use Rattle.json_text.specs.State.Machine.{MachineState, state, text, plain, run, step, next_place}
 use Rattle.json_text.specs.declared.state.Place.{Place}
 
 -- a byte that stands for itself in a string, alone or in a character of several bytes
@@ -16,6 +20,27 @@ is_open b = nat_le 32 b && not (b == 34) && not (b == 92)
 abbrev pub AreOpen : List ℕ → Type 0
 AreOpen [] = Unit {0}
 AreOpen (b ∷ bs) = (is_open b ≡ true) × AreOpen bs
+
+-- These bytes of a string, between characters, stand for these.
+pub record StandsFor (bytes made : List ℕ) : Type 0 where
+  pub ran : (limit : ℕ) (levels : List Level) (role : Role) (t : List ℕ)
+      → run limit (state levels (text role t plain)) bytes
+      ≡ Ok (state levels (text role (t ++ made) plain))
+
+-- The first bytes, so many, are an escape of the character.
+pub record IsEscape (count character : ℕ) (bytes : List ℕ) : Type 0 where
+  pub within : count ≤ length bytes
+  pub some : 0 < count
+  pub meant : StandsFor (take count bytes) (encode_utf8 character)
+
+-- These digits of base 16 are the code of the character.
+pub record IsCode (a b c d character : ℕ) : Type 0 where
+  pub first : digit_value a < 16
+  pub second : digit_value b < 16
+  pub third : digit_value c < 16
+  pub fourth : digit_value d < 16
+  pub code : character ≡ of_digits16 a b c d
+  pub scalar : IsScalar character
 
 -- So many bytes stand for themselves in a string, and a quote ends it behind them.
 pub record EndsAt (count : ℕ) (bytes : List ℕ) : Type 0 where

@@ -1,46 +1,9 @@
-use Rattle.std.proofs.Common.{◌≡◌, to_z, of_z, ◌∷◌, [], arith}
+use Rattle.std.proofs.Common.{◌≡◌, ◌∙◌, to_z, of_z, arith}
 use Rattle.std.specs.Int.{w64}
 use Rattle.std.specs.Option.{option_copied}
 use Rattle.std.proofs.lemmas.Int.{ints}
-use Rattle.edl_frames.specs.Refused.{use_of}
-use Rattle.edl_conform.proofs.LoopSteps.{none_of, of_two, other_rate, outside, rate_told, third}
+use Rattle.edl_conform.proofs.LoopSteps.{of_two, other_rate, outside, same_reason}
 use Rattle.edl_conform.proofs.refusals.pair_fault.Goals as goal
-
-pub returns-then-either-2 : goal.returns-then-either-2
-returns-then-either-2 c =
-    let rate = c.args.rate in
-    let media = option_copied c.args.media in
-    let from = c.args.from.now in
-    let to = c.args.to.now in
-    let m = c.args.from_frames in
-    let n = c.args.to_frames in
-    rate_told rate media c.args.line (use_of from m ∷ use_of to n ∷ [])
-    (of_two _ _ _ _ _ (c.is_unlisted.ensures m) (c.is_unlisted-2.ensures n) c.if-either.ensures)
-    (of_two _ _ _ _ _
-    (other_rate rate media from m _ _ c.has_other_rate.ensures c.reel_row-from_row.ensures.row)
-    (other_rate rate media to n _ _ c.has_other_rate-2.ensures c.reel_row-to_row.ensures.row)
-    c.if-either-2.ensures)
-
-pub returns-then-either-3 : goal.returns-then-either-3
-returns-then-either-3 c =
-    let m = c.args.from_frames in
-    let fits = c.ranges.from_frames in
-    let first : to_z w64 (of_z w64 m) ≡ m = omega (arith, ints, fits) in
-    let from = c.args.from.now in
-    let from_row = c.reel_row-from_row.ensures.row in
-    let n = c.args.to_frames in
-    let fits_to = c.ranges.to_frames in
-    let last : to_z w64 (of_z w64 n) ≡ n = omega (arith, ints, fits_to) in
-    let to = c.args.to.now in
-    let to_row = c.reel_row-to_row.ensures.row in
-    let rate = c.args.rate in
-    let media = option_copied c.args.media in
-    third _ _ _ _ _ _ _
-    (of_two _ _ _ _ _ (c.is_unlisted.ensures m) (c.is_unlisted-2.ensures n) c.if-either.ensures)
-    (of_two _ _ _ _ _ (other_rate rate media from m _ _ c.has_other_rate.ensures from_row)
-    (other_rate rate media to n _ _ c.has_other_rate-2.ensures to_row) c.if-either-2.ensures)
-    (of_two _ _ _ _ _ (outside rate media from _ m _ _ c.is_outside.ensures from_row first)
-    (outside rate media to _ n _ _ c.is_outside-2.ensures to_row last) c.if-either-3.ensures)
 
 pub returns : goal.returns
 returns c =
@@ -56,9 +19,10 @@ returns c =
     let fits = c.ranges.from_frames in
     let last : to_z w64 (of_z w64 n) ≡ n = omega (arith, ints, fits_to) in
     let first : to_z w64 (of_z w64 m) ≡ m = omega (arith, ints, fits) in
-    none_of _ _ _ _ _ _ _
-    (of_two _ _ _ _ _ (c.is_unlisted.ensures m) (c.is_unlisted-2.ensures n) c.if-either.ensures)
+    c.first_reason.ensures
+    ∙ same_reason c.args.line _ _ _ _ _ _
+    (of_two _ _ _ _ _ (c.is_unlisted.ensures m) (c.is_unlisted-2.ensures n) c.either.ensures)
     (of_two _ _ _ _ _ (other_rate rate media from m _ _ c.has_other_rate.ensures from_row)
-    (other_rate rate media to n _ _ c.has_other_rate-2.ensures to_row) c.if-either-2.ensures)
+    (other_rate rate media to n _ _ c.has_other_rate-2.ensures to_row) c.either-2.ensures)
     (of_two _ _ _ _ _ (outside rate media from _ m _ _ c.is_outside.ensures from_row first)
-    (outside rate media to _ n _ _ c.is_outside-2.ensures to_row last) c.if-either-3.ensures)
+    (outside rate media to _ n _ _ c.is_outside-2.ensures to_row last) c.either-3.ensures)

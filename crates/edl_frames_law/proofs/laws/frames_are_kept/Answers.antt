@@ -7,18 +7,19 @@ use Rattle.edl_frames_law.proofs.laws.frames_are_kept.Goals as goal
 
 pub returns : goal.returns
 returns c = record {
-  listed = λ t again list read rows drop sound distinct carried i same formed.
-      let fine = list_is_fine t list (Some rows) drop sound.calm distinct carried i in
+  listed = λ t again list read rows drop wide sound distinct carried i same formed.
+      let fine = list_is_fine t list (Some rows) drop wide sound.calm distinct carried i in
       let accepted = carried_same list read (Some rows) same fine.carried in (
         accepted,
-        λ conformed ch n. round_trip own_key t again list read (Some rows) drop ch n sound
+        λ conformed ch n. round_trip own_key t again list read (Some rows) drop wide ch n sound
             sound.calm (knows_listed rows distinct) carried i same formed accepted conformed,
       );
-  reels = λ t again list read drop sound carried i same formed.
-      let fine = list_is_fine t list None drop sound.calm tt carried i in
+  reels = λ t again list read drop wide sound carried i same formed.
+      let fine = list_is_fine t list None drop wide sound.calm tt carried i in
       let accepted = carried_same list read None same fine.carried in (
         accepted,
-        λ conformed ch n. round_trip reel_first t again list read None drop ch n sound sound.calm
+        λ conformed ch n. round_trip reel_first t again list read None drop wide ch n sound
+            sound.calm
             knows_reels carried i same formed accepted conformed,
       );
 }

@@ -6,9 +6,10 @@ use Rattle.edl_frames_law.proofs.laws.lists_show_timelines.Goals as goal
 
 pub returns : goal.returns
 returns c = record {
-  listed = λ t list rows drop ch n sound distinct carried i.
-      list_shows_timeline own_key t list (Some rows) drop ch n sound sound.calm
+  listed = λ t list rows drop wide ch n sound distinct carried i.
+      list_shows_timeline own_key t list (Some rows) drop wide ch n sound sound.calm
       (knows_listed rows distinct) carried i;
-  reels = λ t list drop ch n sound carried i.
-      list_shows_timeline reel_first t list None drop ch n sound sound.calm knows_reels carried i;
+  reels = λ t list drop wide ch n sound carried i.
+      list_shows_timeline reel_first t list None drop wide ch n sound sound.calm knows_reels carried
+      i;
 }

@@ -5,9 +5,9 @@ use Rattle.edl_layout.proofs.rows.put_first.Goals as goal
 
 pub returns : goal.returns
 returns g c =
-    let rate = c.args.numbering.rate in
-    let mode = c.args.numbering.drop in
+    let rate = c.args.numbering.style.rate in
+    let mode = c.args.numbering.style.drop in
     let event = c.args.event.now in
     let from = c.args.from.now in
-    puts_as _ c.put_row.ensures (first_parts rate mode c.args.numbering.number event from _ _
+    puts_as _ c.put_row.ensures (first_parts rate mode c.args.numbering.style.layout c.args.numbering.number event from _ _
     (text_kept rate mode from.src_in _ c.requires.from.src_in c.label_of-source.ensures) (text_kept rate mode event.rec_in _ c.requires.record c.label_of-record.ensures))

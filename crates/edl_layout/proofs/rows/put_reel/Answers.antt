@@ -3,4 +3,4 @@ use Rattle.edl_layout.proofs.Texts.{column_parts}
 use Rattle.edl_layout.proofs.rows.put_reel.Goals as goal
 
 pub returns : goal.returns
-returns g c = puts_as _ (puts_then c.put.ensures c.put-2.ensures) (column_parts 8 _ _ _ c.reel_bytes-bytes.ensures.text c.padding.ensures)
+returns g c = puts_as _ (puts_then c.put.ensures c.put-2.ensures) (column_parts c.args.layout.reel_width _ _ _ c.reel_bytes-bytes.ensures c.padding.ensures)

@@ -8,5 +8,5 @@ loop-event-preserved g c =
     let i = c.loop-event.invariant in
     record {
       next = omega arith;
-      put = puts_as _ (puts_then i.put c.put_event.ensures) (lines_more c.args.rate c.args.drop c.args.events.now c.loop-event.event-index c.loop-event.number c.event-item.result i.next (omega arith) c.event-item.is);
+      put = puts_as _ (puts_then i.put c.put_event.ensures) (lines_more c.args.style.rate c.args.style.drop c.args.style.layout c.args.events.now c.loop-event.event-index c.loop-event.number c.event-item.result i.next (omega arith) c.event-item.is);
     }

@@ -9,5 +9,5 @@ invariant-loop-event g l =
     let out = g.W.Out in
     record {
       next : l.number ≡ l.event-index + 1;
-      put : Puts (standing out.known out.faults l.fn.out l.fn.buffer) (standing out.known out.faults l.out l.buffer) (text_of (lines_from l.rate l.drop 1 (take l.event-index l.events)));
+      put : Puts (standing out.known out.faults l.fn.out l.fn.buffer) (standing out.known out.faults l.out l.buffer) (text_of (lines_from l.style.rate l.style.drop l.style.layout 1 (take l.event-index l.events)));
     }

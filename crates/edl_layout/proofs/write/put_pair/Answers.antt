@@ -6,4 +6,4 @@ pub returns : goal.returns
 returns g c =
     let last = puts_then c.put_speeds.ensures (puts_then c.put_name.ensures c.put_name-2.ensures) in
     let all = puts_then c.put_first.ensures (puts_then c.put.ensures (puts_then c.put_main.ensures (puts_then c.put-2.ensures last))) in
-    puts_as _ all (pair_parts c.args.numbering.rate c.args.numbering.drop c.args.numbering.number c.args.event.now c.args.from.now c.requires.pair)
+    puts_as _ all (pair_parts c.args.numbering.style.rate c.args.numbering.style.drop c.args.numbering.style.layout c.args.numbering.number c.args.event.now c.args.from.now c.requires.pair)

@@ -1,6 +1,7 @@
 use Rattle.std.proofs.Common.{refl, map, string_bytes}
 use Rattle.otio_tools.proofs.RunEnds.{usage_given}
 use Rattle.otio_tools.proofs.OneAnswer.{completes}
+use Rattle.otio_tools.proofs.Keeping.{keeps}
 use Rattle.otio_tools.proofs.Sending.{stays_same}
 use Rattle.otio_tools.specs.Run.{streams}
 use Rattle.otio_tools.specs.declared.Status.TheVariants.{Usage}
@@ -42,5 +43,23 @@ returns-in-None-clause-complete g c =
     streams g.W.Out.faults g.W.Out.known g.E.Out.faults g.E.Out.known c.args.out.now
     c.args.out.now c.args.err.now c.say.new.err in
     completes words known known faults faults all Usage
+    (usage_given words known faults faults all (rw c.as_slice.ensures.value at c.in-None.ensures)
+    (stays_same (g.W.Out.known c.args.out.now)) c.say.ensures)
+
+pub returns-in-Some-clause-kept : goal.returns-in-Some-clause-kept
+returns-in-Some-clause-kept g c =
+    let words = map (λ w. string_bytes w) c.args.words.now.items in
+    keeps words _ _ _ _ _ c.serve.result
+    (c.serve.ensures.ends words (rw c.as_slice.ensures.value at c.in-Some.ensures))
+
+pub returns-in-None-clause-kept : goal.returns-in-None-clause-kept
+returns-in-None-clause-kept g c =
+    let words = map (λ w. string_bytes w) c.args.words.now.items in
+    let faults = g.F.Files.faults c.args.files.now in
+    let known = g.F.Files.known c.args.files.now in
+    let all =
+    streams g.W.Out.faults g.W.Out.known g.E.Out.faults g.E.Out.known c.args.out.now
+    c.args.out.now c.args.err.now c.say.new.err in
+    keeps words known known faults faults all Usage
     (usage_given words known faults faults all (rw c.as_slice.ensures.value at c.in-None.ensures)
     (stays_same (g.W.Out.known c.args.out.now)) c.say.ensures)

@@ -28,11 +28,18 @@ returns-in-ToJson-clause-owed c = λ file more.
     (media_content c.args.media) file more (Ok (planned.Value c.value_in.result))
     c.in-ToJson.is c.value_in.ensures (λ target. refl)
 
+pub returns-in-TimelineToList-clause-owed : goal.returns-in-TimelineToList-clause-owed
+returns-in-TimelineToList-clause-owed c = λ file more.
+    held_as c.args.command _ c.args.content (content.Film c.timeline_in.result)
+    (media_content c.args.media) file more c.timeline_to_list.result
+    c.in-TimelineToList.is c.timeline_in.ensures
+    (rw (media_is c.args.media) (c.timeline_to_list.ensures.owed file.name))
+
 pub returns-in-Frames-clause-owed : goal.returns-in-Frames-clause-owed
 returns-in-Frames-clause-owed c = λ file more.
-    held_as c.args.command _ c.args.content (content.Film c.timeline_in.result)
+    held_as c.args.command _ c.args.content (content.Film c.timeline_in-in-Frames.result)
     (media_content c.args.media) file more c.frames_to_write.result
-    c.in-Frames.is c.timeline_in.ensures (c.frames_to_write.ensures.owed file.name)
+    c.in-Frames.is c.timeline_in-in-Frames.ensures (c.frames_to_write.ensures.owed file.name)
 
 pub returns-in-ListToObjects-clause-owed : goal.returns-in-ListToObjects-clause-owed
 returns-in-ListToObjects-clause-owed c = λ file more.

@@ -7,11 +7,12 @@ use Rattle.otio_model.specs.declared.compositions.Listed.{Listed}
 use Rattle.otio_model.specs.Trees.{items_of}
 use Rattle.coord.specs.Looks.{Show, track_shows, stack_shows}
 use Rattle.coord.specs.Sights.{sight, sights, looks, shows_inside}
-use Rattle.coord.specs.Images.{image, is_mix}
+use Rattle.coord.specs.Images.{image, is_empty, is_mix}
+use Rattle.coord.proofs.ImageLemmas.{empty_is}
 use Rattle.coord.specs.Sights.{exact}
-use Rattle.show_prog.specs.Walk.{side, mixture, is_empty}
+use Rattle.show_prog.specs.Walk.{side, mixture}
 use Rattle.show_prog.proofs.SoundnessFacts.{here, few_below, no_fault, track_facts, stack_facts}
-use Rattle.show_prog.proofs.ShowLemmas.{image_of-Blank, ok_then, seen_then, err_then, err_map, on_err, empty_is, mix_not_blank, seen_mixed, mixed_some, mixed_from, mixed_to, inside_track, same_kind, track_outside, track_mix, track_item, inside_stack, stack_before, stack_down, stack_here, nothing_past, nothing_shown}
+use Rattle.show_prog.proofs.ShowLemmas.{image_of-Blank, ok_then, seen_then, err_then, err_map, on_err, mix_not_blank, seen_mixed, mixed_some, mixed_from, mixed_to, inside_track, same_kind, track_outside, track_mix, track_item, inside_stack, stack_before, stack_down, stack_here, nothing_past, nothing_shown}
 use Rattle.show_prog.proofs.items.+show.Goals as goal
 
 pub show_inside-show_stack-requires : goal.show_inside-show_stack-requires

@@ -4,7 +4,8 @@ use Rattle.otio_model.specs.declared.roots.Object.{Object}
 use Rattle.json_value.specs.declared.Json.{Json}
 use Rattle.source_files.specs.Formats.{IsJson, IsObject, IsCalmJson, RefusesJson, RefusesObject}
 use Rattle.source_files.proofs.Handing.{judged_further, fault_further}
-use Rattle.source_files.proofs.ObjectLemmas.{object_judged}
+use Rattle.schema_up.specs.Upgrades.{upgraded}
+use Rattle.source_files.proofs.ObjectLemmas.{object_judged, stands_for}
 use Rattle.source_files.proofs.objects.read_object.Goals as goal
 
 pub object_in-requires : goal.object_in-requires
@@ -26,3 +27,7 @@ returns-in-Err-clause-told g c =
     fault_further Json Object IsJson RefusesJson IsCalmJson IsObject RefusesObject _ _
     c.in-Err.fault (λ bytes why r. inl r)
     c.in-Err.ensures.told
+
+pub returns-in-Ok-clause-stands : goal.returns-in-Ok-clause-stands
+returns-in-Ok-clause-stands g c =
+    stands_for (upgraded c.in-Ok.value) c.object_in.result c.object_in.ensures.stands

@@ -1,0 +1,5 @@
+pub mod Outside
+pub mod Pieces
+pub mod Seams
+pub mod Sorts
+pub mod Splice

@@ -1,0 +1,12 @@
+pub mod FirstSaid
+pub mod EventTimes
+pub mod ChannelEvents
+pub mod ChildSteps
+pub mod RootSteps
+pub mod StableOrders
+pub mod EventOrder
+pub mod Numbering
+pub mod ListFacts
+pub mod TrackLimits
+pub mod TrackSteps
+pub mod SeatSteps

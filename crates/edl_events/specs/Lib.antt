@@ -1,0 +1,2 @@
+-- Words of the walk over a timeline.
+pub mod Walk

@@ -1,0 +1,13 @@
+pub mod TenthsLemmas
+pub mod FrameLemmas
+pub mod StartLemmas
+pub mod SeatLemmas
+pub mod DraftLemmas
+pub mod ReelTests
+pub mod ShortLemmas
+pub mod NearLemmas
+pub mod MadeLemmas
+pub mod CastLemmas
+pub mod PartLemmas
+pub mod JudgeLemmas
+pub mod PlaceLemmas

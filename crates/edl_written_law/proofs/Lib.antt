@@ -1,0 +1,2 @@
+pub mod FormedReadings
+pub mod KeptFrames

@@ -1,0 +1,2 @@
+-- What the text of a timeline's list keeps.
+pub mod Kept

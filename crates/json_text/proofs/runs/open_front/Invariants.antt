@@ -1,0 +1,6 @@
+use Rattle.std.proofs.Common.{take}
+use Rattle.json_text.specs.State.Runs.{AreOpen}
+use Rattle.json_text.proofs.runs.open_front.Given as goal
+
+abbrev pub invariant-loop-index : goal.invariant-loop-index
+invariant-loop-index l = AreOpen (take l.index l.bytes)

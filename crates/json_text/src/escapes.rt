@@ -1,0 +1,114 @@
+//! Characters of a string that are gathered before they are put behind a text: a call for each of
+//! them would cost more than the characters.
+
+ghost use Rattle.std.specs.Prelude.{◌≡◌, ◌≤◌, ◌++◌, ◌+◌, length, take, get_or, IfSome};
+ghost use Rattle.std.specs.Char as chars;
+ghost use Rattle.arrayvec.specs.ArrayVec.{array_vec_len};
+ghost use Rattle.json_text.specs.State.Runs.{StandsFor, IsEscape, IsCode};
+
+use crate::bytes::{after, digit_value, escaped, is_open, of_digits16};
+use arrayvec::ArrayVec;
+
+/// How many bytes are gathered at most.
+const ROOM: usize = 64;
+
+/// So many bytes leave room for one more character.
+const MOST: usize = 60;
+
+/// What the first bytes of a string stand for, and how many they are: characters of ASCII, and
+/// whole escapes of one character.
+pub(crate) fn gathered(bytes: &[u8]) -> (usize, ArrayVec<u8, ROOM>)
+    ensures within { result.0 ≤ length bytes.now }
+    ensures meant { StandsFor (take result.0 bytes.now) result.1.items }
+{
+    let mut made = ArrayVec::new();
+    let mut at = 0;
+    'bytes: while at < bytes.len() && made.len() < MOST {
+        let byte = bytes[at];
+        if is_open(byte) && byte < 128 {
+            made.push(byte);
+            at += 1;
+        } else {
+            match escape(after(bytes, at)) {
+                Some((count, character)) => {
+                    put_char(&mut made, character);
+                    at += count;
+                }
+                None => return (at, made),
+            }
+        }
+    }
+    (at, made)
+}
+
+/// The character of an escape that the bytes begin with, and how many bytes it has.
+fn escape(bytes: &[u8]) -> Option<(usize, char)>
+    ensures { IfSome result (λ found. IsEscape found.0 found.1 bytes.now) }
+{
+    if bytes.len() < 2 {
+        return None;
+    }
+    if bytes[0] != b'\\' {
+        return None;
+    }
+    match escaped(bytes[1]) {
+        Some(byte) => Some((2, char::from(byte))),
+        None => coded(bytes),
+    }
+}
+
+/// The character of an escape of four digits that the bytes begin with, behind its backslash.
+fn coded(bytes: &[u8]) -> Option<(usize, char)>
+    requires { get_or bytes.now 0 0 ≡ 92 }
+    ensures { IfSome result (λ found. IsEscape found.0 found.1 bytes.now) }
+{
+    if bytes.len() < 6 {
+        return None;
+    }
+    if bytes[1] != b'u' {
+        return None;
+    }
+    match code(bytes[2], bytes[3], bytes[4], bytes[5]) {
+        Some(character) => Some((6, character)),
+        None => None,
+    }
+}
+
+/// The character of that code.
+fn code(a: u8, b: u8, c: u8, d: u8) -> Option<char>
+    ensures { IfSome result (IsCode a b c d) }
+{
+    if digit_value(a) >= 16 {
+        return None;
+    }
+    if digit_value(b) >= 16 {
+        return None;
+    }
+    if digit_value(c) >= 16 {
+        return None;
+    }
+    if digit_value(d) >= 16 {
+        return None;
+    }
+    match char::from_u32(of_digits16(a, b, c, d)) {
+        Some(character) => Some(character),
+        None => None,
+    }
+}
+
+/// Adds the character in UTF-8.
+fn put_char(made: &mut ArrayVec<u8, ROOM>, character: char)
+    requires { array_vec_len made.old ≤ 60 }
+    ensures { made.new.items ≡ made.old.items ++ chars.encode_utf8 character }
+{
+    let number = character as u32;
+    if number < 128 {
+        made.push(number as u8);
+        return;
+    }
+    let mut buffer = [0; 4];
+    match made.try_extend_from_slice(character.encode_utf8(&mut buffer).as_bytes()) {
+        Ok(()) => {}
+        Err(_) => unreachable!(),
+    }
+}

@@ -1,0 +1,118 @@
+// Timelines that are written as lists.
+ghost use Rattle.std.specs.Prelude.{◌≡◌, ◌≢◌, ◌<◌, ◌^◌, ℕ, List, IfOk, IfErr};
+ghost use Rattle.std.specs.Option.{option_copied};
+ghost use Rattle.otio_model.specs.Counts.{count as count_below};
+ghost use Rattle.coord.specs.Soundness.{IsFaultless};
+ghost use Rattle.edl_frames.specs.Carried.{IsNotCarried};
+ghost use Rattle.edl_frames_law.specs.Premises.{AreListed};
+ghost use Rattle.fault_text.specs.Faults.{not_carried_text};
+ghost use Rattle.source_files.specs.Formats.{IsOfTables};
+ghost use Rattle.source_files.specs.Reading.{IsRefused};
+ghost use Rattle.otio_tools.specs.Carried.{AnswersCarried};
+ghost use Rattle.otio_tools.specs.Plan.{AreRows, Fits, IsCarriedBy, Suffices};
+
+use crate::frames::unsound;
+use crate::planned::Planned;
+use crate::texts::check_texts;
+use coord::sound;
+use edl_events::events;
+use edl_frames::NotCarried;
+use edl_list::EventList;
+use fault_text::not_carried_reason;
+use media_list::MediaList;
+use otio_model::Timeline;
+use source_files::Refusal;
+use std::alloc::Global;
+use std::mem;
+
+/// What is to be sent of a timeline that is written as the list of its events, with the media of
+/// this media list, with drop-frame timecode or without, in the wide layout or the narrow one: the
+/// list's spelling. An error tells the first fault of a timeline that isn't sound, or else the
+/// first child that a list doesn't carry; or it is want of memory.
+pub fn timeline_to_list(
+    alloc: Global,
+    timeline: Timeline,
+    media: Option<MediaList>,
+    drop: bool,
+    wide: bool,
+) -> Result<Planned, Refusal>
+    requires { IsOfTables timeline }
+    ensures owed { (name : List ℕ) → Suffices (λ target answer.
+        AnswersCarried drop wide name media target timeline answer) name result }
+    ensures fits { IfOk result (λ planned. Fits planned) }
+    ensures kind { IfOk result (λ planned. AreRows planned → ⊥) }
+{
+    match sound(alloc, &timeline) {
+        Ok(()) => sound_to_list(alloc, timeline, media, drop, wide),
+        Err(fault) => Err(unsound(fault)),
+    }
+}
+
+// What is to be sent of a sound timeline.
+fn sound_to_list(
+    alloc: Global,
+    timeline: Timeline,
+    media: Option<MediaList>,
+    drop: bool,
+    wide: bool,
+) -> Result<Planned, Refusal>
+    requires tables { IsOfTables timeline }
+    requires sound { IsFaultless timeline }
+    ensures owed { (name : List ℕ) → Suffices (λ target answer.
+        AnswersCarried drop wide name media target timeline answer) name result }
+    ensures fits { IfOk result (λ planned. Fits planned) }
+    ensures kind { IfOk result (λ planned. AreRows planned → ⊥) }
+{
+    match list_of(alloc, timeline, media, drop, wide) {
+        Ok(list) => {
+            check_texts(&list);
+            Ok(Planned::Events { list, drop, wide })
+        }
+        Err(fault) => Err(uncarried(fault)),
+    }
+}
+
+// The list of a timeline's events. The timeline and the media list aren't freed: what is left of a
+// run is to send the list.
+fn list_of(
+    alloc: Global,
+    timeline: Timeline,
+    media: Option<MediaList>,
+    drop: bool,
+    wide: bool,
+) -> Result<EventList, NotCarried>
+    requires sound { IsFaultless timeline }
+    requires few { count_below timeline.tracks.children < 2 ^ 32 }
+    ensures list { IfOk result (IsCarriedBy timeline media drop wide) }
+    ensures fault { IfErr result (IsNotCarried timeline media drop wide) }
+{
+    let rows = media.as_ref();
+    let list = events(alloc, &timeline, rows, drop, wide);
+    note_rows(rows);
+    mem::forget(timeline);
+    mem::forget(media);
+    list
+}
+
+// Shows that the rows of a media list are distinct.
+fn note_rows(media: Option<&MediaList>)
+    ensures { AreListed (option_copied media.entry) }
+{
+    match media {
+        Some(list) => {
+            let _ = list.rows();
+        }
+        None => {}
+    }
+}
+
+// How a timeline that a list doesn't carry is refused.
+fn uncarried(fault: NotCarried) -> Refusal
+    ensures { IsRefused (λ why. (fault ≢ NotCarried.Memory)
+        × (why ≡ not_carried_text fault)) result }
+{
+    match not_carried_reason(fault) {
+        Some(reason) => Refusal::Broken(reason),
+        None => Refusal::Memory,
+    }
+}

@@ -1,0 +1,143 @@
+-- What is known of an item that has no fault.
+use Rattle.std.proofs.Common.{◌≡◌, refl, subst, ap, ◌∙◌, ℕ, ◌+◌, ◌≤◌, ℤ, pos, ◌+ℤ◌, ◌-ℤ◌, ◌*ℤ◌, ◌≤ℤ◌, Bool, true, false, cond, Option, Some, None, arith}
+use Rattle.std.specs.Prelude.{option_map, int_le, nat_lt, ◌&&◌, ◌||◌, not}
+use Rattle.std.proofs.lemmas.Int.{ints}
+use Rattle.tick_time.specs.declared.spans.Span.{Span}
+use Rattle.otio_model.specs.declared.compositions.ItemOf.{ItemOf}
+use Rattle.otio_model.specs.declared.compositions.ItemOf.TheVariants.{Clip, Gap, Transition, Stack, Track}
+use Rattle.otio_model.specs.declared.compositions.Listed.{Listed}
+use Rattle.otio_model.specs.Lengths.{length_of, clip_range}
+use Rattle.otio_model.specs.Lengths.{range_start, range_of, from_zero}
+use Rattle.std.specs.Option.{option_or}
+use Rattle.otio_model.specs.Lengths.{trimmed_start}
+use Rattle.otio_model.specs.Lengths.{or_zero}
+use Rattle.tick_time.specs.declared.rates.Rate.{Rate}
+use Rattle.coord.specs.Speeds.{effects_of, speed_of, media_at}
+use Rattle.otio_model.specs.Speeds.{keeps_speed}
+use Rattle.coord.specs.declared.faults.ItemFault.{ItemFault}
+use Rattle.coord.specs.declared.faults.ItemFault.TheVariants.{NoLength, Speed, Long}
+use Rattle.coord.specs.Soundness.{fault_of, ranged_fault, is_long, media_end, most_end}
+use Rattle.cuts.specs.Children.{ticks, made, Ranged}
+use Rattle.cuts.specs.Cuts.{left_piece, right_piece}
+use Rattle.cuts.specs.Children.{is_far}
+use Rattle.pieces.specs.Short.{IsShort, IsCuttable}
+use Rattle.pieces.proofs.Grown.{ticks_are}
+
+-- a start of a span, or 0, is in range
+abbrev IsNearZero : ℤ → Type 0
+IsNearZero z = ((pos 0 -ℤ pos 705600000000000000000000) ≤ℤ z) × (z ≤ℤ pos 705600000000000000000000)
+
+zero_near : IsNearZero (pos 0)
+zero_near = (omega (arith, ints), omega (arith, ints))
+
+span_near : (s o : Option Span) → IsNearZero (range_start (option_or (option_map range_of s) (option_map range_of o)))
+span_near None None = zero_near
+span_near None (Some s) = (s.start.low, s.start.high)
+span_near (Some s) o = (s.start.low, s.start.high)
+
+zero_span : (s : Option Span) (n : ℕ) → IsNearZero (range_start (option_or (option_map range_of s) (Some (from_zero n))))
+zero_span None n = zero_near
+zero_span (Some s) n = (s.start.low, s.start.high)
+
+trimmed_near : (x : ItemOf Listed) → IsNearZero (trimmed_start x)
+trimmed_near (Clip c) = span_near c.source_range (clip_range c)
+trimmed_near (Gap g) = zero_span g.source_range 0
+trimmed_near (Transition t) = zero_near
+trimmed_near (Stack s) = zero_span s.source_range 0
+trimmed_near (Track t) = zero_span t.source_range 0
+
+pub start_low : (x : ItemOf Listed) (z : ℤ) → z ≡ trimmed_start x → (pos 0 -ℤ pos 705600000000000000000000) ≤ℤ z
+start_low x z e = rw e (trimmed_near x).0
+
+pub start_high : (x : ItemOf Listed) (z : ℤ) → z ≡ trimmed_start x → z ≤ℤ pos 705600000000000000000000
+start_high x z e = rw e (trimmed_near x).1
+
+pub ruleset starts_near = (start_low, start_high)
+
+-- a length of an item without a fault
+pub record IsShortOf (x : ItemOf Listed) (n : ℕ) : Type 0 where
+  pub low : n ≤ 705600000000000000000000
+  pub ends_low : (pos 0 -ℤ most_end) ≤ℤ media_end x n
+  pub ends_high : media_end x n ≤ℤ most_end
+
+nat_no : (a b : ℕ) → nat_lt a b ≡ false → b ≤ a
+nat_no a b e = grind arith
+
+or_both : (a b : Bool) → (a || b) ≡ false → (a ≡ false) × (b ≡ false)
+or_both false false e = (refl, refl)
+or_both false true e = absurd (cc e)
+or_both true b e = absurd (cc e)
+
+not_no : (a : Bool) → not a ≡ false → a ≡ true
+not_no true e = refl
+not_no false e = absurd (cc e)
+
+and_both : (a b : Bool) → (a && b) ≡ true → (a ≡ true) × (b ≡ true)
+and_both true true e = (refl, refl)
+and_both true false e = absurd (cc e)
+and_both false b e = absurd (cc e)
+
+le_is : (a b : ℤ) → int_le a b ≡ true → a ≤ℤ b
+le_is a b e = grind (arith, ints)
+
+not_long : (x : ItemOf Listed) (n : ℕ) → is_long x n ≡ false → IsShortOf x n
+not_long x n e =
+    let a = or_both _ _ e in
+    let b = or_both _ _ a.1 in
+    let c = and_both _ _ (not_no _ b.1) in
+    record { low = nat_no 705600000000000000000000 n a.0; ends_low = le_is _ _ c.0; ends_high = le_is _ _ c.1 }
+
+no_some : (b : Bool) (f : ItemFault) → cond b (Some f) None ≡ None → b ≡ false
+no_some false f e = refl
+no_some true f e = absurd (cc e)
+
+ranged_none : (k b : Bool) (f g : ItemFault) → cond k (cond b (Some f) None) (Some g) ≡ None → b ≡ false
+ranged_none true b f g e = no_some b f e
+ranged_none false b f g e = absurd (cc e)
+
+by_length : (x : ItemOf Listed) (o : Option ℕ) → ◌≡◌ {A = Option ItemFault} (elim o [ None ↦ Some NoLength | Some n ↦ ranged_fault x n ]) None → IsShortOf x (or_zero o)
+by_length x None e = absurd (cc e)
+by_length x (Some n) e = not_long x n (ranged_none (keeps_speed (pos 1000000) (effects_of x)) (is_long x n) Long Speed e)
+
+no_ticks : (x : ItemOf Listed) → trimmed_start x ≡ pos 0 → IsShortOf x 0
+no_ticks x e = record { low = omega arith; ends_low = low (trimmed_start x) (speed_of x) e; ends_high = high (trimmed_start x) (speed_of x) e }
+  where
+    low : (s p : ℤ) → s ≡ pos 0 → (pos 0 -ℤ most_end) ≤ℤ ((s *ℤ pos 1000000) +ℤ (pos 0 *ℤ p))
+    low s p e = rw e (omega (arith, ints))
+
+    high : (s p : ℤ) → s ≡ pos 0 → ((s *ℤ pos 1000000) +ℤ (pos 0 *ℤ p)) ≤ℤ most_end
+    high s p e = rw e (omega (arith, ints))
+
+pub faultless : (x : ItemOf Listed) → fault_of x ≡ None → IsShortOf x (or_zero (length_of x))
+faultless (Clip c) e = by_length (Clip c) (length_of (Clip c)) e
+faultless (Gap g) e = by_length (Gap g) (length_of (Gap g)) e
+faultless (Transition t) e = no_ticks (Transition t) refl
+faultless (Stack s) e = by_length (Stack s) (length_of (Stack s)) e
+faultless (Track t) e = by_length (Track t) (length_of (Track t)) e
+
+pub faultless_short : (x : ItemOf Listed) → fault_of x ≡ None → ticks x ≤ℤ pos 705600000000000000000000
+faultless_short x e = let h = (faultless x e).low in let t = ticks_are x in omega (arith, ints, h, t)
+
+pub faultless_is_short : (x : ItemOf Listed) → IsCuttable x → IsShort x
+faultless_is_short x h = record { few = h.few; short = faultless_short x h.sound }
+
+-- the pieces are those of the numbers that were reckoned
+pub left_made : (r : Rate) (x y : ItemOf Listed) (s t : ℤ) → s ≡ trimmed_start x → made r (Ranged x s t) ≡ Some y → made r (left_piece x t) ≡ Some y
+left_made r x y s t e h = subst (λ z. made r (Ranged x z t) ≡ Some y) e h
+
+pub left_far : (x : ItemOf Listed) (s t : ℤ) → s ≡ trimmed_start x → is_far (Ranged x s t) ≡ true → is_far (left_piece x t) ≡ true
+left_far x s t e h = subst (λ z. is_far (Ranged x z t) ≡ true) e h
+
+pub right_is : (x : ItemOf Listed) (s m p t n k : ℤ) → m ≡ media_at s p t → s ≡ trimmed_start x → p ≡ speed_of x → n ≡ ticks x → k ≡ n -ℤ t → Ranged x m k ≡ right_piece x t
+right_is x s m p t n k e f g h i =
+    let a : m ≡ media_at (trimmed_start x) (speed_of x) t = e ∙ ap (λ z. media_at z p t) f ∙ ap (λ z. media_at (trimmed_start x) z t) g in
+    let b : k ≡ ticks x -ℤ t = i ∙ ap (λ z. z -ℤ t) h in
+    ap (λ z. Ranged x z k) a ∙ ap (λ z. Ranged x (media_at (trimmed_start x) (speed_of x) t) z) b
+
+pub right_made : (r : Rate) (x y : ItemOf Listed) (s m p t n k : ℤ) → m ≡ media_at s p t → s ≡ trimmed_start x → p ≡ speed_of x → n ≡ ticks x → k ≡ n -ℤ t → made r (Ranged x m k) ≡ Some y
+    → made r (right_piece x t) ≡ Some y
+right_made r x y s m p t n k e f g h i j = subst (λ c. made r c ≡ Some y) (right_is x s m p t n k e f g h i) j
+
+pub right_far : (x : ItemOf Listed) (s m p t n k : ℤ) → m ≡ media_at s p t → s ≡ trimmed_start x → p ≡ speed_of x → n ≡ ticks x → k ≡ n -ℤ t → is_far (Ranged x m k) ≡ true
+    → is_far (right_piece x t) ≡ true
+right_far x s m p t n k e f g h i j = subst (λ c. is_far c ≡ true) (right_is x s m p t n k e f g h i) j

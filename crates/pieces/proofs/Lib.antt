@@ -1,0 +1,7 @@
+pub mod Tests
+pub mod SameTimes
+pub mod Grown
+pub mod Faultless
+pub mod BackLemmas
+pub mod StripLemmas
+pub mod WholeLemmas

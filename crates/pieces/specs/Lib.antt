@@ -1,0 +1,2 @@
+-- Pieces of items.
+pub mod Short

@@ -1,0 +1,157 @@
+//! Cuts of items.
+
+ghost use Rattle.limits.specs.Limits.{most_ticks};
+ghost use Rattle.std.specs.Prelude.{◌≡◌, ◌≢◌, ◌<◌, ◌≤◌, ◌%◌, ◌==◌, IfErr, IfOk, Some};
+ghost use Rattle.std.specs.Prelude.{true, false, pos, unsigned_abs, ◌≤ℤ◌, ◌<ℤ◌, ◌-ℤ◌, ◌*ℤ◌};
+ghost use Rattle.std.specs.Int.{int_div_euclid};
+ghost use Rattle.coord.specs.Speeds as speeds;
+ghost use Rattle.cuts.specs.Children as children;
+ghost use Rattle.cuts.specs.Cuts as cuts;
+ghost use Rattle.cuts.specs.Children.{is_far};
+ghost use Rattle.pieces.specs.Short.{IsCuttable};
+
+use crate::measures::{start_ticks, ticks_of};
+use crate::ranges::{RangedFault, ranged};
+use coord::speed;
+use otio_model::Item;
+use std::alloc::Global;
+use tick_time::Rate;
+
+/// Why an item, or a list, isn't cut.
+#[derive(Clone, Copy, Debug, PartialEq, Eq)]
+pub enum CutFault {
+    /// The cut doesn't fall on a whole tick of the media.
+    Phase,
+    /// Memory ran out.
+    Memory,
+}
+
+/// How far so many ticks go in the media, in millionths of a tick.
+fn media_ticks(ticks: i128, speed: i64) -> i128
+    requires low { pos 0 ≤ℤ ticks }
+    requires high { ticks ≤ℤ pos most_ticks }
+    requires speed_low { (pos 0 -ℤ pos 1000000000) ≤ℤ speed }
+    requires speed_high { speed ≤ℤ pos 1000000000 }
+    ensures value { result ≡ (ticks *ℤ speed) }
+    ensures least { (pos 0 -ℤ pos 1000000000000000000000000000000000) ≤ℤ result }
+    ensures most { result ≤ℤ pos 1000000000000000000000000000000000 }
+{
+    ticks * i128::from(speed)
+}
+
+/// Whether so many ticks are whole ticks of the media.
+fn is_whole(ticks: i128, speed: i64) -> bool
+    requires low { pos 0 ≤ℤ ticks }
+    requires high { ticks ≤ℤ pos most_ticks }
+    requires speed_low { (pos 0 -ℤ pos 1000000000) ≤ℤ speed }
+    requires speed_high { speed ≤ℤ pos 1000000000 }
+    ensures { result ≡ (unsigned_abs (ticks *ℤ speed) % 1000000 == 0) }
+{
+    media_ticks(ticks, speed).unsigned_abs() % 1_000_000 == 0
+}
+
+/// Whether an item can be cut at so many ticks from its start: what they play is whole ticks of its
+/// media.
+pub fn is_whole_at(item: &Item, ticks: i128) -> bool
+    requires faultless { IsCuttable item.now }
+    requires low { pos 0 ≤ℤ ticks }
+    requires high { ticks ≤ℤ pos most_ticks }
+    ensures { result ≡ cuts.is_whole_at item.now ticks }
+{
+    is_whole(ticks, speed(item))
+}
+
+/// So many millionths of a tick as whole ticks, rounded down.
+fn floor_ticks(millionths: i128) -> i128
+    requires least { (pos 0 -ℤ pos 1000000000000000000000000000000000) ≤ℤ millionths }
+    requires most { millionths ≤ℤ pos 1000000000000000000000000000000000 }
+    ensures value { result ≡ int_div_euclid millionths (pos 1000000) }
+    ensures low { (pos 0 -ℤ pos 1000000000000000000000000001) ≤ℤ result }
+    ensures high { result ≤ℤ pos 1000000000000000000000000000 }
+{
+    millionths.div_euclid(1_000_000)
+}
+
+/// The instant of the media that is reached in so many ticks from a start.
+fn media_at(start: i128, speed: i64, ticks: i128) -> i128
+    requires start_low { (pos 0 -ℤ pos most_ticks) ≤ℤ start }
+    requires start_high { start ≤ℤ pos most_ticks }
+    requires low { pos 0 ≤ℤ ticks }
+    requires high { ticks ≤ℤ pos most_ticks }
+    requires speed_low { (pos 0 -ℤ pos 1000000000) ≤ℤ speed }
+    requires speed_high { speed ≤ℤ pos 1000000000 }
+    ensures { result ≡ speeds.media_at start speed ticks }
+{
+    start + floor_ticks(media_ticks(ticks, speed))
+}
+
+/// What stands of an item before a cut at so many ticks from its start.
+pub(crate) fn left_piece(
+    alloc: Global,
+    item: &Item,
+    ticks: i128,
+    rate: Rate,
+) -> Result<Item, RangedFault>
+    requires { pos 0 ≤ℤ ticks }
+    ensures made { IfOk result
+        (λ piece. children.made rate (cuts.left_piece item.now ticks) ≡ Some piece) }
+    ensures far { IfErr result
+        (λ fault. fault ≡ RangedFault.Range → is_far (cuts.left_piece item.now ticks) ≡ true) }
+{
+    ranged(alloc, item, start_ticks(item), ticks, rate)
+}
+
+/// What stands of an item behind a cut at so many ticks from its start.
+pub(crate) fn right_piece(
+    alloc: Global,
+    item: &Item,
+    ticks: i128,
+    rate: Rate,
+) -> Result<Item, RangedFault>
+    requires faultless { IsCuttable item.now }
+    requires low { pos 0 ≤ℤ ticks }
+    requires high { ticks ≤ℤ children.ticks item.now }
+    ensures made { IfOk result
+        (λ piece. children.made rate (cuts.right_piece item.now ticks) ≡ Some piece) }
+    ensures far { IfErr result
+        (λ fault. fault ≡ RangedFault.Range → is_far (cuts.right_piece item.now ticks) ≡ true) }
+{
+    let length = ticks_of(item);
+    ranged(
+        alloc,
+        item,
+        media_at(start_ticks(item), speed(item), ticks),
+        length - ticks,
+        rate,
+    )
+}
+
+/// The two pieces of an item that is cut at so many ticks from its start: copies with a range of
+/// their own. `rate` is the record rate, at which an item without a range is counted.
+/// [`CutFault::Phase`] comes exactly where what is before the cut isn't whole ticks of the media,
+/// and [`CutFault::Memory`] where memory runs out.
+pub fn cut(alloc: Global, item: &Item, ticks: i128, rate: Rate) -> Result<(Item, Item), CutFault>
+    requires faultless { IsCuttable item.now }
+    requires low { pos 0 <ℤ ticks }
+    requires high { ticks <ℤ children.ticks item.now }
+    ensures left { IfOk result
+        (λ pieces. children.made rate (cuts.left_piece item.now ticks) ≡ Some pieces.0) }
+    ensures right { IfOk result
+        (λ pieces. children.made rate (cuts.right_piece item.now ticks) ≡ Some pieces.1) }
+    ensures whole { IfOk result (λ _. cuts.is_whole_at item.now ticks ≡ true) }
+    ensures fault { IfErr result
+        (λ fault. fault ≢ CutFault.Memory → (fault ≡ CutFault.Phase) ×
+        (cuts.is_whole_at item.now ticks ≡ false)) }
+{
+    if !is_whole_at(item, ticks) {
+        return Err(CutFault::Phase);
+    }
+    let left = match left_piece(alloc, item, ticks, rate) {
+        Ok(left) => left,
+        Err(_) => return Err(CutFault::Memory),
+    };
+    match right_piece(alloc, item, ticks, rate) {
+        Ok(right) => Ok((left, right)),
+        Err(_) => Err(CutFault::Memory),
+    }
+}
