@@ -6,19 +6,19 @@ use Rattle.std.specs.Option.{option_map, option_and_then}
 use Rattle.tick_time.specs.declared.rates.Rate.{Rate}
 use Rattle.command_words.specs.Parts.{CommandPart, IsPart, AreParts, spelled, spell}
 use Rattle.command_words.specs.Gathered.{Given, nothing_given, add, add_all, given_by}
-use Rattle.command_words.specs.Asked.{IsRate, IsInput, IsDefault, IsOutput, IsAskedOf, IsConversion, IsValue, IsCount, AreFrames, IsListing, IsFrameList, IsAskedBy, IsMedia, IsRequest, Ask, AskNothing}
+use Rattle.command_words.specs.Asked.{IsRate, IsInput, IsDefault, IsOutput, IsAskedOf, IsConversion, IsValue, IsCount, AreFrames, IsListing, IsFrameList, IsEditing, IsEdit, IsAskedBy, IsMedia, IsScript, OtherNames, other_names, ReadsOnce, IsRequest, Ask, AskNothing}
 use Rattle.command_words.specs.declared.conversions.Form.{Form}
 use Rattle.command_words.specs.declared.conversions.Form.TheVariants as form
 use Rattle.command_words.specs.declared.lines.Line.{Line}
 use Rattle.command_words.specs.declared.requests.Command.{Command}
-use Rattle.command_words.specs.declared.requests.Command.TheVariants.{ListToList, ListToObjects, TimelineToList, ToObjects, ToJson, Frames, ListFrames}
+use Rattle.command_words.specs.declared.requests.Command.TheVariants.{ListToList, ListToObjects, TimelineToList, ToObjects, ToJson, Frames, ListFrames, Edit, ListEdit}
 use Rattle.command_words.specs.declared.requests.FramesAsked.{FramesAsked}
 use Rattle.command_words.specs.declared.names.Verb.{Verb}
 use Rattle.command_words.specs.declared.names.Verb.TheVariants as verbs
 use Rattle.record_points.specs.declared.points.RecordPoint.{RecordPoint}
 use Rattle.record_points.specs.Words.{IsWholeNumber, IsPoint}
 use Rattle.record_points.proofs.OnePoint.{number_once, point_once}
-use Rattle.command_words.specs.Names.{word_of}
+use Rattle.command_words.specs.Names.{word_of, IsListName}
 use Rattle.command_words.proofs.Naming.{verb_once}
 use Rattle.command_words.proofs.Spelling.{heads, parts_once}
 use Rattle.command_words.proofs.SameRates.{asked_rate_once}
@@ -166,11 +166,11 @@ asked_with command called name input output rate given file reads writes is a =
 
 -- words ask for what their parts ask for
 pub asks : (verb : Verb) (words rest : List (List ℕ)) (given : Given) (parts : List CommandPart)
-    (command : Command) (name : List ℕ) (media target : Option (List ℕ))
+    (command : Command) (name : List ℕ) (others : OtherNames) (target : Option (List ℕ))
     → words ≡ word_of verb ∷ rest → AreParts verb parts → rest ≡ spell parts
-    → add_all nothing_given parts ≡ Some given → IsRequest verb command name media target given
-    → Ask words command name media target
-asks verb words rest given parts command name media target w a s e is = record {
+    → add_all nothing_given parts ≡ Some given → IsRequest verb command name others target given
+    → Ask words command name others target
+asks verb words rest given parts command name others target w a s e is = record {
   verb = verb;
   parts = parts;
   are_parts = a;
@@ -203,9 +203,9 @@ name_of name = option_map (λ s. s.now) name
 -- what is asked for by what is given
 abbrev pub AsksOf : Verb → Given → Option Request → Type 0
 AsksOf verb given result = MatchOption result
-    ((command : Command) (name : List ℕ) (media target : Option (List ℕ))
-    → IsRequest verb command name media target given → ⊥)
-    (λ request. IsRequest verb request.command request.name.now (name_of request.media)
+    ((command : Command) (name : List ℕ) (others : OtherNames) (target : Option (List ℕ))
+    → IsRequest verb command name others target given → ⊥)
+    (λ request. IsRequest verb request.command request.name.now (other_names request.others)
     (name_of request.target) given)
 
 -- the request of a line is what the words ask for
@@ -213,19 +213,19 @@ pub request_asks : (verb : Verb) (words rest : List (List ℕ)) (parts : List Co
     (result : Option Request) → words ≡ word_of verb ∷ rest → AreParts verb parts
     → rest ≡ spell parts → add_all nothing_given parts ≡ Some g → AsksOf verb g result
     → MatchOption result (AskNothing words)
-    (λ request. Ask words request.command request.name.now (name_of request.media)
+    (λ request. Ask words request.command request.name.now (other_names request.others)
     (name_of request.target))
-request_asks verb words rest parts g None w a s e m = λ command name media target ask.
+request_asks verb words rest parts g None w a s e m = λ command name others target ask.
     let same = verb_once ask.verb verb
     (first_words (word_of ask.verb) (word_of verb) (spell ask.parts) rest (sym ask.words_are
     ∙ w)) in
     let given =
     same_line words rest verb parts g ask.verb ask.parts ask.given same w a s e ask.words_are
     ask.are_parts ask.gathered in
-    m command name media target (subst (λ v. IsRequest v command name media target g) same
-    (subst (IsRequest ask.verb command name media target) given ask.is))
+    m command name others target (subst (λ v. IsRequest v command name others target g) same
+    (subst (IsRequest ask.verb command name others target) given ask.is))
 request_asks verb words rest parts g (Some request) w a s e m =
-    asks verb words rest g parts request.command request.name.now (name_of request.media)
+    asks verb words rest g parts request.command request.name.now (other_names request.others)
     (name_of request.target) w a s e m
 
 -- the command for what is read and what is written
@@ -269,6 +269,8 @@ asked_is ToJson form.List output rate drop wide p = absurd p
 asked_is ToJson form.Json output rate drop wide p = absurd p
 asked_is (Frames asked) input output rate drop wide p = absurd p
 asked_is (ListFrames r asked) input output rate drop wide p = absurd p
+asked_is Edit input output rate drop wide p = absurd p
+asked_is (ListEdit r) input output rate drop wide p = absurd p
 
 -- one file, one output and one rate make at most one command
 asked_once : (c d : Command) (input output : Form) (rate : Rate) (drop wide : Bool)
@@ -334,11 +336,17 @@ one_listing (ListFrames r x) (ListToObjects s) name rate frames p q = absurd q
 one_listing (ListFrames r x) (TimelineToList f w) name rate frames p q = absurd q
 one_listing (ListFrames r x) ToObjects name rate frames p q = absurd q
 one_listing (ListFrames r x) ToJson name rate frames p q = absurd q
+one_listing (Frames x) Edit name rate frames p q = absurd q
+one_listing (Frames x) (ListEdit s) name rate frames p q = absurd q
+one_listing (ListFrames r x) Edit name rate frames p q = absurd q
+one_listing (ListFrames r x) (ListEdit s) name rate frames p q = absurd q
 one_listing (ListToList r f w) d name rate frames p q = absurd p
 one_listing (ListToObjects r) d name rate frames p q = absurd p
 one_listing (TimelineToList f w) d name rate frames p q = absurd p
 one_listing ToObjects d name rate frames p q = absurd p
 one_listing ToJson d name rate frames p q = absurd p
+one_listing Edit d name rate frames p q = absurd p
+one_listing (ListEdit r) d name rate frames p q = absurd p
 
 -- what is listed of the file of that name
 listed_with : (command : Command) (called name : List ℕ) (rate : Rate) (frames : FramesAsked)
@@ -360,10 +368,65 @@ frames_once c d a b given p q =
     let h = listed_with d b a p.rate p.frames given p.file p.are p.is_rate q in
     (one_listing c d a p.rate p.frames p.means h.0, sym h.1)
 
+-- the edit of a file of that name at this rate
+editing : Command → List ℕ → Rate → Option Rate → Type 0
+editing command name rate None = (IsListName name → ⊥) × (command ≡ Edit)
+editing command name rate (Some asked) =
+    IsListName name × (asked ≡ rate) × (command ≡ ListEdit asked)
+
+editing_is : (command : Command) (name : List ℕ) (rate : Rate) → IsEditing command name rate
+    → (asked : Option Rate) × editing command name rate asked
+unfolding editing
+editing_is Edit name rate p = (None, (p, refl))
+editing_is (ListEdit r) name rate p = (Some r, (p.0, p.1, refl))
+editing_is (ListToList r f w) name rate p = absurd p
+editing_is (ListToObjects r) name rate p = absurd p
+editing_is (TimelineToList f w) name rate p = absurd p
+editing_is ToObjects name rate p = absurd p
+editing_is ToJson name rate p = absurd p
+editing_is (Frames x) name rate p = absurd p
+editing_is (ListFrames r x) name rate p = absurd p
+
+editing_once : (c d : Command) (name : List ℕ) (rate : Rate) (a b : Option Rate)
+    → editing c name rate a → editing d name rate b → c ≡ d
+unfolding editing
+editing_once c d name rate None None p q = p.1 ∙ sym q.1
+editing_once c d name rate None (Some s) p q = absurd (p.0 q.0)
+editing_once c d name rate (Some r) None p q = absurd (q.0 p.0)
+editing_once c d name rate (Some r) (Some s) p q =
+    p.2 ∙ ap ListEdit (p.1 ∙ sym q.1) ∙ sym q.2
+
+-- a file and a rate make one edit
+one_editing : (c d : Command) (name : List ℕ) (rate : Rate) → IsEditing c name rate
+    → IsEditing d name rate → c ≡ d
+one_editing c d name rate p q =
+    let one = editing_is c name rate p in
+    let other = editing_is d name rate q in
+    editing_once c d name rate one.0 other.0 one.1 other.1
+
+-- what is edited of the file of that name
+edited_with : (command : Command) (called name : List ℕ) (rate : Rate) (given : Given)
+    → given.file ≡ Some name → IsRate given.rate rate → IsEdit command called given
+    → IsEditing command name rate × (called ≡ name)
+edited_with command called name rate given file is a =
+    let same : called ≡ name = let e = sym a.file ∙ file in cc in
+    let once = asked_rate_once given.rate a.rate rate a.is_rate is in (
+      subst (λ n. IsEditing command n rate) same
+          (subst (λ r. IsEditing command called r) once a.means),
+      same,
+    )
+
+edit_once : (c d : Command) (a b : List ℕ) (given : Given) → IsEdit c a given
+    → IsEdit d b given → (c ≡ d) × (a ≡ b)
+edit_once c d a b given p q =
+    let h = edited_with d b a p.rate given p.file p.is_rate q in
+    (one_editing c d a p.rate p.means h.0, sym h.1)
+
 by_once : (verb : Verb) (c d : Command) (a b : List ℕ) (given : Given) → IsAskedBy verb c a given
     → IsAskedBy verb d b given → (c ≡ d) × (a ≡ b)
 by_once verbs.Convert c d a b given p q = convert_once c d a b given p q
 by_once verbs.Frames c d a b given p q = frames_once c d a b given p q
+by_once verbs.Edit c d a b given p q = edit_once c d a b given p q
 
 -- a command reads at most one media list
 media_once : (c : Command) (named m n : Option (List ℕ)) → IsMedia c named m → IsMedia c named n
@@ -375,34 +438,86 @@ media_once ToObjects named m n p q = p ∙ sym q
 media_once ToJson named m n p q = p ∙ sym q
 media_once (Frames asked) named m n p q = p ∙ sym q
 media_once (ListFrames r asked) named m n p q = p ∙ sym q
+media_once Edit named m n p q = p ∙ sym q
+media_once (ListEdit r) named m n p q = p ∙ sym q
+
+-- a command reads at most one script
+script_once : (c : Command) (named m n : Option (List ℕ)) → IsScript c named m
+    → IsScript c named n → m ≡ n
+script_once (ListToList r f w) named m n p q = p ∙ sym q
+script_once (ListToObjects r) named m n p q = p ∙ sym q
+script_once (TimelineToList f w) named m n p q = p ∙ sym q
+script_once ToObjects named m n p q = p ∙ sym q
+script_once ToJson named m n p q = p ∙ sym q
+script_once (Frames asked) named m n p q = p ∙ sym q
+script_once (ListFrames r asked) named m n p q = p ∙ sym q
+script_once Edit named m n p q = p ∙ sym q
+script_once (ListEdit r) named m n p q = p ∙ sym q
+
+names_of : Option (List ℕ) → Option (List ℕ) → OtherNames
+names_of script media = record { script = script; media = media }
+
+others_once : (c : Command) (given : Given) (m n : OtherNames) → IsScript c given.script m.script
+    → IsMedia c given.media m.media → IsScript c given.script n.script
+    → IsMedia c given.media n.media → m ≡ n
+unfolding names_of
+others_once c given m n p q r s =
+    ap (λ x. names_of x m.media) (script_once c given.script m.script n.script p r)
+    ∙ ap (names_of n.script) (media_once c given.media m.media n.media q s)
 
 -- the media list of a request is one of the command that is asked for
-media_in : (verb : Verb) (c d : Command) (a b : List ℕ) (m t : Option (List ℕ)) (given : Given)
-    → IsAskedBy verb c a given → IsRequest verb d b m t given → IsMedia c given.media m
-media_in verb c d a b m t given is r =
-    subst (λ x. IsMedia x given.media m) (sym (by_once verb c d a b given is r.asked).0) r.media_is
+media_in : (verb : Verb) (c d : Command) (a b : List ℕ) (o : OtherNames) (t : Option (List ℕ))
+    (given : Given) → IsAskedBy verb c a given → IsRequest verb d b o t given
+    → IsMedia c given.media o.media
+media_in verb c d a b o t given is r =
+    subst (λ x. IsMedia x given.media o.media) (sym (by_once verb c d a b given is r.asked).0)
+    r.media_is
 
 -- where the command can't have the media list that is named, nothing is asked for
 pub without_media : (verb : Verb) (c : Command) (a : List ℕ) (given : Given)
     → IsAskedBy verb c a given → ((m : Option (List ℕ)) → IsMedia c given.media m → ⊥)
-    → (d : Command) (b : List ℕ) (m t : Option (List ℕ)) → IsRequest verb d b m t given → ⊥
-without_media verb c a given is none d b m t r = none m (media_in verb c d a b m t given is r)
+    → (d : Command) (b : List ℕ) (o : OtherNames) (t : Option (List ℕ))
+    → IsRequest verb d b o t given → ⊥
+without_media verb c a given is none d b o t r =
+    none o.media (media_in verb c d a b o t given is r)
 
-request_once : (verb : Verb) (c d : Command) (a b : List ℕ) (m n s t : Option (List ℕ))
-    (given : Given) → IsRequest verb c a m s given → IsRequest verb d b n t given
-    → (c ≡ d) × (a ≡ b) × (m ≡ n) × (s ≡ t)
+-- the other files of a request are those of the command that is asked for
+others_in : (verb : Verb) (c d : Command) (a b : List ℕ) (m n : OtherNames) (t : Option (List ℕ))
+    (given : Given) → IsAskedBy verb c a given → IsScript c given.script m.script
+    → IsMedia c given.media m.media → IsRequest verb d b n t given → m ≡ n
+others_in verb c d a b m n t given is script media r =
+    let same = (by_once verb c d a b given is r.asked).0 in
+    others_once c given m n script media
+    (subst (λ x. IsScript x given.script n.script) (sym same) r.script_is)
+    (media_in verb c d a b n t given is r)
+
+-- where the standard input would be read twice, nothing is asked for
+pub read_twice : (verb : Verb) (c : Command) (a : List ℕ) (m : OtherNames) (given : Given)
+    → IsAskedBy verb c a given → IsScript c given.script m.script
+    → IsMedia c given.media m.media → (ReadsOnce a m → ⊥)
+    → (d : Command) (b : List ℕ) (n : OtherNames) (t : Option (List ℕ))
+    → IsRequest verb d b n t given → ⊥
+read_twice verb c a m given is script media twice d b n t r =
+    let name = (by_once verb c d a b given is r.asked).1 in
+    let others = others_in verb c d a b m n t given is script media r in
+    twice (subst (λ x. ReadsOnce x m) (sym name) (subst (ReadsOnce b) (sym others) r.once))
+
+request_once : (verb : Verb) (c d : Command) (a b : List ℕ) (m n : OtherNames)
+    (s t : Option (List ℕ)) (given : Given) → IsRequest verb c a m s given
+    → IsRequest verb d b n t given → (c ≡ d) × (a ≡ b) × (m ≡ n) × (s ≡ t)
 request_once verb c d a b m n s t given p q =
     let same = by_once verb c d a b given p.asked q.asked in (
       same.0,
       same.1,
-      media_once c given.media m n p.media_is (media_in verb c d a b n t given p.asked q),
+      others_in verb c d a b m n t given p.asked p.script_is p.media_is q,
       sym p.target_is
           ∙ q.target_is,
     )
 
 -- words ask for at most one command on at most one file
-pub ask_once : (words : List (List ℕ)) (c d : Command) (a b : List ℕ) (m n s t : Option (List ℕ))
-    → Ask words c a m s → Ask words d b n t → (c ≡ d) × (a ≡ b) × (m ≡ n) × (s ≡ t)
+pub ask_once : (words : List (List ℕ)) (c d : Command) (a b : List ℕ) (m n : OtherNames)
+    (s t : Option (List ℕ)) → Ask words c a m s → Ask words d b n t
+    → (c ≡ d) × (a ≡ b) × (m ≡ n) × (s ≡ t)
 ask_once words c d a b m n s t p q =
     let same = verb_once p.verb q.verb
     (first_words (word_of p.verb) (word_of q.verb) (spell p.parts) (spell q.parts)

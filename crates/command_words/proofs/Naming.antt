@@ -3,7 +3,7 @@ use Rattle.std.proofs.Common.{◌≡◌, ℕ, Bool, true, false, List, [], ◌�
 use Rattle.std.proofs.lemmas.Slice.Eq.{bytes_eq-Decides}
 use Rattle.command_words.specs.Names.{meaning, word_of, verb_words, options_of, list_options, IsNamed, IsName}
 use Rattle.command_words.specs.declared.names.Verb.{Verb}
-use Rattle.command_words.specs.declared.names.Verb.TheVariants.{Convert, Frames}
+use Rattle.command_words.specs.declared.names.Verb.TheVariants.{Convert, Frames, Edit}
 use Rattle.command_words.specs.declared.names.Named.{Named}
 
 -- no word of the table is the name of a file
@@ -44,6 +44,7 @@ are_options Frames = (
   dashed 45 (codes "child"),
   (dashed 45 (codes "start"), (dashed 45 (codes "count"), list_are)),
 )
+are_options Edit = (dashed 45 (codes "script"), list_are)
 
 -- the name of an option is no name of a file
 pub option_no_name : (verb : Verb) (named : Named) (word : List ℕ) → IsNamed verb named word
@@ -58,6 +59,7 @@ named_once verb a b word p q = let e : Some a ≡ Some b = sym p ∙ q in cc
 word_is : (verb : Verb) → meaning (word_of verb) verb_words ≡ Some verb
 word_is Convert = refl
 word_is Frames = refl
+word_is Edit = refl
 
 -- a word is that of at most one command
 pub verb_once : (one other : Verb) → word_of one ≡ word_of other → one ≡ other
@@ -77,6 +79,8 @@ pub verb_word : (word : List ℕ) (verb : Verb) → meaning word verb_words ≡ 
 verb_word word verb e =
     let P : Verb → Type 0 = λ v. word ≡ word_of v in
     by_row (bytes_eq word (word_of Convert)) word (word_of Convert, Convert)
-    (meaning word ((word_of Frames, Frames) ∷ [])) verb P refl (λ h. h)
-    (λ f. by_row (bytes_eq word (word_of Frames)) word (word_of Frames, Frames) None verb P refl
-    (λ h. h) (λ g. absurd (let h = g in cc)) f) e
+    (meaning word ((word_of Frames, Frames) ∷ (word_of Edit, Edit) ∷ [])) verb P refl (λ h. h)
+    (λ f. by_row (bytes_eq word (word_of Frames)) word (word_of Frames, Frames)
+    (meaning word ((word_of Edit, Edit) ∷ [])) verb P refl (λ h. h)
+    (λ g. by_row (bytes_eq word (word_of Edit)) word (word_of Edit, Edit) None verb P refl
+    (λ h. h) (λ i. absurd (let h = i in cc)) g) f) e

@@ -1,8 +1,9 @@
 -- What words spell.
 use Rattle.std.proofs.Common.{◌≡◌, ℕ, List, [], ◌∷◌, refl, sym, subst}
-use Rattle.command_words.specs.Names.{IsNamed}
+use Rattle.command_words.specs.Names.{IsNamed, IsName}
 use Rattle.command_words.specs.Parts.{CommandPart, Valued, Flagged, File, IsPart, AreParts, spelled, spell}
 use Rattle.command_words.specs.declared.names.Verb.{Verb}
+use Rattle.command_words.specs.declared.names.Choice.{Choice}
 use Rattle.command_words.specs.declared.names.Named.TheVariants as named
 use Rattle.command_words.proofs.Naming.{option_no_name, named_once}
 
@@ -54,3 +55,18 @@ parts_once verb (p ∷ ps) (q ∷ qs) a b e =
     let h = heads verb p q (spell ps) (spell qs) a.0 b.0 e in
     let more = parts_once verb ps qs a.1 b.1 h.1 in
     let first = h.0 in cc
+
+-- where an option's value is no name, no part stands there
+pub no_value : (verb : Verb) (choice : Choice) (word value : List ℕ) (behind : List (List ℕ))
+    → IsNamed verb (named.Valued choice) word → (IsName value → ⊥)
+    → (p : CommandPart) (ws : List (List ℕ)) → IsPart verb p
+    → word ∷ value ∷ behind ≡ spelled p ws → ⊥
+no_value verb choice word value behind is bad (Valued d m u) ws q e =
+    let same : u ≡ value = cc in bad (subst IsName same q.1)
+no_value verb choice word value behind is bad (Flagged f m) ws q e =
+    let same : m ≡ word = cc in
+    let k = named_once verb (named.Flagged f) (named.Valued choice) word
+    (subst (IsNamed verb (named.Flagged f)) same q) is in cc
+no_value verb choice word value behind is bad (File m) ws q e =
+    let same : m ≡ word = cc in
+    option_no_name verb (named.Valued choice) word is (subst IsName same q)

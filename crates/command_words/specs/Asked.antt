@@ -1,5 +1,6 @@
 -- What a command line asks for.
-use Rattle.std.specs.Prelude.{◌≡◌, ℕ, ◌≤◌, pos, Bool, List, ◌∷◌, Option, Some, None, codes}
+use Rattle.std.specs.Prelude.{◌≡◌, ℕ, ◌≤◌, pos, Bool, List, ◌∷◌, Option, Some, None, IsSome, codes}
+use Rattle.std.specs.Option.{option_map}
 use Rattle.tick_time.specs.declared.rates.Rate.{Rate}
 use Rattle.rate_words.specs.RateWords.{IsRateWord}
 use Rattle.record_points.specs.Words.{IsWholeNumber, IsPoint}
@@ -9,8 +10,9 @@ use Rattle.command_words.specs.Gathered.{Given, nothing_given, add_all}
 use Rattle.command_words.specs.declared.conversions.Form.{Form}
 use Rattle.command_words.specs.declared.conversions.Form.TheVariants as form
 use Rattle.command_words.specs.declared.requests.Command.{Command}
-use Rattle.command_words.specs.declared.requests.Command.TheVariants.{ListToList, ListToObjects, TimelineToList, ToObjects, ToJson, Frames, ListFrames}
+use Rattle.command_words.specs.declared.requests.Command.TheVariants.{ListToList, ListToObjects, TimelineToList, ToObjects, ToJson, Frames, ListFrames, Edit, ListEdit}
 use Rattle.command_words.specs.declared.requests.FramesAsked.{FramesAsked}
+use Rattle.command_words.specs.declared.requests.Others.{Others}
 use Rattle.command_words.specs.declared.names.Verb.{Verb}
 use Rattle.command_words.specs.declared.names.Verb.TheVariants as verbs
 
@@ -105,14 +107,30 @@ pub record IsFrameList (command : Command) (name : List ℕ) (given : Given) : T
   pub is_rate : IsRate given.rate rate
   pub means : IsListing command name rate frames
 
+-- The command: a timeline is edited, or the one that a list conforms to at this rate where the
+-- file's name is that of a list.
+abbrev pub IsEditing : Command → List ℕ → Rate → Type 0
+IsEditing Edit name rate = IsListName name → ⊥
+IsEditing (ListEdit asked) name rate = IsListName name × (asked ≡ rate)
+IsEditing command name rate = ⊥
+
+-- what the options and the file of `edit` ask for; a script must be named
+pub record IsEdit (command : Command) (name : List ℕ) (given : Given) : Type 0 where
+  pub file : given.file ≡ Some name
+  pub script : IsSome given.script
+  pub rate : Rate
+  pub is_rate : IsRate given.rate rate
+  pub means : IsEditing command name rate
+
 -- what the options and the file of a command ask for
 abbrev pub IsAskedBy : Verb → Command → List ℕ → Given → Type 0
 IsAskedBy verbs.Convert command name given = IsConversion command name given
 IsAskedBy verbs.Frames command name given = IsFrameList command name given
+IsAskedBy verbs.Edit command name given = IsEdit command name given
 
--- The media list that is read: the one that is named, where a list is conformed or a timeline is
--- written as a list. Elsewhere the name has no effect, but that a list to a list is asked for
--- without one.
+-- The media list that is read: the one that is named, where a list is conformed, or a timeline
+-- edited or written as a list. Elsewhere the name has no effect, but that a list to a list is asked
+-- for without one.
 abbrev pub IsMedia : Command → Option (List ℕ) → Option (List ℕ) → Type 0
 IsMedia (ListToList rate drop wide) named media = (named ≡ None) × (media ≡ None)
 IsMedia (ListToObjects rate) named media = media ≡ named
@@ -121,33 +139,59 @@ IsMedia ToObjects named media = media ≡ None
 IsMedia ToJson named media = media ≡ None
 IsMedia (Frames asked) named media = media ≡ None
 IsMedia (ListFrames rate asked) named media = media ≡ named
+IsMedia Edit named media = media ≡ named
+IsMedia (ListEdit rate) named media = media ≡ named
+
+-- the script that is read: the one that is named, where a timeline is edited
+abbrev pub IsScript : Command → Option (List ℕ) → Option (List ℕ) → Type 0
+IsScript Edit named script = script ≡ named
+IsScript (ListEdit rate) named script = script ≡ named
+IsScript command named script = script ≡ None
+
+-- the names of the files that are read behind the first, where there are any
+pub record OtherNames : Type 0 where
+  pub script : Option (List ℕ)
+  pub media : Option (List ℕ)
+
+abbrev pub other_names : Others → OtherNames
+other_names others = record {
+  script = option_map (λ s. s.now) others.script;
+  media = option_map (λ s. s.now) others.media;
+}
 
 -- the name of the standard input
 abbrev pub standard_input : List ℕ
 standard_input = codes "-"
 
--- What is given asks for this command on the file of this name, with this media list where one is
--- read, and with the output into the file of the target's name, or to the standard output where
--- there is none. The standard input is read at most once.
-pub record IsRequest (verb : Verb) (command : Command) (name : List ℕ)
-    (media target : Option (List ℕ)) (given : Given) : Type 0 where
+-- the standard input is read at most once
+pub record ReadsOnce (name : List ℕ) (others : OtherNames) : Type 0 where
+  pub script : name ≡ standard_input → others.script ≡ Some standard_input → ⊥
+  pub media : name ≡ standard_input → others.media ≡ Some standard_input → ⊥
+  pub both : others.script ≡ Some standard_input → others.media ≡ Some standard_input → ⊥
+
+-- What is given asks for this command on the file of this name, with this script and media list
+-- where they are read, and with the output into the file of the target's name, or to the standard
+-- output where there is none.
+pub record IsRequest (verb : Verb) (command : Command) (name : List ℕ) (others : OtherNames)
+    (target : Option (List ℕ)) (given : Given) : Type 0 where
   pub asked : IsAskedBy verb command name given
-  pub media_is : IsMedia command given.media media
-  pub once : name ≡ standard_input → media ≡ Some standard_input → ⊥
+  pub script_is : IsScript command given.script others.script
+  pub media_is : IsMedia command given.media others.media
+  pub once : ReadsOnce name others
   pub target_is : given.target ≡ target
 
 -- The words ask for this: the command's own word, then its options and the file in any order.
-pub record Ask (words : List (List ℕ)) (command : Command) (name : List ℕ)
-    (media target : Option (List ℕ)) : Type 0 where
+pub record Ask (words : List (List ℕ)) (command : Command) (name : List ℕ) (others : OtherNames)
+    (target : Option (List ℕ)) : Type 0 where
   pub verb : Verb
   pub parts : List CommandPart
   pub are_parts : AreParts verb parts
   pub words_are : words ≡ word_of verb ∷ spell parts
   pub given : Given
   pub gathered : add_all nothing_given parts ≡ Some given
-  pub is : IsRequest verb command name media target given
+  pub is : IsRequest verb command name others target given
 
 -- the words ask for no command
 abbrev pub AskNothing : List (List ℕ) → Type 0
-AskNothing words = (command : Command) (name : List ℕ) (media target : Option (List ℕ))
-    → Ask words command name media target → ⊥
+AskNothing words = (command : Command) (name : List ℕ) (others : OtherNames)
+    (target : Option (List ℕ)) → Ask words command name others target → ⊥

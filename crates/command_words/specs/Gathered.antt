@@ -3,7 +3,7 @@
 use Rattle.std.specs.Prelude.{ℕ, Bool, true, false, List, [], ◌∷◌, Option, Some, None}
 use Rattle.std.specs.Option.{option_map, option_and_then}
 use Rattle.command_words.specs.Parts.{CommandPart, Valued, Flagged, File}
-use Rattle.command_words.specs.declared.names.Choice.TheVariants.{From, To, Rate, Target, Child, Start, Count, Media}
+use Rattle.command_words.specs.declared.names.Choice.TheVariants.{From, To, Rate, Target, Child, Start, Count, Media, Script}
 use Rattle.command_words.specs.declared.names.Flag.TheVariants.{Drop, Wide}
 use Rattle.command_words.specs.declared.lines.Line.{Line}
 
@@ -16,6 +16,7 @@ pub record Given : Type 0 where
   pub start : Option (List ℕ)
   pub count : Option (List ℕ)
   pub media : Option (List ℕ)
+  pub script : Option (List ℕ)
   pub drop : Bool
   pub wide : Bool
   pub file : Option (List ℕ)
@@ -30,6 +31,7 @@ nothing_given = record {
   start = None;
   count = None;
   media = None;
+  script = None;
   drop = false;
   wide = false;
   file = None;
@@ -54,6 +56,7 @@ add g (Valued Child name value) = once g.child (record g { child = Some value })
 add g (Valued Start name value) = once g.start (record g { start = Some value })
 add g (Valued Count name value) = once g.count (record g { count = Some value })
 add g (Valued Media name value) = once g.media (record g { media = Some value })
+add g (Valued Script name value) = once g.script (record g { script = Some value })
 add g (Flagged Drop name) = once_flag g.drop (record g { drop = true })
 add g (Flagged Wide name) = once_flag g.wide (record g { wide = true })
 add g (File name) = once g.file (record g { file = Some name })
@@ -73,6 +76,7 @@ given_by line = record {
   start = option_map (λ s. s.now) line.start;
   count = option_map (λ s. s.now) line.count;
   media = option_map (λ s. s.now) line.media;
+  script = option_map (λ s. s.now) line.script;
   drop = line.drop;
   wide = line.wide;
   file = option_map (λ s. s.now) line.file;

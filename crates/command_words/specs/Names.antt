@@ -1,8 +1,8 @@
 -- The words of a command line, one by one.
 use Rattle.std.specs.Prelude.{◌≡◌, ◌≢◌, ℕ, List, [], ◌∷◌, ◌++◌, Option, Some, None, codes, bytes_eq, if◌then◌else◌}
 use Rattle.command_words.specs.declared.names.Verb.{Verb}
-use Rattle.command_words.specs.declared.names.Verb.TheVariants.{Convert, Frames}
-use Rattle.command_words.specs.declared.names.Choice.TheVariants.{From, To, Rate, Target, Child, Start, Count, Media}
+use Rattle.command_words.specs.declared.names.Verb.TheVariants.{Convert, Frames, Edit}
+use Rattle.command_words.specs.declared.names.Choice.TheVariants.{From, To, Rate, Target, Child, Start, Count, Media, Script}
 use Rattle.command_words.specs.declared.names.Flag.TheVariants.{Drop, Wide}
 use Rattle.command_words.specs.declared.names.Named.{Named}
 use Rattle.command_words.specs.declared.names.Named.TheVariants.{Valued, Flagged}
@@ -16,10 +16,11 @@ meaning word (row ∷ rows) = if bytes_eq word row.0 then Some row.1 else meanin
 abbrev pub word_of : Verb → List ℕ
 word_of Convert = codes "convert"
 word_of Frames = codes "frames"
+word_of Edit = codes "edit"
 
 -- the commands by their words
 abbrev pub verb_words : List (List ℕ × Verb)
-verb_words = (word_of Convert, Convert) ∷ (word_of Frames, Frames) ∷ []
+verb_words = (word_of Convert, Convert) ∷ (word_of Frames, Frames) ∷ (word_of Edit, Edit) ∷ []
 
 -- the options of each command that takes lists, by their names
 abbrev pub list_options : List (List ℕ × Named)
@@ -32,6 +33,7 @@ options_of Convert = (codes "--from", Valued From) ∷ (codes "--to", Valued To)
     (codes "--drop", Flagged Drop) ∷ (codes "--wide", Flagged Wide) ∷ list_options
 options_of Frames = (codes "--child", Valued Child) ∷ (codes "--start", Valued Start) ∷
     (codes "--count", Valued Count) ∷ list_options
+options_of Edit = (codes "--script", Valued Script) ∷ list_options
 
 -- the word is the name of this option of the command
 abbrev pub IsNamed : Verb → Named → List ℕ → Type 0

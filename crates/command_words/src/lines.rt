@@ -18,6 +18,7 @@ pub struct Line<'a> {
     pub start: Option<&'a str>,
     pub count: Option<&'a str>,
     pub media: Option<&'a str>,
+    pub script: Option<&'a str>,
     pub drop: bool,
     pub wide: bool,
     pub file: Option<&'a str>,
@@ -36,6 +37,7 @@ pub fn empty_line<'a>() -> Line<'a>
         start: None,
         count: None,
         media: None,
+        script: None,
         drop: false,
         wide: false,
         file: None,
@@ -121,6 +123,10 @@ fn with_value<'a>(line: Line<'a>, choice: Choice, value: &'a str) -> Option<Line
         }),
         Choice::Media if line.media.is_none() => Some(Line {
             media: value,
+            ..line
+        }),
+        Choice::Script if line.script.is_none() => Some(Line {
+            script: value,
             ..line
         }),
         _ => None,

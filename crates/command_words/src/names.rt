@@ -11,6 +11,8 @@ pub enum Verb {
     Convert,
     /// `frames`.
     Frames,
+    /// `edit`.
+    Edit,
 }
 
 /// An option that takes a value.
@@ -32,6 +34,8 @@ pub enum Choice {
     Count,
     /// The name of the media list that lists are conformed with.
     Media,
+    /// The name of the script.
+    Script,
 }
 
 /// An option without a value.
@@ -62,6 +66,9 @@ pub fn verb_of(word: &str) -> Option<Verb>
     if is_word(word, "frames") {
         return Some(Verb::Frames);
     }
+    if is_word(word, "edit") {
+        return Some(Verb::Edit);
+    }
     None
 }
 
@@ -72,6 +79,7 @@ pub fn option_of(verb: Verb, word: &str) -> Option<Named>
     match verb {
         Verb::Convert => convert_option(word),
         Verb::Frames => frames_option(word),
+        Verb::Edit => edit_option(word),
     }
 }
 
@@ -106,6 +114,16 @@ fn frames_option(word: &str) -> Option<Named>
     }
     if is_word(word, "--count") {
         return Some(Named::Valued(Choice::Count));
+    }
+    list_option(word)
+}
+
+// The option of `edit` of that name.
+fn edit_option(word: &str) -> Option<Named>
+    ensures { result ≡ meaning word.now (options_of Verb.Edit) }
+{
+    if is_word(word, "--script") {
+        return Some(Named::Valued(Choice::Script));
     }
     list_option(word)
 }

@@ -1,10 +1,11 @@
 // What a command line asks for.
 ghost use Rattle.std.specs.Prelude.{◌≡◌, ◌↔◌, ℕ, List, Option, Some, map, string_bytes, IsTrue, MatchOption};
 ghost use Rattle.std.specs.Option.{option_map};
-ghost use Rattle.command_words.specs.Asked.{Ask, AskNothing, IsAskedBy, IsMedia, IsRequest, standard_input};
+ghost use Rattle.command_words.specs.Asked.{Ask, AskNothing, IsAskedBy, IsMedia, IsRequest, IsScript, OtherNames, ReadsOnce, other_names, standard_input};
 ghost use Rattle.command_words.specs.Gathered.{given_by};
 
 use crate::conversions::conversion_of;
+use crate::edits::edit_of;
 use crate::frame_lists::frame_list_of;
 use crate::lines::{Line, empty_line, gather};
 use crate::names::{Verb, verb_of};
@@ -50,6 +51,13 @@ pub enum Command {
         /// Which record frames are listed.
         frames: FramesAsked,
     },
+    /// A script's commands are run on a timeline, which is then written as it is by `ToObjects`.
+    Edit,
+    /// The same of the timeline that a list conforms to.
+    ListEdit {
+        /// The rate of the list, in frames a second.
+        rate: Rate,
+    },
 }
 
 /// Which record frames of a timeline are listed.
@@ -64,17 +72,26 @@ pub struct FramesAsked {
     pub count: Option<u32>,
 }
 
-/// What a command line asks for.
+/// The names of the files that are read behind the first. `-` is the standard input.
+#[derive(Clone, Copy)]
+pub struct Others<'a> {
+    /// The name of the script of an edit; none for other commands.
+    pub script: Option<&'a str>,
+    /// The name of the media list that lists are conformed with, that a script's clips are taken
+    /// from, or that the media of a timeline are looked up in where that is written as a list; none
+    /// where none is read.
+    pub media: Option<&'a str>,
+}
+
+/// What a command line asks for. The standard input is read at most once.
 #[derive(Clone, Copy)]
 pub struct Request<'a> {
     /// What is to be done.
     pub command: Command,
     /// The name of the file; `-` is the standard input.
     pub name: &'a str,
-    /// The name of the media list that a list is conformed with, or that the media of a timeline
-    /// are looked up in where that is written as a list; none where none is read. `-` is the
-    /// standard input, which is read at most once.
-    pub media: Option<&'a str>,
+    /// The names of the files that are read behind it.
+    pub others: Others<'a>,
     /// The name of the output file; none for the standard output.
     pub target: Option<&'a str>,
 }
@@ -82,8 +99,8 @@ pub struct Request<'a> {
 /// What the words behind the program's name ask for; none exactly where they ask for nothing.
 pub fn request_of(words: &[String]) -> Option<Request<'_>>
     ensures { let said = map (λ w. string_bytes w) words.now in MatchOption result (AskNothing said)
-        (λ request. Ask said request.command request.name.now
-        (option_map (λ s. s.now) request.media) (option_map (λ s. s.now) request.target)) }
+        (λ request. Ask said request.command request.name.now (other_names request.others)
+        (option_map (λ s. s.now) request.target)) }
 {
     let Some((word, rest)) = first_word(words) else {
         return None;
@@ -100,10 +117,10 @@ pub fn request_of(words: &[String]) -> Option<Request<'_>>
 // What is asked for by what a line gives.
 fn request_in<'a>(verb: Verb, line: &Line<'a>) -> Option<Request<'a>>
     ensures { let given = given_by line.now in MatchOption result
-        ((command : Command) (name : List ℕ) (media target : Option (List ℕ)) →
-        IsRequest verb command name media target given → ⊥)
-        (λ request. IsRequest verb request.command request.name.now
-        (option_map (λ s. s.now) request.media) (option_map (λ s. s.now) request.target) given) }
+        ((command : Command) (name : List ℕ) (others : OtherNames) (target : Option (List ℕ)) →
+        IsRequest verb command name others target given → ⊥)
+        (λ request. IsRequest verb request.command request.name.now (other_names request.others)
+        (option_map (λ s. s.now) request.target) given) }
 {
     let Some((command, name)) = command_in(verb, line) else {
         return None;
@@ -111,13 +128,15 @@ fn request_in<'a>(verb: Verb, line: &Line<'a>) -> Option<Request<'a>>
     let Some(media) = media_of(command, line.media) else {
         return None;
     };
-    if is_standard(name) && is_standard_media(media) {
+    let script = script_of(command, line.script);
+    let others = Others { script, media };
+    if !is_read_once(name, others) {
         return None;
     }
     Some(Request {
         command,
         name,
-        media,
+        others,
         target: line.target,
     })
 }
@@ -131,6 +150,7 @@ fn command_in<'a>(verb: Verb, line: &Line<'a>) -> Option<(Command, &'a str)>
     match verb {
         Verb::Convert => conversion_of(line),
         Verb::Frames => frame_list_of(line),
+        Verb::Edit => edit_of(line),
     }
 }
 
@@ -147,7 +167,34 @@ fn media_of<'a>(command: Command, named: Option<&'a str>) -> Option<Option<&'a s
         },
         Command::ListToObjects { .. } | Command::ListFrames { .. } => Some(named),
         Command::TimelineToList { .. } => Some(named),
+        Command::Edit | Command::ListEdit { .. } => Some(named),
         Command::ToObjects | Command::ToJson | Command::Frames(_) => Some(None),
+    }
+}
+
+// The script that a command reads, where this one is named.
+fn script_of<'a>(command: Command, named: Option<&'a str>) -> Option<&'a str>
+    ensures { IsScript command (option_map (λ s. s.now) named.entry)
+        (option_map (λ s. s.now) result) }
+{
+    match command {
+        Command::Edit | Command::ListEdit { .. } => named,
+        Command::ListToList { .. } | Command::ListToObjects { .. } => None,
+        Command::TimelineToList { .. } | Command::ToObjects | Command::ToJson => None,
+        Command::Frames(_) | Command::ListFrames { .. } => None,
+    }
+}
+
+// Whether the standard input is read at most once.
+fn is_read_once(name: &str, others: Others<'_>) -> bool
+    ensures { IsTrue result ↔ ReadsOnce name.now (other_names others.entry) }
+{
+    let script = is_standard_other(others.script);
+    let media = is_standard_other(others.media);
+    if is_standard(name) {
+        !script && !media
+    } else {
+        !script || !media
     }
 }
 
@@ -158,20 +205,20 @@ fn is_standard(name: &str) -> bool
     is_text(name.as_bytes(), b"-")
 }
 
-// Whether a media list comes from the standard input.
-fn is_standard_media(media: Option<&str>) -> bool
-    ensures { IsTrue result ↔ (option_map (λ s. s.now) media.entry ≡ Some standard_input) }
+// Whether a file that may be read is the standard input.
+fn is_standard_other(name: Option<&str>) -> bool
+    ensures { IsTrue result ↔ (option_map (λ s. s.now) name.entry ≡ Some standard_input) }
 {
-    match media {
+    match name {
         Some(name) => is_standard(name),
         None => false,
     }
 }
 
-/// Law: words ask for at most one command on at most one file, with at most one media list and one
-/// output. It does nothing.
+/// Law: words ask for at most one command on at most one file, with at most one script, one media
+/// list and one output. It does nothing.
 pub fn one_request()
-    ensures { (words : List (List ℕ)) (one other : Command) (a b : List ℕ)
-        (m n p q : Option (List ℕ)) → Ask words one a m p → Ask words other b n q
+    ensures { (words : List (List ℕ)) (one other : Command) (a b : List ℕ) (m n : OtherNames)
+        (p q : Option (List ℕ)) → Ask words one a m p → Ask words other b n q
         → (one ≡ other) × (a ≡ b) × (m ≡ n) × (p ≡ q) }
 {}

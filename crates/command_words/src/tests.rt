@@ -84,7 +84,7 @@ fn lines_ask_for_timelines_as_lists(rt: HostRuntime) -> Result<(), Fail> {
                     Command::TimelineToList { drop, wide },
                     "{line}"
                 );
-                assert_eq!(rt; request.media, media, "{line}");
+                assert_eq!(rt; request.others.media, media, "{line}");
             }
             None => assert!(rt; false, "{line}"),
         }
@@ -254,6 +254,72 @@ fn other_lines_ask_for_no_frames(rt: HostRuntime) -> Result<(), Fail> {
     Ok(())
 }
 
+#[test]
+fn lines_ask_for_edits(rt: HostRuntime) -> Result<(), Fail> {
+    for (line, num, script, media) in [
+        ("edit --script s x.otio", None, "s", None),
+        ("edit x --script - --media m", None, "-", Some("m")),
+        (
+            "edit --script s --media - --rate 25 -o y x",
+            None,
+            "s",
+            Some("-"),
+        ),
+        ("edit a.edl --script s", Some(24), "s", None),
+        (
+            "edit --rate 29.97 --media m --script a.edl b.edl",
+            Some(30_000),
+            "a.edl",
+            Some("m"),
+        ),
+    ] {
+        let words = words_of(rt.alloc(), line)?;
+        let asked = match request_of(words.as_slice()) {
+            Some(request) => {
+                let others = request.others;
+                Some((edited_at(request.command), others.script, others.media))
+            }
+            None => None,
+        };
+        assert_eq!(rt; asked, Some((Some(num), Some(script), media)), "{line}");
+    }
+    Ok(())
+}
+
+// The numerator of the rate that an edit asks for of a list, and none where a timeline is edited.
+fn edited_at(command: Command) -> Option<Option<i64>> {
+    match command {
+        Command::Edit => Some(None),
+        Command::ListEdit { rate } => Some(Some(rate.num)),
+        _ => None,
+    }
+}
+
+#[test]
+fn other_lines_ask_for_no_edits(rt: HostRuntime) -> Result<(), Fail> {
+    for line in [
+        "edit",
+        "edit x",
+        "edit --script s",
+        "edit --script s --script s x",
+        "edit --script -s x",
+        "edit --script - -",
+        "edit --script - --media - x",
+        "edit --script s --media - -",
+        "edit --script s --rate 29.5 x",
+        "edit --script s --from otio x",
+        "edit --script s --to otio x",
+        "edit --script s --count 1 x",
+        "edit --script s --drop x",
+        "edit --script s x y",
+        "convert --script s x",
+        "frames --script s x",
+    ] {
+        assert!(rt; asks_for_nothing(rt.alloc(), line)?, "{line}");
+    }
+    Ok(())
+}
+
 // The numerator of the rate that a command asks for of a list that is conformed, and whether frames
 // are listed.
 fn conformed_at(command: Command) -> Option<(i64, bool)> {
@@ -291,7 +357,7 @@ fn lines_ask_for_conformed_lists(rt: HostRuntime) -> Result<(), Fail> {
     ] {
         let words = words_of(rt.alloc(), line)?;
         let asked = match request_of(words.as_slice()) {
-            Some(request) => Some((request.media, conformed_at(request.command))),
+            Some(request) => Some((request.others.media, conformed_at(request.command))),
             None => None,
         };
         assert_eq!(rt; asked, Some((media, Some((num, listed)))), "{line}");
@@ -303,7 +369,7 @@ fn lines_ask_for_conformed_lists(rt: HostRuntime) -> Result<(), Fail> {
 fn a_media_list_without_effect_is_not_read(rt: HostRuntime) -> Result<(), Fail> {
     let words = words_of(rt.alloc(), "frames --media - --rate 24 -")?;
     match request_of(words.as_slice()) {
-        Some(request) => assert!(rt; request.media.is_none()),
+        Some(request) => assert!(rt; request.others.media.is_none()),
         None => assert!(rt; false),
     }
     Ok(())

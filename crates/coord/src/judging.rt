@@ -115,8 +115,9 @@ fn ranged_fault(item: &Item, ticks: u128) -> Option<ItemFault>
     }
 }
 
-/// The fault of an item; a transition has none.
-fn fault_of(item: &Item) -> Option<ItemFault>
+/// The fault of an item, whatever those below it have: [`ItemFault::NoLength`], else
+/// [`ItemFault::Speed`], else [`ItemFault::Long`]. A transition has none. It takes no memory.
+pub fn item_fault(item: &Item) -> Option<ItemFault>
     requires few { count_of item.now < 2 ^ 32 }
     ensures { result ≡ soundness.fault_of item.now }
 {
@@ -151,7 +152,7 @@ fn judge_item(alloc: Global, item: &Item) -> Result<(), Found>
     ensures ok { OnOk result (IsFaultlessItem item.now) }
     ensures found { IfErr result (IsFoundAt item.now) }
 {
-    match fault_of(item) {
+    match item_fault(item) {
         Some(fault) => Err(Found::At(Vec::new(alloc), fault)),
         None => match item.children() {
             Some(children) => match judge_children(alloc, children) {

@@ -1,5 +1,5 @@
 -- What is known of overlaps, clips that are shown, and sides of clips.
-use Rattle.std.specs.Prelude.{◌≡◌, ℕ, ◌*◌, List, Option}
+use Rattle.std.specs.Prelude.{◌≡◌, ℕ, ◌*◌, List}
 use Rattle.limits.specs.Limits.{most_ticks}
 use Rattle.otio_model.specs.declared.compositions.Clip.{Clip as ClipRow}
 use Rattle.otio_model.specs.declared.compositions.ItemOf.TheVariants.{Clip}
@@ -15,8 +15,6 @@ use Rattle.edl_seats.specs.declared.parts.Part.{Part}
 use Rattle.edl_seats.specs.declared.clips.LapKind.{LapKind}
 use Rattle.edl_seats.specs.declared.clips.LapKind.TheVariants as K
 use Rattle.edl_seats.specs.Ranges.{IsNear}
-use Rattle.json_value.specs.declared.Json.{Json, out-Json}
-use Rattle.coord.specs.Keys.{text_in, member_in}
 
 abbrev pub stated_overlap : Overlap → L.Overlap
 stated_overlap o = record { kind = o.kind.now; before = o.before; after = o.after }
@@ -50,10 +48,3 @@ abbrev pub stated_kind : List ℕ → LapKind → I.Kind
 stated_kind type K.Dissolve = I.Dissolve
 stated_kind type (K.Wipe code) = I.Wipe code
 stated_kind type K.Other = I.Other type
-
--- the characters of a string, and the member of an object
-abbrev pub text_of : Json → Option (List ℕ)
-text_of j = text_in (out-Json j)
-
-abbrev pub member_of : List ℕ → Json → Option Json
-member_of name j = member_in name (out-Json j)

@@ -1,6 +1,6 @@
 //! What lists know of clips and transitions: rows, reels, rates, and kinds of mixes.
 
-ghost use Rattle.std.specs.Prelude.{◌≡◌, ◌-◌, ◌≤◌, not, ◌||◌, IfSome, option_map};
+ghost use Rattle.std.specs.Prelude.{◌≡◌, not, ◌||◌, IfSome};
 ghost use Rattle.std.specs.List.{list_any};
 ghost use Rattle.std.specs.Option.{option_copied};
 ghost use Rattle.media_rows.specs.Rows.{IsRowInRange};
@@ -11,14 +11,14 @@ ghost use Rattle.edl_frames.specs.Seats as seats;
 ghost use Rattle.edl_frames.specs.Sides as sides;
 ghost use Rattle.edl_frames.specs.ChildReasons as reasons;
 ghost use Rattle.edl_seats.specs.Stated.{stated_job};
-ghost use Rattle.edl_seats.specs.Shots.{stated_kind, member_of, text_of};
+ghost use Rattle.edl_seats.specs.Shots.{stated_kind};
 ghost use Rattle.edl_seats.specs.Drafts.{fits_name};
 ghost use Rattle.otio_model.specs.Lengths.{active_media};
 
 use crate::choices::{any_of, both};
 use crate::job::Job;
+use coord::{media_rate, own_reel, wipe_code};
 use edl_list::Layout;
-use json_value::Json;
 use media_rows::MediaRow;
 use otio_model::{Clip, Effect, Media};
 use sequences::Text;
@@ -203,90 +203,4 @@ pub(crate) fn rate_differs(job: &Job<'_>, clip: &Clip, row: Option<&MediaRow>) -
         || reasons.row_differs (stated_job job.now) (option_copied row.entry)) }
 {
     any_of(!has_rate(job, clip), row_differs(job, row))
-}
-
-/// The characters of a string.
-fn text_in(value: &Json) -> Option<&Text>
-    ensures { option_copied result ≡ text_of value.now }
-{
-    match value {
-        Json::Str(text) => Some(text),
-        _ => None,
-    }
-}
-
-/// The value of a member of an object.
-fn member_in<'a>(name: &str, value: &'a Json) -> Option<&'a Json>
-    ensures { option_copied result ≡ member_of name.now value.now }
-{
-    match value {
-        Json::Map(members) => members.get(name),
-        _ => None,
-    }
-}
-
-/// The reel that lists (CMX 3600) know the clip's media by.
-fn own_reel(clip: &Clip) -> Option<&Text>
-    ensures { option_copied result ≡ keys.reel_of clip.now }
-{
-    text_in(member_in("reel", clip.metadata.get("cmx_3600")?)?)
-}
-
-/// The rate of the clip's media: of their available range, else of its source_range.
-fn media_rate(clip: &Clip) -> Option<Rate>
-    ensures { option_map keys.frame_rate result ≡ keys.media_rate clip.now }
-{
-    match clip.available_range() {
-        Some(range) => Some(range.start.rate),
-        None => match clip.source_range {
-            Some(range) => Some(range.start.rate),
-            None => None,
-        },
-    }
-}
-
-/// Whether a byte is a digit.
-fn is_digit(byte: u8) -> bool
-    ensures { result ≡ images.is_digit byte }
-{
-    48 <= byte && byte <= 57
-}
-
-/// The value of a digit.
-fn digit(byte: u8) -> u16
-    requires low { 48 ≤ byte }
-    requires high { byte ≤ 57 }
-    ensures { result ≡ byte - 48 }
-{
-    u16::from(byte - 48)
-}
-
-/// The number that three digits spell.
-fn three_digits(text: &[u8]) -> Option<u16>
-    ensures { result ≡ images.three_digits text.now }
-{
-    if text.len() != 3 {
-        return None;
-    }
-    let (a, b, c) = (text[0], text[1], text[2]);
-    if is_digit(a) && (is_digit(b) && is_digit(c)) {
-        Some(100 * digit(a) + (10 * digit(b) + digit(c)))
-    } else {
-        None
-    }
-}
-
-/// The code of the wipe that a type names.
-fn wipe_code(text: &[u8]) -> Option<u16>
-    ensures { result ≡ images.wipe_code text.now }
-{
-    if text.len() < 11 {
-        return None;
-    }
-    let (head, digits) = text.split_at(11);
-    if head == b"SMPTE_Wipe_".as_slice() {
-        three_digits(digits)
-    } else {
-        None
-    }
 }

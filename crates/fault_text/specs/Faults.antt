@@ -17,7 +17,13 @@ use Rattle.edl_frames.specs.declared.reasons.Why.{Why}
 use Rattle.edl_frames.specs.declared.reasons.Why.TheVariants as why
 use Rattle.edl_frames.specs.declared.reasons.NotCarried.{NotCarried}
 use Rattle.edl_frames.specs.declared.reasons.NotCarried.TheVariants as carried
-use Rattle.fault_text.specs.Reasons.{refusal, number_text, item_text, field_text}
+use Rattle.script_text.specs.declared.commands.ScriptFault.{ScriptFault}
+use Rattle.script_text.specs.declared.commands.ScriptFault.TheVariants as script
+use Rattle.otio_model.specs.declared.editing.EditFault.{EditFault}
+use Rattle.otio_model.specs.declared.editing.EditFault.TheVariants as edit
+use Rattle.undo_log.specs.declared.faults.UndoFault.{UndoFault}
+use Rattle.undo_log.specs.declared.faults.UndoFault.TheVariants as undo
+use Rattle.fault_text.specs.Reasons.{refusal, number_text, item_text, field_text, line_at_text}
 
 -- bytes that are no JSON text
 abbrev pub json_fault_text : JsonFault → List ℕ
@@ -50,6 +56,46 @@ media_fault_text (media.ReelTwice line) =
 media_fault_text (media.UrlTwice line) = refusal (codes "M3") (codes "UrlTwice") (number_text line)
 media_fault_text media.Large = refusal (codes "M6") (codes "Large") []
 media_fault_text media.Memory = []
+
+-- bytes that are no script
+abbrev pub script_fault_text : ScriptFault → List ℕ
+script_fault_text (script.Line line) = refusal (codes "P1") (codes "Line") (number_text line)
+script_fault_text script.Many = refusal (codes "P3") (codes "Many") []
+script_fault_text script.Large = refusal (codes "P4") (codes "Large") []
+script_fault_text script.Memory = []
+
+-- a command, on that line of a script, one of whose times is out of range
+abbrev pub far_command_text : ℕ → List ℕ
+far_command_text line = refusal (codes "P1") (codes "Line") (number_text line)
+
+-- a command, on that line of a script, whose clip is of a reel that isn't listed
+abbrev pub unlisted_text : ℕ → List ℕ
+unlisted_text line = refusal (codes "P2") (codes "NoReel") (number_text line)
+
+-- an edit, on that line of a script, that isn't made
+abbrev pub edit_fault_text : ℕ → EditFault → List ℕ
+edit_fault_text line edit.Place = refusal (codes "E1") (codes "Place") (number_text line)
+edit_fault_text line edit.NotTrack = refusal (codes "E2") (codes "NotTrack") (number_text line)
+edit_fault_text line edit.Negative = refusal (codes "E3") (codes "Negative") (number_text line)
+edit_fault_text line edit.NoItem = refusal (codes "E4") (codes "NoItem") (number_text line)
+edit_fault_text line edit.NotGap = refusal (codes "E5") (codes "NotGap") (number_text line)
+edit_fault_text line edit.Empty = refusal (codes "E6") (codes "Empty") (number_text line)
+edit_fault_text line edit.NoNeighbour =
+    refusal (codes "E11") (codes "NoNeighbour") (number_text line)
+edit_fault_text line edit.Speed = refusal (codes "E12") (codes "Speed") (number_text line)
+edit_fault_text line edit.Phase = refusal (codes "E7") (codes "Phase") (number_text line)
+edit_fault_text line (edit.Unpinned place) =
+    refusal (codes "E8") (codes "Unpinned") (line_at_text line place)
+edit_fault_text line edit.TooLong = refusal (codes "E9") (codes "TooLong") (number_text line)
+edit_fault_text line edit.Items = refusal (codes "E10") (codes "Items") (number_text line)
+edit_fault_text line edit.Memory = []
+
+-- a step in the log, on that line of a script, that isn't made
+abbrev pub undo_fault_text : ℕ → UndoFault → List ℕ
+undo_fault_text line undo.NothingDone =
+    refusal (codes "H1") (codes "NothingDone") (number_text line)
+undo_fault_text line undo.NothingUndone =
+    refusal (codes "H2") (codes "NothingUndone") (number_text line)
 
 -- a list that isn't conformed
 abbrev pub conform_fault_text : ConformFault → List ℕ

@@ -1,7 +1,8 @@
 //! The reason of each fault.
 
 ghost use Rattle.std.specs.Prelude.{◌≡◌, ◌≢◌, [], MatchOption};
-ghost use Rattle.fault_text.specs.Reasons.{reason_text, refusal, number_text, item_text, field_text};
+ghost use Rattle.fault_text.specs.Reasons.{reason_text, refusal, number_text, item_text, field_text, line_at_text};
+ghost use Rattle.fault_text.specs.Faults.{script_fault_text, far_command_text, unlisted_text, edit_fault_text, undo_fault_text};
 ghost use Rattle.fault_text.specs.Faults.{json_fault_text, list_fault_text, media_fault_text, conform_fault_text, fault_text, coord_fault_text, not_carried_text, why_text, no_timecode_text, events_text, reel_text, day_text, not_timeline_text, range_text};
 
 use crate::reasons::{Detail, Reason};
@@ -10,9 +11,11 @@ use edl_frames::{ConformFault, NotCarried, Why};
 use edl_text::EdlFault;
 use json_text::JsonFault;
 use media_list::MediaFault;
-use otio_model::Place;
+use otio_model::{EditFault, Place};
 use schema_rows::SchemaFault;
+use script_text::ScriptFault;
 use sequences::Text;
+use undo_log::UndoFault;
 
 /// What is told of bytes that are no JSON text, with the offset in bytes; `None` exactly for want
 /// of memory.
@@ -62,6 +65,67 @@ pub fn media_reason(fault: MediaFault) -> Option<Reason>
         MediaFault::UrlTwice(line) => Some(line_reason("M3", "UrlTwice", line)),
         MediaFault::Large => Some(bare_reason("M6", "Large")),
         MediaFault::Memory => None,
+    }
+}
+
+/// What is told of bytes that are no script, with the line; `None` exactly for want of memory.
+pub fn script_reason(fault: ScriptFault) -> Option<Reason>
+    ensures { MatchOption result (fault ≡ ScriptFault.Memory)
+        (λ reason. (fault ≢ ScriptFault.Memory) × (reason_text reason ≡ script_fault_text fault)) }
+{
+    match fault {
+        ScriptFault::Line(line) => Some(line_reason("P1", "Line", line)),
+        ScriptFault::Many => Some(bare_reason("P3", "Many")),
+        ScriptFault::Large => Some(bare_reason("P4", "Large")),
+        ScriptFault::Memory => None,
+    }
+}
+
+/// The command on that line of a script has a time out of range.
+pub fn far_command_reason(line: u32) -> Reason
+    ensures { reason_text result ≡ far_command_text line }
+{
+    line_reason("P1", "Line", line)
+}
+
+/// The command on that line of a script puts in a clip of a reel that isn't listed.
+pub fn unlisted_reason(line: u32) -> Reason
+    ensures { reason_text result ≡ unlisted_text line }
+{
+    line_reason("P2", "NoReel", line)
+}
+
+/// What is told of an edit, on that line of a script, that isn't made; of one that would move what
+/// stands behind it with the place of the composition too. `None` exactly for want of memory.
+pub fn edit_reason(line: u32, fault: EditFault) -> Option<Reason>
+    ensures { MatchOption result (fault ≡ EditFault.Memory)
+        (λ reason. (fault ≢ EditFault.Memory)
+        × (reason_text reason ≡ edit_fault_text line fault)) }
+{
+    match fault {
+        EditFault::Place => Some(line_reason("E1", "Place", line)),
+        EditFault::NotTrack => Some(line_reason("E2", "NotTrack", line)),
+        EditFault::Negative => Some(line_reason("E3", "Negative", line)),
+        EditFault::NoItem => Some(line_reason("E4", "NoItem", line)),
+        EditFault::NotGap => Some(line_reason("E5", "NotGap", line)),
+        EditFault::Empty => Some(line_reason("E6", "Empty", line)),
+        EditFault::NoNeighbour => Some(line_reason("E11", "NoNeighbour", line)),
+        EditFault::Speed => Some(line_reason("E12", "Speed", line)),
+        EditFault::Phase => Some(line_reason("E7", "Phase", line)),
+        EditFault::Unpinned(place) => Some(line_at_reason("E8", "Unpinned", line, place)),
+        EditFault::TooLong => Some(line_reason("E9", "TooLong", line)),
+        EditFault::Items => Some(line_reason("E10", "Items", line)),
+        EditFault::Memory => None,
+    }
+}
+
+/// What is told of a step in the log, on that line of a script, that isn't made.
+pub fn undo_reason(line: u32, fault: UndoFault) -> Reason
+    ensures { reason_text result ≡ undo_fault_text line fault }
+{
+    match fault {
+        UndoFault::NothingDone => line_reason("H1", "NothingDone", line),
+        UndoFault::NothingUndone => line_reason("H2", "NothingUndone", line),
     }
 }
 
@@ -233,6 +297,17 @@ fn line_reason(code: &'static str, word: &'static str, line: u32) -> Reason
     ensures { reason_text result ≡ refusal code.now word.now (number_text line) }
 {
     number_reason(code, word, u64::from(line))
+}
+
+// A fault at a line, of the item at a place.
+fn line_at_reason(code: &'static str, word: &'static str, line: u32, place: Place) -> Reason
+    ensures { reason_text result ≡ refusal code.now word.now (line_at_text line place) }
+{
+    Reason {
+        code,
+        word,
+        detail: Detail::LineAt(line, place),
+    }
 }
 
 // A fault of the item at a place.

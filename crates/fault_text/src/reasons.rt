@@ -2,7 +2,7 @@
 
 ghost use Rattle.std.specs.Prelude.{◌≡◌};
 ghost use Rattle.dev_io.specs.Buffer.{HandsOver};
-ghost use Rattle.fault_text.specs.Reasons.{detail_text, number_text, item_text, field_text, reason_text};
+ghost use Rattle.fault_text.specs.Reasons.{detail_text, number_text, item_text, field_text, line_at_text, reason_text};
 
 use crate::places::{put_number, put_place};
 use dev_io::{Out, OutBuffer};
@@ -22,6 +22,8 @@ pub enum Detail {
     At(Place),
     /// That member of the item at the place.
     Member(Place, Text),
+    /// A line, counted from 1, and the item at the place that it speaks of.
+    LineAt(u32, Place),
 }
 
 /// What a message tells of a fault behind the name of the file.
@@ -60,6 +62,7 @@ fn put_detail<W: Out>(buffer: &mut OutBuffer, out: &mut W, detail: &Detail)
         Detail::Number(number) => put_at(buffer, out, *number),
         Detail::At(place) => put_item(buffer, out, place),
         Detail::Member(place, member) => put_member(buffer, out, place, member.as_str()),
+        Detail::LineAt(line, place) => put_line_at(buffer, out, *line, place),
     }
 }
 
@@ -90,4 +93,15 @@ fn put_member<W: Out>(buffer: &mut OutBuffer, out: &mut W, place: &Place, member
     put_place(buffer, out, place);
     buffer.put(out, b" ");
     buffer.put(out, member.as_bytes());
+}
+
+// Hands over a line and the place of an item.
+fn put_line_at<W: Out>(buffer: &mut OutBuffer, out: &mut W, line: u32, place: &Place)
+    ensures { HandsOver W.known W.faults out.old out.new buffer.old buffer.new
+        (line_at_text line place.now) }
+{
+    buffer.put(out, b" at ");
+    put_number(buffer, out, u64::from(line));
+    buffer.put(out, b" ");
+    put_place(buffer, out, place);
 }

@@ -12,7 +12,7 @@ mod objects;
 mod rows;
 mod times;
 
-pub use objects::write_object;
+pub use objects::{write_object, write_timeline};
 
 #[cfg(test)]
 mod tests;

@@ -29,6 +29,18 @@ pub fn write_object<W: Out>(object: &Object, out: &mut W) -> Result<(), WriteFau
     buffer.flush(out)
 }
 
+/// The same of a timeline.
+pub fn write_timeline<W: Out>(timeline: &Timeline, out: &mut W) -> Result<(), WriteFault>
+    ensures told { Tells (SendsAll (layout (timeline_json timeline.now)) result) (W.known out.old)
+        (W.known out.new) }
+    ensures cause { HasCause (W.faults out.old) (W.faults out.new) result }
+{
+    let mut buffer = OutBuffer::new();
+    put_timeline(&mut buffer, out, timeline, &top());
+    buffer.put(out, b"\n");
+    buffer.flush(out)
+}
+
 #[cycle(object)]
 fn put_root<W: Out>(buffer: &mut OutBuffer, out: &mut W, object: &Object, level: &Level<'_>)
     ensures { HandsOver W.known W.faults out.old out.new buffer.old buffer.new

@@ -6,6 +6,7 @@ use dev_io::{RealFiles, RealOut, write_all};
 use otio_tools::{Status, run};
 use std::fs::{File, OpenOptions};
 use std::io::ErrorKind;
+use std::mem::forget;
 use std::os::fd::AsRawFd;
 use std::process::ExitCode;
 use std::{env, io};
@@ -27,7 +28,17 @@ fn main(rt: HostRuntime) -> ExitCode {
     };
     let mut files = RealFiles::new(rt);
     let mut out = RealOut::new(rt, rt.stdout());
-    let status = run(rt.alloc(), &words, &mut files, &mut out, &mut err);
+    let mut desk = None;
+    let status = run(
+        rt.alloc(),
+        &words,
+        &mut files,
+        &mut out,
+        &mut err,
+        &mut desk,
+    );
+    // What is on the desk isn't freed: nothing is left to do but to end.
+    forget(desk);
     ExitCode::from(status.code())
 }
 

@@ -152,6 +152,10 @@ pub transitions_shown : (xs : List (ItemOf Listed)) (l : Listed) (k : Kept) → 
 transitions_shown xs l k e h = ap (λ (k : Kept). k.transitions) h
     ∙ ap (λ ys. capped_count (transitions_in ys)) (sym (shown xs l e))
 
+pub reach_shown : (xs : List (ItemOf Listed)) (l : Listed) (k : Kept) → listed xs ≡ l
+    → k ≡ kept_of xs → k.reach ≡ reach_in (items_of l)
+reach_shown xs l k e h = ap (λ (k : Kept). k.reach) h ∙ ap reach_in (sym (shown xs l e))
+
 -- sums of fewer than 2^32 items are kept whole
 pub added_whole : (l : Listed) (t : Totals) → count l < 2 ^ 32 → t ≡ totals (lengths l)
     → t.ticks ≡ added (lengths l)

@@ -2,10 +2,10 @@
 use Rattle.std.proofs.Common.{◌≡◌, ℕ, ◌<◌, ◌+◌, ◌-◌, ◌*◌, ◌/◌, ◌≤◌, zero, suc, List, [], ◌∷◌, ◌++◌}
 use Rattle.std.proofs.Common.{◌⊎◌, inl, inr, refl, ap, sym, ◌∙◌, length, take, drop, get_or, subst}
 use Rattle.std.proofs.Common.{arith, length-append, append_assoc, append-nil, vec_len, Vec, Global}
+use Rattle.std.proofs.Common.{drop-drop}
 use Rattle.std.proofs.lemmas.List.{length-take-le, length-drop, take-append-drop, drop-append-le}
-use Rattle.std.proofs.lemmas.List.{take-append-le, reverse-reverse}
-use Rattle.std.specs.Prelude.{reverse}
-use Rattle.std.proofs.Math.Seq.{take-append_seam, take-append-add, drop-append_seam}
+use Rattle.std.proofs.lemmas.List.{take-append-le, take_more, get_or-drop}
+use Rattle.std.proofs.Math.Seq.{take-append-add}
 use Rattle.std.proofs.Math.Seq.{drop-append-add, take-add}
 use Rattle.otio_model.specs.Edits.{replaced}
 use Rattle.otio_model.specs.declared.compositions.ItemOf.{ItemOf}
@@ -84,22 +84,20 @@ three first end ps h =
       behind = ap (λ k. drop k ps) n;
     }
 
--- taken out first, and put in afterwards
-pub replaced_twice : (first end : ℕ) (ps new mid last : List Piece) → first ≤ end → end ≤ length ps
-    → mid ≡ replaced first (end - first) [] ps → last ≡ replaced first 0 new mid
+-- pieces of which some have no items any more
+pub record Poured (first end : ℕ) (ps qs : List Piece) : Type 0 where
+  pub front : take first qs ≡ take first ps
+  pub back : drop end qs ≡ drop end ps
+
+-- those are replaced
+pub replaced_between : (first end : ℕ) (ps new rest last : List Piece) → first ≤ end
+    → Poured first end ps rest → last ≡ replaced first (end - first) new rest
     → last ≡ take first ps ++ (new ++ drop end ps)
-replaced_twice first end ps new mid last h k e f =
-    let t = three first end ps h in
-    let a = take first ps in
-    let d = drop end ps in
-    let long : length a ≡ first = length-take-le first ps (omega arith) in
-    let m : mid ≡ a ++ d = e ∙ ap (λ l. a ++ l) t.behind in
-    let zero_more : first + 0 ≡ first = omega arith in
-    let front : take first mid ≡ a = ap (take first) m ∙ ap (λ n. take n (a ++ d)) (sym long)
-    ∙ take-append_seam a d in
-    let rear : drop (first + 0) mid ≡ d = ap (λ n. drop n mid) zero_more ∙ ap (drop first) m
-    ∙ ap (λ n. drop n (a ++ d)) (sym long) ∙ drop-append_seam a d in
-    f ∙ ap (λ l. l ++ (new ++ drop (first + 0) mid)) front ∙ ap (λ l. a ++ (new ++ l)) rear
+replaced_between first end ps new rest last h p e =
+    let n : first + (end - first) ≡ end = omega arith in
+    e ∙ ap (λ l. l ++ (new ++ drop (first + (end - first)) rest)) p.front
+    ∙ ap (λ m. take first ps ++ (new ++ drop m rest)) n
+    ∙ ap (λ l. take first ps ++ (new ++ l)) p.back
 
 -- the new pieces in their place are pieces
 pub are_new : (first end at count put before : ℕ) (ps new : List Piece) (xs : List (ItemOf Listed))
@@ -158,11 +156,6 @@ length_replaced at count put xs h =
       length-drop (at + count) xs,
     )
 
-pub length_without : (first end : ℕ) (ps mid : List Piece) → first ≤ end → end ≤ length ps
-    → mid ≡ replaced first (end - first) [] ps → length mid ≤ length ps
-length_without first end ps mid h k e =
-    omega (arith, ap length e, length_replaced first (end - first) [] ps (omega arith))
-
 pub part_short : (first end : ℕ) (ps : List Piece) → first ≤ end
     → length (all_items (part first end ps)) ≤ length (all_items ps)
 part_short first end ps h =
@@ -175,63 +168,47 @@ part_short first end ps h =
       length-append (all_items (part first end ps)) (all_items (drop end ps)),
     )
 
--- what is known while items in pieces are replaced: the pieces all (ps), those that are touched
--- (touched), their items (mid), and what those come to
-pub record Works (ps all touched : List Piece) (mid : List (ItemOf Listed))
+-- what is known while items in pieces (ps) are replaced: those of the window (mid), and what they
+-- come to
+pub record Works (ps : List Piece) (mid : List (ItemOf Listed))
     (at count put first end before : ℕ) : Type 0 where
-  pub same : all ≡ ps
   pub window : IsWindow ps at count put first end before
-  pub is_touched : touched ≡ part first end ps
   pub is_mid : mid ≡ all_items (part first end ps)
   pub long : length mid ≡ length (all_items (part first end ps))
   pub short : length mid ≤ 2 * count + 384
   pub there : (at - before) + count ≤ length mid
 
-pub works : {ps seen all touched turned : List Piece} {mid : List (ItemOf Listed)}
-    {at count long first end before : ℕ} (put : Vec (ItemOf Listed) Global) → all ≡ ps → seen ≡ ps
-    → long ≡ vec_len put → IsWindow seen at count long first end before
-    → touched ≡ take (end - first) (drop first all) → turned ≡ reverse touched
-    → mid ≡ all_items (reverse turned)
-    → Works ps all touched mid at count (length put.items) first end before
-works {ps = ps} {seen = seen} {touched = touched} {mid = mid} {at = at} {count = count}
-    {long = long} {first = first} {end = end} {before = before} put e same_seen counted ww t r m =
+pub works : {ps seen : List Piece} {mid : List (ItemOf Listed)} {at count long first end before : ℕ}
+    (put : Vec (ItemOf Listed) Global) → seen ≡ ps → long ≡ vec_len put
+    → IsWindow seen at count long first end before → mid ≡ all_items (part first end ps)
+    → Works ps mid at count (length put.items) first end before
+works {ps = ps} {seen = seen} {mid = mid} {at = at} {count = count} {long = long} {first = first}
+    {end = end} {before = before} put same_seen counted ww m =
     let same_long : long ≡ length put.items = omega (arith, counted, put.ok) in
     let w : IsWindow ps at count (length put.items) first end before =
     subst (λ q. IsWindow q at count (length put.items) first end before) same_seen
     (subst (λ n. IsWindow seen at count n first end before) same_long ww) in
-    let tt' : touched ≡ part first end ps = t ∙ ap (λ l. take (end - first) (drop first l)) e in
-    let mm : mid ≡ all_items (part first end ps) = m ∙ ap (λ l. all_items (reverse l)) r
-    ∙ ap all_items (reverse-reverse touched) ∙ ap all_items tt' in
     record {
-      same = e;
       window = w;
-      is_touched = tt';
-      is_mid = mm;
-      long = ap length mm;
-      short = omega (arith, ap length mm, w.short);
-      there = omega (arith, ap length mm, w.ends, w.starts);
+      is_mid = m;
+      long = ap length m;
+      short = omega (arith, ap length m, w.short);
+      there = omega (arith, ap length m, w.ends, w.starts);
     }
 
--- some were taken out, and none put in
-pub taken_out : {new out : List Piece} (ps : List Piece) (first count : ℕ)
-    → new ≡ replaced first count out ps → out ≡ [] → new ≡ replaced first count [] ps
-taken_out ps first count e f = e ∙ ap (λ l. replaced first count l ps) f
-
 -- the whole list afterwards
-pub items_after : (ps all touched new without last : List Piece)
-    (mid put after : List (ItemOf Listed)) (at count n first end before : ℕ)
-    → Works ps all touched mid at count n first end before
-    → without ≡ replaced first (end - first) [] all → after ≡ replaced (at - before) count put mid
-    → IsCut after new → last ≡ replaced first 0 new without
+pub items_after : (ps rest new last : List Piece) (mid put after : List (ItemOf Listed))
+    (at count n first end before : ℕ) → Works ps mid at count n first end before
+    → Poured first end ps rest → after ≡ replaced (at - before) count put mid → IsCut after new
+    → last ≡ replaced first (end - first) new rest
     → all_items last ≡ replaced at count put (all_items ps)
-items_after ps all touched new without last mid put after at count n first end before w e f c g =
+items_after ps rest new last mid put after at count n first end before w p f c g =
     let t = three first end ps w.window.order in
     let a = all_items (take first ps) in
     let m = all_items (part first end ps) in
     let d = all_items (drop end ps) in
     let l : last ≡ take first ps ++ (new ++ drop end ps) =
-    replaced_twice first end ps new without last w.window.order w.window.within (e
-    ∙ ap (replaced first (end - first) []) w.same) g in
+    replaced_between first end ps new rest last w.window.order p g in
     let i : all_items new ≡ replaced (at - length a) count put m = c.items ∙ f
     ∙ ap (replaced (at - before) count put) w.is_mid
     ∙ ap (λ b. replaced (at - b) count put m) (sym w.window.counted) in
@@ -243,23 +220,21 @@ items_after ps all touched new without last mid put after at count n first end b
     (omega (arith, w.window.counted, w.window.ends))
     ∙ ap (replaced at count put) (sym t.items)
 
-pub pieces_after : (ps all touched new without last : List Piece)
-    (mid put after : List (ItemOf Listed)) (at count first end before : ℕ)
-    → Works ps all touched mid at count (length put) first end before → ArePieces ps
-    → without ≡ replaced first (end - first) [] all → after ≡ replaced (at - before) count put mid
-    → IsCut after new → last ≡ replaced first 0 new without → ArePieces last
-pieces_after ps all touched new without last mid put after at count first end before w a e f c g =
+pub pieces_after : (ps rest new last : List Piece) (mid put after : List (ItemOf Listed))
+    (at count first end before : ℕ) → Works ps mid at count (length put) first end before
+    → ArePieces ps → Poured first end ps rest → after ≡ replaced (at - before) count put mid
+    → IsCut after new → last ≡ replaced first (end - first) new rest → ArePieces last
+pieces_after ps rest new last mid put after at count first end before w a p f c g =
     let l : last ≡ take first ps ++ (new ++ drop end ps) =
-    replaced_twice first end ps new without last w.window.order w.window.within (e
-    ∙ ap (replaced first (end - first) []) w.same) g in
+    replaced_between first end ps new rest last w.window.order p g in
     subst ArePieces (sym l)
     (are_new first end at count (length put) before ps new after w.window a c
     (omega (arith, ap length f, length_replaced (at - before) count put mid w.there, w.long)))
 
-pub taken_after : (ps all touched : List Piece) (mid got : List (ItemOf Listed))
-    (at count n first end before : ℕ) → Works ps all touched mid at count n first end before
+pub taken_after : (ps : List Piece) (mid got : List (ItemOf Listed))
+    (at count n first end before : ℕ) → Works ps mid at count n first end before
     → got ≡ take count (drop (at - before) mid) → got ≡ take count (drop at (all_items ps))
-taken_after ps all touched mid got at count n first end before w g =
+taken_after ps mid got at count n first end before w g =
     let t = three first end ps w.window.order in
     let a = all_items (take first ps) in
     let m = all_items (part first end ps) in
@@ -272,20 +247,55 @@ taken_after ps all touched mid got at count n first end before w g =
     ∙ ap (λ l. take count (drop at l)) (sym t.items)
 
 -- how many items are poured
-pub poured : (ps seen all touched turned : List Piece) (at count long first end before : ℕ)
-    → all ≡ ps → seen ≡ ps → IsWindow seen at count long first end before
-    → touched ≡ take (end - first) (drop first all) → turned ≡ reverse touched
-    → length (all_items (reverse turned)) ≤ 2 * count + 384
-poured ps seen all touched turned at count long first end before e same_seen w t r =
-    let tt' : touched ≡ part first end seen = t
-    ∙ ap (λ l. take (end - first) (drop first l)) (e ∙ sym same_seen) in
-    omega (
-      arith,
-      ap (λ l. length (all_items (reverse l))) r,
-      ap (λ l. length (all_items l)) (reverse-reverse touched),
-      ap (λ l. length (all_items l)) tt',
-      w.short,
-    )
+pub poured : (ps seen : List Piece) (at count long first end before : ℕ) → seen ≡ ps
+    → IsWindow seen at count long first end before
+    → length (all_items (part first end ps)) ≤ 2 * count + 384
+poured ps seen at count long first end before s w =
+    omega (arith, ap (λ l. length (all_items (part first end l))) s, w.short)
+
+pub drop_one_more : {A : Type 0} (xs ys : List A) (i : ℕ) → drop i xs ≡ drop i ys
+    → drop (i + 1) xs ≡ drop (i + 1) ys
+drop_one_more xs ys i e = sym (drop-drop 1 i xs) ∙ ap (drop 1) e ∙ drop-drop 1 i ys
+
+-- one more piece (p) is poured
+pub record OneMorePoured (ps : List Piece) (first i end : ℕ) (p : Piece) : Type 0 where
+  pub items : all_items (part first (i + 1) ps) ≡ all_items (part first i ps) ++ p.items.items
+  pub short : length (all_items (part first i ps)) + length p.items.items
+      ≤ length (all_items (part first end ps))
+
+pub one_more_poured : (ps qs : List Piece) (first i end : ℕ) (p : Piece) → first ≤ i → i < end
+    → end ≤ length ps → drop i qs ≡ drop i ps → p ≡ get_or qs i p → OneMorePoured ps first i end p
+one_more_poured ps qs first i end p h k long e f =
+    let rest = drop first ps in
+    let n : first + (i - first) ≡ i = omega arith in
+    let m : i + 1 - first ≡ i - first + 1 = omega arith in
+    let o : end - first ≡ i + 1 - first + (end - (i + 1)) = omega arith in
+    let here : p ≡ get_or rest (i - first) p =
+    f ∙ ap (λ j. get_or qs j p) (sym (plus_zero i)) ∙ sym (get_or-drop i qs 0 p)
+    ∙ ap (λ l. get_or l 0 p) e ∙ get_or-drop i ps 0 p
+    ∙ ap (λ j. get_or ps j p) (plus_zero i ∙ sym n) ∙ sym (get_or-drop first ps (i - first) p) in
+    let more : all_items (part first (i + 1) ps) ≡ all_items (part first i ps) ++ p.items.items =
+    ap (λ j. all_items (take j rest)) m
+    ∙ ap all_items (take_more rest (i - first) p (omega (arith, length-drop first ps))
+    ∙ ap (λ y. part first i ps ++ y ∷ []) (sym here))
+    ∙ all_items-append (part first i ps) (p ∷ [])
+    ∙ ap (λ l. all_items (part first i ps) ++ l) (append-nil p.items.items) in
+    let others = take (end - (i + 1)) (drop (i + 1 - first) rest) in
+    record {
+      items = more;
+      short = omega (
+        arith,
+        ap length more,
+        length-append (all_items (part first i ps)) p.items.items,
+        ap (λ j. length (all_items (take j rest))) o,
+        ap (λ l. length (all_items l)) (take-add (i + 1 - first) (end - (i + 1)) rest),
+        ap length (all_items-append (part first (i + 1) ps) others),
+        length-append (all_items (part first (i + 1) ps)) (all_items others),
+      );
+    }
+  where
+    plus_zero : (j : ℕ) → j + 0 ≡ j
+    plus_zero j = omega arith
 
 pub taken_short : (ps : List Piece) (i : ℕ) → length (all_items (take i ps)) ≤ length (all_items ps)
 taken_short ps i =

@@ -5,7 +5,7 @@ ghost use Rattle.std.specs.Prelude.{drop, reverse, vec_len, length};
 ghost use Rattle.std.specs.Vec.{vec_capacity};
 ghost use Rattle.otio_model.specs.Edits.{replaced};
 ghost use Rattle.otio_model.specs.Pieces.{all_items, AllFresh, AreMade, ArePieces, IsCut, IsEnd};
-ghost use Rattle.otio_model.specs.Pieces.{IsOpen, IsStart, IsWindow};
+ghost use Rattle.otio_model.specs.Pieces.{IsOpen, IsStart, IsWindow, part};
 
 use crate::kept::NO_ITEMS;
 use crate::lists::{Item, Piece, kept_items};
@@ -13,16 +13,21 @@ use crate::moves;
 use crate::numbers::AT_FRONT;
 use std::alloc::{AllocError, Global};
 
-/// The items of pieces that lie in the other order.
-pub(crate) fn pour(pieces: &mut Vec<Piece>, mid: &mut Vec<Item>)
+/// Moves the items of some pieces into an empty vector; the pieces stay there, without items.
+fn pour(pieces: &mut Vec<Piece>, first: usize, end: usize, mid: &mut Vec<Item>)
+    requires order { first ≤ end }
+    requires within { end ≤ vec_len pieces.old }
     requires empty { mid.old.items ≡ [] }
-    requires room { length (all_items (reverse pieces.old.items)) ≤ vec_capacity mid.old }
-    ensures items { mid.new.items ≡ all_items (reverse pieces.old.items) }
-    ensures pieces { pieces.new.items ≡ [] }
+    requires room { length (all_items (part first end pieces.old.items)) ≤ vec_capacity mid.old }
+    ensures items { mid.new.items ≡ all_items (part first end pieces.old.items) }
+    ensures front { take first pieces.new.items ≡ take first pieces.old.items }
+    ensures back { drop end pieces.new.items ≡ drop end pieces.old.items }
+    ensures len { vec_len pieces.new ≡ vec_len pieces.old }
+    ensures capacity { vec_capacity pieces.new ≡ vec_capacity pieces.old }
     ensures room { vec_capacity mid.old ≤ vec_capacity mid.new }
 {
-    'pieces: while let Some(mut piece) = pieces.pop() {
-        mid.append(&mut piece.items).unwrap();
+    'pieces: for number in first..end {
+        mid.append(&mut pieces[number].items).unwrap();
     }
 }
 
@@ -187,13 +192,12 @@ pub(crate) fn replace_pieces(
     ensures movable { vec_len fresh.new ≤ vec_capacity made.new }
 {
     let (first, end, before) = window(pieces.as_slice(), at, count, put.len());
-    moves::into_room(pieces, outer);
-    moves::replace(pieces, first, end - first, made, outer);
-    outer.reverse();
-    pour(outer, mid);
+    pour(pieces, first, end, mid);
     moves::replace(mid, at - before, count, put, taken);
     cut(mid, made, fresh);
-    moves::replace(pieces, first, 0, made, outer);
+    moves::with_room(pieces, made.len(), outer);
+    moves::replace(pieces, first, end - first, made, outer);
+    outer.clear();
 }
 
 /// So many empty pieces.

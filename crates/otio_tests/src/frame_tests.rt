@@ -1,6 +1,6 @@
 use crate::runs::{Case, check_case, check_cut_off, check_refused, check_usage, status_of};
+use crate::timelines::three_tracks;
 use dev_io::{MemFiles, MemOut};
-use itoa::Buffer;
 use otio_tools::Status;
 use std::alloc::{AllocError, Global};
 use std::test::Fail;
@@ -19,78 +19,6 @@ const AT_THE_CUT: &[u8] = b"86442 0 mix(dissolve 0/1 url:\"a.mov\"@66 url:\"b.mo
 86442 1 -
 86442 2 url:\"a.wav\"@42
 ";
-
-// The JSON of a time at 24 frames a second.
-fn put_time(text: &mut String, frames: u32) -> Result<(), AllocError> {
-    let mut digits = Buffer::new();
-    text.push_str("{\"OTIO_SCHEMA\":\"RationalTime.1\",\"rate\":24,\"value\":")?;
-    text.push_str(digits.format(frames))?;
-    text.push_str("}")
-}
-
-fn put_span(text: &mut String, start: u32, length: u32) -> Result<(), AllocError> {
-    text.push_str("{\"OTIO_SCHEMA\":\"TimeRange.1\",\"start_time\":")?;
-    put_time(text, start)?;
-    text.push_str(",\"duration\":")?;
-    put_time(text, length)?;
-    text.push_str("}")
-}
-
-fn put_gap(text: &mut String, length: u32) -> Result<(), AllocError> {
-    text.push_str("{\"OTIO_SCHEMA\":\"Gap.1\",\"source_range\":")?;
-    put_span(text, 0, length)?;
-    text.push_str("}")
-}
-
-// A clip of media that are there from 0 for 240 frames.
-fn put_clip(text: &mut String, start: u32, length: u32, url: &str) -> Result<(), AllocError> {
-    text.push_str("{\"OTIO_SCHEMA\":\"Clip.2\",\"source_range\":")?;
-    put_span(text, start, length)?;
-    text.push_str(
-        ",\"media_references\":{\"DEFAULT_MEDIA\":{\"OTIO_SCHEMA\":\"ExternalReference.1\",\"available_range\":",
-    )?;
-    put_span(text, 0, 240)?;
-    text.push_str(",\"target_url\":\"")?;
-    text.push_str(url)?;
-    text.push_str("\"}}")
-}
-
-// Two clips of 48 frames with a dissolve of 12 between them.
-fn put_dissolve(text: &mut String) -> Result<(), AllocError> {
-    text.push_str("{\"OTIO_SCHEMA\":\"Track.1\",\"children\":[")?;
-    put_clip(text, 24, 48, "a.mov")?;
-    text.push_str("},{\"OTIO_SCHEMA\":\"Transition.1\",\"in_offset\":")?;
-    put_time(text, 6)?;
-    text.push_str(",\"out_offset\":")?;
-    put_time(text, 6)?;
-    text.push_str("},")?;
-    put_clip(text, 100, 48, "b.mov")?;
-    text.push_str("}]}")
-}
-
-// A gap of 72 frames and a clip of 12 frames at twice its speed.
-fn put_fast(text: &mut String) -> Result<(), AllocError> {
-    text.push_str("{\"OTIO_SCHEMA\":\"Track.1\",\"children\":[")?;
-    put_gap(text, 72)?;
-    text.push_str(",")?;
-    put_clip(text, 40, 12, "c.mov")?;
-    text.push_str(",\"effects\":[{\"OTIO_SCHEMA\":\"LinearTimeWarp.1\",\"time_scalar\":2.0}]}]}")
-}
-
-// A timeline that starts at frame 86400, of the two tracks above and one of sound.
-fn three_tracks(alloc: Global) -> Result<String, AllocError> {
-    let mut text = String::new(alloc);
-    text.push_str("{\"OTIO_SCHEMA\":\"Timeline.1\",\"global_start_time\":")?;
-    put_time(&mut text, 86400)?;
-    text.push_str(",\"tracks\":{\"OTIO_SCHEMA\":\"Stack.1\",\"children\":[")?;
-    put_dissolve(&mut text)?;
-    text.push_str(",")?;
-    put_fast(&mut text)?;
-    text.push_str(",{\"OTIO_SCHEMA\":\"Track.1\",\"kind\":\"Audio\",\"children\":[")?;
-    put_clip(&mut text, 0, 96, "a.wav")?;
-    text.push_str("}]}]}}")?;
-    Ok(text)
-}
 
 fn some_files(alloc: Global) -> Result<MemFiles, AllocError> {
     let mut files = MemFiles::new(alloc);

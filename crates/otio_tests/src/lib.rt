@@ -19,4 +19,8 @@ mod run_tests;
 #[cfg(test)]
 mod runs;
 #[cfg(test)]
+mod script_tests;
+#[cfg(test)]
 mod texts;
+#[cfg(test)]
+mod timelines;

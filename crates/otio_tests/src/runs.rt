@@ -5,6 +5,7 @@ ghost use Rattle.dev_io.specs.Calls.{IsFresh};
 use dev_io::{MemFiles, MemOut, Out};
 use otio_tools::{Status, run};
 use std::alloc::{AllocError, Global};
+use std::mem::forget;
 use std::process::Abort;
 use std::test::Fail;
 
@@ -28,7 +29,10 @@ pub fn status_of<W: Out, E: Out>(
     for word in line.split_whitespace() {
         words.push(String::from_str(alloc, word)?)?;
     }
-    Ok(run(alloc, &words, files, out, err))
+    let mut desk = None;
+    let status = run(alloc, &words, files, out, err, &mut desk);
+    forget(desk);
+    Ok(status)
 }
 
 /// Holds the status, the output and the message of a command line against those of the case.

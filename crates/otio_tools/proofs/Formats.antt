@@ -20,12 +20,15 @@ use Rattle.schema_law.proofs.Verdicts.{folded_once, has_one_fault, is_never_both
 use Rattle.media_list.specs.Lists.{IsMediaList}
 use Rattle.media_list.proofs.OneOutcome.{fault_once as media_fault_once, list_or_fault as media_or_fault}
 use Rattle.media_rows.specs.declared.row.MediaRow.{MediaRow}
-use Rattle.fault_text.specs.Faults.{json_fault_text, list_fault_text, media_fault_text, fault_text}
-use Rattle.source_files.specs.Formats.{IsJson, IsObject, IsTimeline, IsNoTimeline, Holds, Refuses, RefusesJson, RefusesObject, RefusesTimeline, RefusesList, RefusesMedia}
+use Rattle.fault_text.specs.Faults.{json_fault_text, list_fault_text, media_fault_text, fault_text, script_fault_text}
+use Rattle.script_text.specs.Scripts.{IsScript}
+use Rattle.script_text.specs.declared.commands.Command.{Command}
+use Rattle.script_text.proofs.Once.{fault_once as script_fault_once, never_both as script_or_fault}
+use Rattle.source_files.specs.Formats.{IsJson, IsObject, IsTimeline, IsNoTimeline, Holds, Refuses, RefusesJson, RefusesObject, RefusesTimeline, RefusesList, RefusesMedia, RefusesScript}
 use Rattle.source_files.specs.declared.kinds.Kind.{Kind}
 use Rattle.source_files.specs.declared.kinds.Kind.TheVariants as kinds
 use Rattle.source_files.specs.declared.kinds.Content.{Content}
-use Rattle.source_files.specs.declared.kinds.Content.TheVariants.{Value, Root, Film, Events, Rows}
+use Rattle.source_files.specs.declared.kinds.Content.TheVariants.{Value, Root, Film, Events, Rows, Commands}
 
 json_reason_once : (bytes v w : List ℕ) → RefusesJson bytes v → RefusesJson bytes w → v ≡ w
 json_reason_once bytes v w p q =
@@ -114,7 +117,8 @@ object_json_once bytes a b p q = one_json (upgraded p.value) a b p.stands (stand
 
 timeline_json : (t : Timeline) → json_of (ObjectOfTimeline t)
     ≡ object_step (Object-F.Timeline (bare t))
-unfolding Rattle.otio_model.specs.declared.roots.Object.TheViews.roll-Object denote.Hole.Carrier.roll
+unfolding Rattle.otio_model.specs.declared.roots.Object.TheViews.roll-Object
+    denote.Hole.Carrier.roll
 timeline_json t = fold-roll-Object in_json.A in_json.B in_json.object in_json.collection
     (Object-F.Timeline t) ∙ in_json.spare t
 
@@ -171,6 +175,14 @@ media_or_reason : (bytes why : List ℕ) (rows : List MediaRow) → IsMediaList 
     → RefusesMedia bytes why → ⊥
 media_or_reason bytes why rows is p = media_or_fault bytes rows p.0 is p.1
 
+script_reason_once : (bytes v w : List ℕ) → RefusesScript bytes v → RefusesScript bytes w → v ≡ w
+script_reason_once bytes v w p q =
+    p.2 ∙ ap script_fault_text (script_fault_once bytes p.0 q.0 p.1 q.1) ∙ sym q.2
+
+script_or_reason : (bytes why : List ℕ) (commands : List Command) → IsScript bytes commands
+    → RefusesScript bytes why → ⊥
+script_or_reason bytes why commands is p = script_or_fault bytes commands p.0 is p.1
+
 -- bytes are refused for one reason
 pub reason_once : (kind : Kind) (bytes v w : List ℕ) → Refuses kind bytes v → Refuses kind bytes w
     → v ≡ w
@@ -179,6 +191,7 @@ reason_once kinds.Object bytes v w p q = object_reason_once bytes v w p q
 reason_once kinds.Timeline bytes v w p q = timeline_reason_once bytes v w p q
 reason_once (kinds.List rate) bytes v w p q = list_reason_once rate bytes v w p q
 reason_once kinds.Media bytes v w p q = media_reason_once bytes v w p q
+reason_once kinds.Script bytes v w p q = script_reason_once bytes v w p q
 
 -- bytes that hold something are not refused
 pub held_or_refused : (kind : Kind) (bytes why : List ℕ) (content : Content)
@@ -188,25 +201,37 @@ held_or_refused kinds.Json bytes why (Root object) h r = h
 held_or_refused kinds.Json bytes why (Film timeline) h r = h
 held_or_refused kinds.Json bytes why (Events list) h r = h
 held_or_refused kinds.Json bytes why (Rows rows) h r = h
+held_or_refused kinds.Json bytes why (Commands commands) h r = h
 held_or_refused kinds.Object bytes why (Root object) h r = object_or_reason bytes why object h r
 held_or_refused kinds.Object bytes why (Value value) h r = h
 held_or_refused kinds.Object bytes why (Film timeline) h r = h
 held_or_refused kinds.Object bytes why (Events list) h r = h
 held_or_refused kinds.Object bytes why (Rows rows) h r = h
+held_or_refused kinds.Object bytes why (Commands commands) h r = h
 held_or_refused kinds.Timeline bytes why (Film timeline) h r =
     timeline_or_reason bytes why timeline h r
 held_or_refused kinds.Timeline bytes why (Value value) h r = h
 held_or_refused kinds.Timeline bytes why (Root object) h r = h
 held_or_refused kinds.Timeline bytes why (Events list) h r = h
 held_or_refused kinds.Timeline bytes why (Rows rows) h r = h
+held_or_refused kinds.Timeline bytes why (Commands commands) h r = h
 held_or_refused (kinds.List rate) bytes why (Events list) h r =
     list_or_fault rate bytes list r.0 h r.1
 held_or_refused (kinds.List rate) bytes why (Value value) h r = h
 held_or_refused (kinds.List rate) bytes why (Root object) h r = h
 held_or_refused (kinds.List rate) bytes why (Film timeline) h r = h
 held_or_refused (kinds.List rate) bytes why (Rows rows) h r = h
+held_or_refused (kinds.List rate) bytes why (Commands commands) h r = h
 held_or_refused kinds.Media bytes why (Rows rows) h r = media_or_reason bytes why rows h r
 held_or_refused kinds.Media bytes why (Value value) h r = h
 held_or_refused kinds.Media bytes why (Root object) h r = h
 held_or_refused kinds.Media bytes why (Film timeline) h r = h
 held_or_refused kinds.Media bytes why (Events list) h r = h
+held_or_refused kinds.Media bytes why (Commands commands) h r = h
+held_or_refused kinds.Script bytes why (Commands commands) h r =
+    script_or_reason bytes why commands.items h r
+held_or_refused kinds.Script bytes why (Value value) h r = h
+held_or_refused kinds.Script bytes why (Root object) h r = h
+held_or_refused kinds.Script bytes why (Film timeline) h r = h
+held_or_refused kinds.Script bytes why (Events list) h r = h
+held_or_refused kinds.Script bytes why (Rows rows) h r = h

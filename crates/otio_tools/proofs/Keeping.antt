@@ -1,6 +1,5 @@
 -- A timeline that is written as a list keeps its frames.
-use Rattle.std.proofs.Common.{◌≡◌, ◌≤◌, ℕ, Bool, List, [], ◌∷◌, Option, Some, None, length, refl, sym, ap, subst, ◌∙◌, IfSome, inl, inr}
-use Rattle.limits.specs.Limits.{most_bytes}
+use Rattle.std.proofs.Common.{◌≡◌, ◌++◌, ℕ, Bool, List, [], ◌∷◌, Option, Some, None, sym, ap, subst, ◌∙◌, IfSome, inl, inr}
 use Rattle.dev_io.specs.Known.{KnownFiles}
 use Rattle.dev_io.specs.Calls.{Tells}
 use Rattle.otio_model.specs.declared.timelines.Timeline.{Timeline}
@@ -13,9 +12,9 @@ use Rattle.source_files.specs.Reading.{Held, Source, IsRead, AreRead}
 use Rattle.source_files.specs.declared.kinds.Content.{Content}
 use Rattle.source_files.specs.declared.kinds.Content.TheVariants.{Film}
 use Rattle.source_files.specs.declared.kinds.Kind.TheVariants as kinds
-use Rattle.command_words.specs.Asked.{Ask}
+use Rattle.command_words.specs.Asked.{Ask, OtherNames}
 use Rattle.command_words.specs.declared.requests.Command.TheVariants.{TimelineToList}
-use Rattle.otio_tools.specs.Asked.{Asked, asked_for, files_of, media_source}
+use Rattle.otio_tools.specs.Asked.{Asked, asked_for, files_of, media_source, script_source, read_as}
 use Rattle.otio_tools.specs.Forms.{Answer}
 use Rattle.otio_tools.specs.Conformed.{media_in}
 use Rattle.otio_tools.specs.Carried.{AnswersCarried, NotSound, Left, Carried}
@@ -68,7 +67,8 @@ carried_kept : (held : Held) (drop wide : Bool) (name bytes : List ℕ)
     (d : Streams) → held name ≡ Some bytes → IsTimeline bytes t → HoldsRows held media rows
     → AnswersCarried drop wide name rows target t answer → answer.status ≡ Done
     → Sends (Directs answer.target answer.output) d → SendsFrames held name media target d
-carried_kept held drop wide name bytes media target rows t answer d there is holds (NotSound f n p e)
+carried_kept held drop wide name bytes media target rows t answer d there is holds
+    (NotSound f n p e)
     s o = absurd (let k : Refused ≡ Done = sym (ap (λ (a : Answer). a.status) e) ∙ s in cc)
 carried_kept held drop wide name bytes media target rows t answer d there is holds (Left c f n p e)
     s o = absurd (let k : Refused ≡ Done = sym (ap (λ (a : Answer). a.status) e) ∙ s in cc)
@@ -86,44 +86,53 @@ carried_kept held drop wide name bytes media target rows t answer d there is hol
           (listed_rows held media rows holds) none i texts;
     }
 
+-- the media list is all that was read behind a file where no script is named
+rows_alone : (held : Held) (script media : Option (List ℕ)) (more : List Content) → script ≡ None
+    → AreRead held (script_source script ++ media_source media) more
+    → AreRead held (media_source media) more
+rows_alone held None media more e p = p
+rows_alone held (Some name) media more e p = absurd (cc e)
+
 -- what is asked of a timeline, where the answer is done
-asked_kept : (held : Held) (drop wide : Bool) (name : List ℕ) (media target : Option (List ℕ))
-    (answer : Answer) (d : Streams)
-    → AnswersAsked (asked_for (TimelineToList drop wide) name media target) held answer
+asked_kept : (held : Held) (drop wide : Bool) (name : List ℕ) (others : OtherNames)
+    (target : Option (List ℕ)) (answer : Answer) (d : Streams) → others.script ≡ None
+    → AnswersAsked (asked_for (TimelineToList drop wide) name others target) held answer
     → answer.status ≡ Done → Sends (Directs answer.target answer.output) d
-    → SendsFrames held name media target d
-asked_kept held drop wide name media target answer d (Unread h) s o =
-    absurd (first_undone held (files_of (TimelineToList drop wide) name media) answer h s)
-asked_kept held drop wide name media target answer d (Judged contents h a) s o =
-    let file : Source = record { name = name; kind = kinds.Timeline } in
-    let r = first_read held file (media_source media) contents h in
+    → SendsFrames held name others.media target d
+asked_kept held drop wide name others target answer d alone (Unread h) s o =
+    absurd (first_undone held (files_of (TimelineToList drop wide) name others) answer h s)
+asked_kept held drop wide name others target answer d alone (Judged contents h a) s o =
+    let file = read_as name kinds.Timeline in
+    let behind = script_source others.script ++ media_source others.media in
+    let r = first_read held file behind contents h in
     let film = timeline_held r.first.bytes r.content r.first.holds in
-    let known : AnswersHeld (TimelineToList drop wide) (file ∷ media_source media) target
+    let known : AnswersHeld (TimelineToList drop wide) (file ∷ behind) target
     (Film film.0 ∷ r.more) answer =
-    subst (λ c. AnswersHeld (TimelineToList drop wide) (file ∷ media_source media) target
+    subst (λ c. AnswersHeld (TimelineToList drop wide) (file ∷ behind) target
     (c ∷ r.more) answer) film.1
-    (subst (λ l. AnswersHeld (TimelineToList drop wide) (file ∷ media_source media) target l
+    (subst (λ l. AnswersHeld (TimelineToList drop wide) (file ∷ behind) target l
     answer) r.are a) in
-    carried_kept held drop wide name r.first.bytes media target (media_in r.more) film.0 answer d
-    r.first.there film.2 (rows_held held media r.more r.others) known s o
+    carried_kept held drop wide name r.first.bytes others.media target (media_in r.more) film.0
+    answer d r.first.there film.2 (rows_held held others.media r.more
+    (rows_alone held others.script others.media r.more alone r.others)) known s o
 
 owed_kept : (words : List (List ℕ)) (held : Held) (drop wide : Bool) (name : List ℕ)
-    (media target : Option (List ℕ)) (answer : Answer) (d : Streams)
-    → Ask words (TimelineToList drop wide) name media target → Answers words held answer
+    (others : OtherNames) (target : Option (List ℕ)) (answer : Answer) (d : Streams)
+    → Ask words (TimelineToList drop wide) name others target → Answers words held answer
     → answer.status ≡ Done → Sends (Directs answer.target answer.output) d
-    → SendsFrames held name media target d
-owed_kept words held drop wide name media target answer d ask (NoCommand none e) s o =
-    absurd (none (TimelineToList drop wide) name media target ask)
-owed_kept words held drop wide name media target answer d ask (OnFiles asked asks a) s o =
-    let same = asks_once words asked (asked_for (TimelineToList drop wide) name media target) asks
-    (asks_for words (TimelineToList drop wide) name media target ask) in
-    asked_kept held drop wide name media target answer d
+    → SendsFrames held name others.media target d
+owed_kept words held drop wide name others target answer d ask (NoCommand none e) s o =
+    absurd (none (TimelineToList drop wide) name others target ask)
+owed_kept words held drop wide name others target answer d ask (OnFiles asked asks a) s o =
+    let same = asks_once words asked (asked_for (TimelineToList drop wide) name others target) asks
+    (asks_for words (TimelineToList drop wide) name others target ask) in
+    asked_kept held drop wide name others target answer d ask.is.script_is
     (subst (λ (x : Asked). AnswersAsked x held answer) same a) s o
 
 keeps_one : (words : List (List ℕ)) (old new : KnownFiles) (before now : ℕ) (d : Streams)
     (result : Status) → Ends words before now d result old new → KeepsShown words d result old
-keeps_one words old new before now d Done e = λ drop wide name media target ask.
-    owed_kept words old.held drop wide name media target e.0.answer d ask e.0.owed e.0.status
+keeps_one words old new before now d Done e = λ drop wide name others target ask.
+    owed_kept words old.held drop wide name others target e.0.answer d ask e.0.owed e.0.status
     e.0.output
 keeps_one words old new before now d Usage e = tt
 keeps_one words old new before now d Refused e = tt

@@ -1,5 +1,6 @@
 -- There is one answer, and without faults of devices it is given.
-use Rattle.std.proofs.Common.{◌≡◌, ◌||◌, ◌++◌, ℕ, Bool, Option, List, [], ◌∷◌, All, Some, None, IsSome, false, refl, sym, ap, subst, ◌∙◌, IfSome, inl, inr, arith}
+use Rattle.std.proofs.Common.{◌≡◌, ◌||◌, ◌++◌, ℕ, Bool, Option, List, [], ◌∷◌, All, Some, None, IsSome, false, length, refl, sym, ap, subst, ◌∙◌, IfSome, inl, inr, arith}
+use Rattle.std.specs.Global.{Vec}
 use Rattle.std.proofs.lemmas.List.Elements.{All-head, All-tail}
 use Rattle.std.proofs.lemmas.Grind.{common_steps}
 use Rattle.dev_io.specs.Known.{KnownFiles}
@@ -14,7 +15,6 @@ use Rattle.edl_list.specs.Labelled.{IsLabelled}
 use Rattle.edl_list.specs.Layouts.{narrow, layout_of, FitsEvent}
 use Rattle.edl_layout.specs.Labelled.{IsFirstNot}
 use Rattle.edl_layout.specs.Wide.{IsFirstWide}
-use Rattle.edl_layout.specs.Spelling.{spelling}
 use Rattle.edl_text.specs.Lists.{IsList}
 use Rattle.edl_text.proofs.OneList.{one_list}
 use Rattle.otio_model.specs.declared.roots.Object.{Object}
@@ -23,7 +23,7 @@ use Rattle.otio_model.specs.Timelines.{bare}
 use Rattle.schema_write.specs.Objects.{json_of}
 use Rattle.coord.proofs.OneFault.{same_fault, no_fault_of}
 use Rattle.coord.proofs.SpareLemmas.{faultless_bare, fault_bare}
-use Rattle.fault_text.specs.Faults.{coord_fault_text, conform_fault_text, not_carried_text, reel_text, day_text}
+use Rattle.fault_text.specs.Faults.{coord_fault_text, conform_fault_text, reel_text, day_text}
 use Rattle.frame_rows.specs.Rows.{listing_of, listing_text}
 use Rattle.frame_rows.specs.declared.listing.Listing.{Listing}
 use Rattle.frame_rows.proofs.SpareLemmas.{listing_bare, text_bare}
@@ -31,28 +31,35 @@ use Rattle.source_files.specs.Formats.{IsJson, IsObject, IsTimeline, Holds, Refu
 use Rattle.source_files.specs.Reading.{Held, Source, IsRead, AreRead}
 use Rattle.source_files.specs.declared.kinds.Kind.TheVariants as kinds
 use Rattle.source_files.specs.declared.kinds.Content.{Content}
-use Rattle.source_files.specs.declared.kinds.Content.TheVariants.{Value, Root, Film, Events, Rows}
+use Rattle.source_files.specs.declared.kinds.Content.TheVariants.{Value, Root, Film, Events, Rows, Commands}
 use Rattle.source_files.proofs.Order.{first_once, each_or_first}
 use Rattle.command_words.specs.declared.requests.Command.{Command}
-use Rattle.command_words.specs.declared.requests.Command.TheVariants.{ListToList, ListToObjects, TimelineToList, ToObjects, ToJson, Frames, ListFrames}
+use Rattle.command_words.specs.declared.requests.Command.TheVariants.{ListToList, ListToObjects, TimelineToList, ToObjects, ToJson, Frames, ListFrames, Edit, ListEdit}
+use Rattle.command_words.specs.Asked.{OtherNames}
+use Rattle.undo_log.specs.States.{State}
+use Rattle.script_text.specs.declared.commands.Command as script
+use Rattle.script_text.specs.Scripts.{IsScript}
+use Rattle.script_text.proofs.Once.{script_once}
+use Rattle.edit_script.specs.Runs.{Runs, Halts}
+use Rattle.edit_script.proofs.Outcomes.{one_state, one_halt, never_both}
 use Rattle.command_words.specs.declared.requests.FramesAsked.{FramesAsked}
 use Rattle.media_rows.specs.declared.row.MediaRow.{MediaRow}
 use Rattle.media_list.specs.Lists.{IsMediaList}
 use Rattle.media_list.proofs.OneOutcome.{list_once as media_list_once}
 use Rattle.edl_frames.specs.Shown.{MediaRows}
-use Rattle.edl_frames.specs.Carried.{not_carried, IsListOf, IsNotCarried}
-use Rattle.edl_frames.specs.declared.reasons.NotCarried.{NotCarried}
-use Rattle.edl_frames.specs.declared.reasons.NotCarried.TheVariants as carried
 use Rattle.edl_frames_law.proofs.OneTimeline.{one_timeline}
 use Rattle.otio_tools.proofs.OneCarried.{carried_once}
 use Rattle.edl_frames_law.proofs.OneFault.{one_fault as one_conform_fault, no_fault as no_conform_fault}
-use Rattle.otio_tools.specs.Asked.{Asked, Asks, asked_for, files_of, kind_of, media_source}
+use Rattle.otio_tools.specs.Asked.{Asked, Asks, asked_for, files_of, kind_of, media_source, script_source, read_as}
+use Rattle.otio_tools.specs.Edited.{command_fault_text, AnswersEdited, Faulted, Halted, Edited}
+use Rattle.script_law.specs.Shown.{opened}
 use Rattle.otio_tools.specs.Forms.{Answer, done, refused}
 use Rattle.otio_tools.specs.Frames.{AnswersTimeline, Unsound, NoLabel, Listed}
 use Rattle.otio_tools.specs.Events.{AnswersEvents, NoTimecode, TooMany, WideReel, PastDay, Spelled}
-use Rattle.otio_tools.specs.Carried.{AnswersCarried, NotSound, Left, Carried}
+use Rattle.otio_tools.specs.Carried.{AnswersCarried}
 use Rattle.otio_tools.specs.Conformed.{media_in, AnswersConformed, NotConformed, Conformed}
-use Rattle.otio_tools.specs.Answer.{object_json, AnswersWritten, Answers, NoCommand, OnFiles, AnswersHeld, AnswersUnread, Gone, Faulty, AnswersAsked, Unread, Judged}
+use Rattle.otio_tools.specs.Written.{object_json, AnswersWritten, timeline_text}
+use Rattle.otio_tools.specs.Answer.{Answers, NoCommand, OnFiles, AnswersHeld, AnswersUnread, Gone, Faulty, AnswersAsked, Unread, Judged}
 use Rattle.otio_tools.specs.Run.{Streams, Ends, Gives, Completes}
 use Rattle.otio_tools.specs.declared.Status.{Status}
 use Rattle.otio_tools.specs.declared.Status.TheVariants.{Done, Usage, Refused, Input, Output, Memory}
@@ -131,7 +138,8 @@ events_once name target list drop wide a b (WideReel t w i l r e) (NoTimecode m 
 events_once name target list drop wide a b (WideReel t w i l r e) (TooMany u h f) =
     absurd (omega (arith, h, w))
 events_once name target list drop wide a b (WideReel t w i l r e) (WideReel u v j o s f) =
-    e ∙ ap (λ n. refused name (reel_text n)) (line_once (FitsEvent narrow) list.events l o r s) ∙ sym f
+    e ∙ ap (λ n. refused name (reel_text n)) (line_once (FitsEvent narrow) list.events l o r s)
+    ∙ sym f
 events_once name target list drop wide a b (WideReel t w i l r e) (PastDay d o q f) =
     absurd (wide_none wide list.events l i r d.fits.reels)
 events_once name target list drop wide a b (WideReel t w i l r e) (Spelled d q f) =
@@ -143,7 +151,8 @@ events_once name target list drop wide a b (PastDay c l p e) (TooMany u h f) =
 events_once name target list drop wide a b (PastDay c l p e) (WideReel u v j o s f) =
     absurd (wide_none wide list.events o j s c.fits.reels)
 events_once name target list drop wide a b (PastDay c l p e) (PastDay d o q f) =
-    e ∙ ap (λ n. refused name (day_text n)) (line_once (IsLabelled list.rate drop) list.events l o p q) ∙ sym f
+    e ∙ ap (λ n. refused name (day_text n)) (line_once (IsLabelled list.rate drop) list.events l o p
+    q) ∙ sym f
 events_once name target list drop wide a b (PastDay c l p e) (Spelled d q f) =
     absurd (line_none (IsLabelled list.rate drop) list.events l p q)
 events_once name target list drop wide a b (Spelled c p e) (NoTimecode m f) =
@@ -242,6 +251,7 @@ value_held bytes (Root object) h = absurd h
 value_held bytes (Film timeline) h = absurd h
 value_held bytes (Events list) h = absurd h
 value_held bytes (Rows rows) h = absurd h
+value_held bytes (Commands commands) h = absurd h
 
 object_held : (bytes : List ℕ) (content : Content) → Holds kinds.Object bytes content
     → (object : Object) × (content ≡ Root object) × IsObject bytes object
@@ -250,6 +260,7 @@ object_held bytes (Value value) h = absurd h
 object_held bytes (Film timeline) h = absurd h
 object_held bytes (Events list) h = absurd h
 object_held bytes (Rows rows) h = absurd h
+object_held bytes (Commands commands) h = absurd h
 
 pub timeline_held : (bytes : List ℕ) (content : Content) → Holds kinds.Timeline bytes content
     → (timeline : Timeline) × (content ≡ Film timeline) × IsTimeline bytes timeline
@@ -258,6 +269,7 @@ timeline_held bytes (Value value) h = absurd h
 timeline_held bytes (Root object) h = absurd h
 timeline_held bytes (Events list) h = absurd h
 timeline_held bytes (Rows rows) h = absurd h
+timeline_held bytes (Commands commands) h = absurd h
 
 list_held : (rate : Rate) (bytes : List ℕ) (content : Content)
     → Holds (kinds.List rate) bytes content
@@ -267,6 +279,7 @@ list_held rate bytes (Value value) h = absurd h
 list_held rate bytes (Root object) h = absurd h
 list_held rate bytes (Film timeline) h = absurd h
 list_held rate bytes (Rows rows) h = absurd h
+list_held rate bytes (Commands commands) h = absurd h
 
 pub media_held : (bytes : List ℕ) (content : Content) → Holds kinds.Media bytes content
     → (rows : List MediaRow) × (content ≡ Rows rows) × IsMediaList bytes rows
@@ -275,6 +288,7 @@ media_held bytes (Value value) h = absurd h
 media_held bytes (Root object) h = absurd h
 media_held bytes (Film timeline) h = absurd h
 media_held bytes (Events list) h = absurd h
+media_held bytes (Commands commands) h = absurd h
 
 -- a media list that is read is one
 rows_once : (held : Held) (file : Source) (c d : Content) → file.kind ≡ kinds.Media
@@ -299,8 +313,78 @@ media_once held (Some name) (c ∷ []) (d ∷ x ∷ n) p q = absurd q.1
 media_once held (Some name) (c ∷ []) (d ∷ []) p q =
     ap (λ x. media_in (x ∷ [])) (rows_once held _ c d refl p.0 q.0)
 
+script_held : (bytes : List ℕ) (content : Content) → Holds kinds.Script bytes content
+    → (commands : Vec script.Command) × (content ≡ Commands commands)
+    × IsScript bytes commands.items
+script_held bytes (Commands commands) h = (commands, refl, h)
+script_held bytes (Rows rows) h = absurd h
+script_held bytes (Value value) h = absurd h
+script_held bytes (Root object) h = absurd h
+script_held bytes (Film timeline) h = absurd h
+script_held bytes (Events list) h = absurd h
+
+-- a script that is read is one
+commands_once : (held : Held) (name : List ℕ) (c d : Content)
+    → IsRead held (read_as name kinds.Script) c → IsRead held (read_as name kinds.Script) d
+    → (v : Vec script.Command) × (w : Vec script.Command) × (c ≡ Commands v) × (d ≡ Commands w)
+    × (w.items ≡ v.items)
+commands_once held name c d p q =
+    let same = there_once q.bytes p.bytes (held name) q.there p.there in
+    let v = script_held p.bytes c p.holds in
+    let w = script_held p.bytes d (subst (λ x. Holds kinds.Script x d) same q.holds) in
+    (v.0, w.0, v.1, w.1, script_once p.bytes w.0.items v.0.items w.2 v.2)
+
+-- what is read behind a file has one media list at its front, or none
+front_once : (held : Held) (script media : Option (List ℕ)) (m n : List Content)
+    → AreRead held (script_source script ++ media_source media) m
+    → AreRead held (script_source script ++ media_source media) n → media_in m ≡ media_in n
+front_once held None media m n p q = media_once held media m n p q
+front_once held (Some name) media [] n p q = absurd p
+front_once held (Some name) media (c ∷ m) [] p q = absurd q
+front_once held (Some name) media (c ∷ m) (d ∷ n) p q =
+    let k = commands_once held name c d p.0 q.0 in
+    ap (λ x. media_in (x ∷ m)) k.2 ∙ sym (ap (λ x. media_in (x ∷ n)) k.3)
+
+state_at : Timeline → State
+state_at x = record { before = []; now = x; after = [] }
+
+same_opened : (t u : Timeline) → bare t ≡ bare u → opened t ≡ opened u
+unfolding state_at
+same_opened t u e = ap state_at e
+
+-- a timeline that a script is run on has at most one answer, whatever memory it has to spare
+edited_once : (name called : List ℕ) (commands : List script.Command) (media : MediaRows)
+    (target : Option (List ℕ)) (t u : Timeline) (a b : Answer) → bare t ≡ bare u
+    → AnswersEdited name called commands media target t a
+    → AnswersEdited name called commands media target u b → a ≡ b
+edited_once name called commands media target t u a b same (Faulted f n p e) (Faulted g m q h) =
+    e ∙ ap (λ fault. refused name (coord_fault_text fault))
+    (same_fault t f g n m p (fault_bare u t g (sym same) q)) ∙ sym h
+edited_once name called commands media target t u a b same (Faulted f n p e) (Halted s r g q h) =
+    absurd (no_fault_of t f (faultless_bare u t (sym same) s) p)
+edited_once name called commands media target t u a b same (Faulted f n p e) (Edited s r q h) =
+    absurd (no_fault_of t f (faultless_bare u t (sym same) s) p)
+edited_once name called commands media target t u a b same (Halted s r f p e) (Faulted g m q h) =
+    absurd (no_fault_of u g (faultless_bare t u same s) q)
+edited_once name called commands media target t u a b same (Edited s r p e) (Faulted g m q h) =
+    absurd (no_fault_of u g (faultless_bare t u same s) q)
+edited_once name called commands media target t u a b same (Halted s r f p e) (Halted z o g q h) =
+    let k = subst (λ x. Halts media commands x o g) (sym (same_opened t u same)) q in
+    e ∙ ap (λ fault. refused called (command_fault_text fault))
+    (one_halt media commands (opened t) r o f g p k) ∙ sym h
+edited_once name called commands media target t u a b same (Halted s r f p e) (Edited z o q h) =
+    absurd (never_both media commands (opened t) o r f
+    (subst (λ x. Runs media commands (length commands) x o) (sym (same_opened t u same)) q) p)
+edited_once name called commands media target t u a b same (Edited s r p e) (Halted z o g q h) =
+    absurd (never_both media commands (opened t) r o g p
+    (subst (λ x. Halts media commands x o g) (sym (same_opened t u same)) q))
+edited_once name called commands media target t u a b same (Edited s r p e) (Edited z o q h) =
+    let k = subst (λ x. Runs media commands (length commands) x o) (sym (same_opened t u same)) q in
+    e ∙ ap (λ (x : State). done target (timeline_text x.now))
+    (one_state media commands (length commands) (opened t) r o p k) ∙ sym h
+
 -- the JSON of objects that are written
-same_json : (a b : Object) → json_of a ≡ json_of b → object_json a ≡ object_json b
+pub same_json : (a b : Object) → json_of a ≡ json_of b → object_json a ≡ object_json b
 unfolding object_json
 same_json a b e = e
 
@@ -335,96 +419,176 @@ conformed_as name list other media rows Is answer e f h =
     (subst (λ r. AnswersConformed name other r Is answer) f h)
 
 -- what is held as a content that is known
-abbrev Answered : Command → List ℕ → Option (List ℕ) → Option (List ℕ) → List Content → Answer
+abbrev Answered : Command → List ℕ → OtherNames → Option (List ℕ) → List Content → Answer
     → Content → Type 0
-Answered command name media target more answer content =
-    AnswersHeld command (files_of command name media) target (content ∷ more) answer
+Answered command name others target more answer content =
+    AnswersHeld command (files_of command name others) target (content ∷ more) answer
+
+-- a timeline, a script and a media list have at most one answer
+edit_once : (name : List ℕ) (called media target : Option (List ℕ)) (held : Held)
+    (t u : Timeline) (m n : List Content) (a b : Answer) → bare t ≡ bare u
+    → AreRead held (script_source called ++ media_source media) m
+    → AreRead held (script_source called ++ media_source media) n
+    → Answered Edit name (record { script = called; media = media }) target m a (Film t)
+    → Answered Edit name (record { script = called; media = media }) target n b (Film u) → a ≡ b
+edit_once name None None target held t u m n a b same p q x y = absurd x
+edit_once name None (Some l) target held t u [] n a b same p q x y = absurd x
+edit_once name None (Some l) target held t u (c ∷ m) n a b same p q x y =
+    let v = media_held p.0.bytes c p.0.holds in
+    absurd (subst (λ z. Answered Edit name (record { script = None; media = Some l }) target
+    (z ∷ m) a (Film t)) v.1 x)
+edit_once name (Some s) media target held t u [] n a b same p q x y = absurd p
+edit_once name (Some s) media target held t u (c ∷ m) [] a b same p q x y = absurd q
+edit_once name (Some s) media target held t u (c ∷ m) (d ∷ n) a b same p q x y =
+    let k = commands_once held s c d p.0 q.0 in
+    let o : OtherNames = record { script = Some s; media = media } in
+    let first : AnswersEdited name s k.0.items (media_in m) target t a =
+    subst (λ z. Answered Edit name o target (z ∷ m) a (Film t)) k.2 x in
+    let second : AnswersEdited name s k.1.items (media_in n) target u b =
+    subst (λ z. Answered Edit name o target (z ∷ n) b (Film u)) k.3 y in
+    edited_once name s k.0.items (media_in m) target t u a b same first
+    (subst (λ r. AnswersEdited name s k.0.items r target u b)
+    (sym (media_once held media m n p.1 q.1))
+    (subst (λ z. AnswersEdited name s z (media_in n) target u b) k.4 second))
+
+-- a list, a script and a media list have at most one answer
+list_edit_once : (rate : Rate) (name : List ℕ) (called media target : Option (List ℕ)) (held : Held)
+    (list : EventList) (m n : List Content) (a b : Answer)
+    → AreRead held (script_source called ++ media_source media) m
+    → AreRead held (script_source called ++ media_source media) n
+    → Answered (ListEdit rate) name (record { script = called; media = media }) target m a
+    (Events list)
+    → Answered (ListEdit rate) name (record { script = called; media = media }) target n b
+    (Events list) → a ≡ b
+list_edit_once rate name None None target held list m n a b p q x y = absurd x
+list_edit_once rate name None (Some l) target held list [] n a b p q x y = absurd x
+list_edit_once rate name None (Some l) target held list (c ∷ m) n a b p q x y =
+    let v = media_held p.0.bytes c p.0.holds in
+    absurd (subst (λ z. Answered (ListEdit rate) name (record { script = None; media = Some l })
+    target (z ∷ m) a (Events list)) v.1 x)
+list_edit_once rate name (Some s) media target held list [] n a b p q x y = absurd p
+list_edit_once rate name (Some s) media target held list (c ∷ m) [] a b p q x y = absurd q
+list_edit_once rate name (Some s) media target held list (c ∷ m) (d ∷ n) a b p q x y =
+    let k = commands_once held s c d p.0 q.0 in
+    let o : OtherNames = record { script = Some s; media = media } in
+    let rows = media_once held media m n p.1 q.1 in
+    let first : AnswersConformed name list (media_in m)
+    (AnswersEdited name s k.0.items (media_in m) target) a =
+    subst (λ z. Answered (ListEdit rate) name o target (z ∷ m) a (Events list)) k.2 x in
+    let second : AnswersConformed name list (media_in n)
+    (AnswersEdited name s k.1.items (media_in n) target) b =
+    subst (λ z. Answered (ListEdit rate) name o target (z ∷ n) b (Events list)) k.3 y in
+    conformed_once name list (media_in m) (AnswersEdited name s k.0.items (media_in m) target)
+    (edited_once name s k.0.items (media_in m) target) a b first
+    (subst (λ r. AnswersConformed name list r (AnswersEdited name s k.0.items r target) b)
+    (sym rows) (subst (λ z. AnswersConformed name list (media_in n)
+    (AnswersEdited name s z (media_in n) target) b) k.4 second))
 
 -- what the same bytes hold, with the same media list, has at most one answer
-content_once : (command : Command) (name bytes : List ℕ) (media target : Option (List ℕ))
-    (c d : Content) (m n : List Content) (a b : Answer)
+content_once : (command : Command) (name bytes : List ℕ) (others : OtherNames)
+    (target : Option (List ℕ)) (held : Held) (c d : Content) (m n : List Content) (a b : Answer)
     → Holds (kind_of command) bytes c → Holds (kind_of command) bytes d
-    → media_in m ≡ media_in n
-    → Answered command name media target m a c → Answered command name media target n b d → a ≡ b
-content_once ToJson name bytes media target c d m n a b p q rows x y =
+    → AreRead held (script_source others.script ++ media_source others.media) m
+    → AreRead held (script_source others.script ++ media_source others.media) n
+    → Answered command name others target m a c → Answered command name others target n b d → a ≡ b
+content_once ToJson name bytes others target held c d m n a b p q r s x y =
     let v = value_held bytes c p in
     let w = value_held bytes d q in
-    let first = subst (Answered ToJson name media target m a) v.1 x in
-    let second = subst (Answered ToJson name media target n b) w.1 y in
+    let first = subst (Answered ToJson name others target m a) v.1 x in
+    let second = subst (Answered ToJson name others target n b) w.1 y in
     first ∙ ap (λ value. done target (layout value)) (text_once bytes v.0 w.0 v.2.text w.2.text)
     ∙ sym second
-content_once ToObjects name bytes media target c d m n a b p q rows x y =
+content_once ToObjects name bytes others target held c d m n a b p q r s x y =
     let v = object_held bytes c p in
     let w = object_held bytes d q in
-    let first = subst (Answered ToObjects name media target m a) v.1 x in
-    let second = subst (Answered ToObjects name media target n b) w.1 y in
+    let first = subst (Answered ToObjects name others target m a) v.1 x in
+    let second = subst (Answered ToObjects name others target n b) w.1 y in
     first ∙ ap (λ json. done target (layout json))
     (same_json v.0 w.0 (object_json_once bytes v.0 w.0 v.2 w.2)) ∙ sym second
-content_once (ListToList rate drop wide) name bytes media target c d m n a b p q rows x y =
+content_once (ListToList rate drop wide) name bytes others target held c d m n a b p q r s x y =
     let v = list_held rate bytes c p in
     let w = list_held rate bytes d q in
-    let first = subst (Answered (ListToList rate drop wide) name media target m a) v.1 x in
-    let second = subst (Answered (ListToList rate drop wide) name media target n b) w.1 y in
+    let first = subst (Answered (ListToList rate drop wide) name others target m a) v.1 x in
+    let second = subst (Answered (ListToList rate drop wide) name others target n b) w.1 y in
     let same : w.0 ≡ v.0 = one_list rate bytes w.0 v.0 w.2 v.2 in
     events_once name target v.0 (drop || v.0.drop) wide a b first
     (subst (λ (l : EventList). AnswersEvents name target l (drop || l.drop) wide b) same second)
-content_once (TimelineToList drop wide) name bytes media target c d m n a b p q rows x y =
+content_once (TimelineToList drop wide) name bytes others target held c d m n a b p q r s x y =
+    let rows = front_once held others.script others.media m n r s in
     let v = timeline_held bytes c p in
     let w = timeline_held bytes d q in
-    let first = subst (Answered (TimelineToList drop wide) name media target m a) v.1 x in
-    let second = subst (Answered (TimelineToList drop wide) name media target n b) w.1 y in
+    let first = subst (Answered (TimelineToList drop wide) name others target m a) v.1 x in
+    let second = subst (Answered (TimelineToList drop wide) name others target n b) w.1 y in
     carried_once drop wide name (media_in m) target v.0 w.0 a b
     (timeline_bare_once bytes v.0 w.0 v.2 w.2) first
     (subst (λ r. AnswersCarried drop wide name r target w.0 b) (sym rows) second)
-content_once (ListToObjects rate) name bytes media target c d m n a b p q rows x y =
+content_once (ListToObjects rate) name bytes others target held c d m n a b p q r s x y =
+    let rows = front_once held others.script others.media m n r s in
     let v = list_held rate bytes c p in
     let w = list_held rate bytes d q in
-    let first = subst (Answered (ListToObjects rate) name media target m a) v.1 x in
-    let second = subst (Answered (ListToObjects rate) name media target n b) w.1 y in
+    let first = subst (Answered (ListToObjects rate) name others target m a) v.1 x in
+    let second = subst (Answered (ListToObjects rate) name others target n b) w.1 y in
     conformed_once name v.0 (media_in m) (AnswersWritten target) (written_once target) a b first
     (conformed_as name v.0 w.0 (media_in m) (media_in n) (AnswersWritten target) b
     (one_list rate bytes w.0 v.0 w.2 v.2) (sym rows) second)
-content_once (Frames asked) name bytes media target c d m n a b p q rows x y =
+content_once (Frames asked) name bytes others target held c d m n a b p q r s x y =
     let v = timeline_held bytes c p in
     let w = timeline_held bytes d q in
-    let first = subst (Answered (Frames asked) name media target m a) v.1 x in
-    let second = subst (Answered (Frames asked) name media target n b) w.1 y in
+    let first = subst (Answered (Frames asked) name others target m a) v.1 x in
+    let second = subst (Answered (Frames asked) name others target n b) w.1 y in
     timeline_once asked name target v.0 w.0 a b
     (timeline_bare_once bytes v.0 w.0 v.2 w.2) first second
-content_once (ListFrames rate asked) name bytes media target c d m n a b p q rows x y =
+content_once (ListFrames rate asked) name bytes others target held c d m n a b p q r s x y =
+    let rows = front_once held others.script others.media m n r s in
     let v = list_held rate bytes c p in
     let w = list_held rate bytes d q in
-    let first = subst (Answered (ListFrames rate asked) name media target m a) v.1 x in
-    let second = subst (Answered (ListFrames rate asked) name media target n b) w.1 y in
+    let first = subst (Answered (ListFrames rate asked) name others target m a) v.1 x in
+    let second = subst (Answered (ListFrames rate asked) name others target n b) w.1 y in
     conformed_once name v.0 (media_in m) (AnswersTimeline asked name target)
     (timeline_once asked name target) a b first
     (conformed_as name v.0 w.0 (media_in m) (media_in n) (AnswersTimeline asked name target) b
     (one_list rate bytes w.0 v.0 w.2 v.2) (sym rows) second)
+content_once Edit name bytes others target held c d m n a b p q r s x y =
+    let v = timeline_held bytes c p in
+    let w = timeline_held bytes d q in
+    edit_once name others.script others.media target held v.0 w.0 m n a b
+    (timeline_bare_once bytes v.0 w.0 v.2 w.2) r s
+    (subst (Answered Edit name others target m a) v.1 x)
+    (subst (Answered Edit name others target n b) w.1 y)
+content_once (ListEdit rate) name bytes others target held c d m n a b p q r s x y =
+    let v = list_held rate bytes c p in
+    let w = list_held rate bytes d q in
+    let same : w.0 ≡ v.0 = one_list rate bytes w.0 v.0 w.2 v.2 in
+    list_edit_once rate name others.script others.media target held v.0 m n a b r s
+    (subst (Answered (ListEdit rate) name others target m a) v.1 x)
+    (subst (λ l. Answered (ListEdit rate) name others target n b (Events l)) same
+    (subst (Answered (ListEdit rate) name others target n b) w.1 y))
 
--- what is asked of one file, with one media list, has at most one answer
-one_once : (command : Command) (name : List ℕ) (media target : Option (List ℕ)) (held : Held)
-    (a b : Answer)
-    → AnswersAsked (asked_for command name media target) held a
-    → AnswersAsked (asked_for command name media target) held b → a ≡ b
-one_once command name media target held a b (Unread p) (Unread q) =
+-- what is asked of one file, with the others, has at most one answer
+one_once : (command : Command) (name : List ℕ) (others : OtherNames) (target : Option (List ℕ))
+    (held : Held) (a b : Answer)
+    → AnswersAsked (asked_for command name others target) held a
+    → AnswersAsked (asked_for command name others target) held b → a ≡ b
+one_once command name others target held a b (Unread p) (Unread q) =
     first_once Source Content Answer (IsRead held) (AnswersUnread held)
-    (files_of command name media) a b (unread_once held) (read_or_unread held) p q
-one_once command name media target held a b (Unread p) (Judged contents q h) =
+    (files_of command name others) a b (unread_once held) (read_or_unread held) p q
+one_once command name others target held a b (Unread p) (Judged contents q h) =
     absurd (each_or_first Source Content Answer (IsRead held) (AnswersUnread held)
-    (files_of command name media) contents a (read_or_unread held) q p)
-one_once command name media target held a b (Judged contents p h) (Unread q) =
+    (files_of command name others) contents a (read_or_unread held) q p)
+one_once command name others target held a b (Judged contents p h) (Unread q) =
     absurd (each_or_first Source Content Answer (IsRead held) (AnswersUnread held)
-    (files_of command name media) contents b (read_or_unread held) p q)
-one_once command name media target held a b (Judged cs p h) (Judged ds q k) =
-    let file : Source = record { name = name; kind = kind_of command } in
-    let v = first_read held file (media_source media) cs p in
-    let w = first_read held file (media_source media) ds q in
+    (files_of command name others) contents b (read_or_unread held) p q)
+one_once command name others target held a b (Judged cs p h) (Judged ds q k) =
+    let file = read_as name (kind_of command) in
+    let behind = script_source others.script ++ media_source others.media in
+    let v = first_read held file behind cs p in
+    let w = first_read held file behind ds q in
     let same = there_once w.first.bytes v.first.bytes (held name) w.first.there v.first.there in
-    content_once command name v.first.bytes media target v.content w.content v.more w.more a b
+    content_once command name v.first.bytes others target held v.content w.content v.more w.more a b
     v.first.holds (subst (λ x. Holds (kind_of command) x w.content) same w.first.holds)
-    (media_once held media v.more w.more v.others w.others)
-    (subst (λ z. AnswersHeld command (files_of command name media) target z a) v.are h)
-    (subst (λ z. AnswersHeld command (files_of command name media) target z b) w.are k)
+    v.others w.others
+    (subst (λ z. AnswersHeld command (files_of command name others) target z a) v.are h)
+    (subst (λ z. AnswersHeld command (files_of command name others) target z b) w.are k)
 
 -- what words ask for has at most one answer
 asked_once : (words : List (List ℕ)) (asked : Asked) (held : Held) (a b : Answer) → Asks words asked
@@ -432,7 +596,7 @@ asked_once : (words : List (List ℕ)) (asked : Asked) (held : Held) (a b : Answ
     → AnswersAsked asked held b → a ≡ b
 asked_once words asked held a b w p q =
     let e = whole words asked w in
-    one_once asked.command w.name w.media asked.target held a b
+    one_once asked.command w.name w.others asked.target held a b
     (subst (λ (x : Asked). AnswersAsked x held a) e p)
     (subst (λ (x : Asked). AnswersAsked x held b) e q)
 
@@ -440,9 +604,9 @@ pub answer_once : (words : List (List ℕ)) (held : Held) (a b : Answer) → Ans
     → Answers words held b → a ≡ b
 answer_once words held a b (NoCommand h e) (NoCommand k f) = e ∙ sym f
 answer_once words held a b (NoCommand h e) (OnFiles asked w l) =
-    absurd (h asked.command w.name w.media asked.target w.ask)
+    absurd (h asked.command w.name w.others asked.target w.ask)
 answer_once words held a b (OnFiles asked w l) (NoCommand h e) =
-    absurd (h asked.command w.name w.media asked.target w.ask)
+    absurd (h asked.command w.name w.others asked.target w.ask)
 answer_once words held a b (OnFiles asked w l) (OnFiles other v m) =
     asked_once words asked held a b w l
     (subst (λ (x : Asked). AnswersAsked x held b) (asks_once words other asked v w) m)

@@ -1,5 +1,5 @@
 -- A timeline that is written as a list has one answer.
-use Rattle.std.proofs.Common.{◌≡◌, ℕ, Bool, Option, List, None, sym, ap, subst, ◌∙◌}
+use Rattle.std.proofs.Common.{◌≡◌, ℕ, Bool, Option, List, sym, ap, subst, ◌∙◌}
 use Rattle.otio_model.specs.declared.timelines.Timeline.{Timeline}
 use Rattle.otio_model.specs.Timelines.{bare}
 use Rattle.coord.proofs.OneFault.{same_fault, no_fault_of}
@@ -53,7 +53,8 @@ list_bare t u media drop wide list e i =
 
 fault_of_bare : (t u : Timeline) (media : MediaRows) (drop wide : Bool) (f : NotCarried)
     → bare t ≡ bare u → IsNotCarried u media drop wide f → IsNotCarried t media drop wide f
-fault_of_bare t u media drop wide (carried.At p v) e is = not_carried_bare t u media drop wide e ∙ is
+fault_of_bare t u media drop wide (carried.At p v) e is = not_carried_bare t u media drop wide e
+    ∙ is
 fault_of_bare t u media drop wide carried.Memory e is = tt
 
 -- a timeline that is written as a list has at most one answer, whatever memory it has to spare

@@ -3,8 +3,9 @@ use Rattle.std.proofs.Common.{◌≡◌, ◌≢◌, ◌≤◌, ◌<◌, ◌^◌,
 use Rattle.std.specs.declared.option.Option.{Option}
 use Rattle.dev_io.specs.Known.{KnownFiles}
 use Rattle.dev_io.specs.Calls.{Tells}
-use Rattle.otio_model.specs.declared.roots.Object.{Object}
-use Rattle.schema_write.specs.Objects.{json_of}
+use Rattle.otio_model.specs.declared.roots.Object.{Object, Timeline as ObjectOfTimeline}
+use Rattle.schema_write.specs.Objects.{json_of, timeline_json}
+use Rattle.schema_write.proofs.Trees.{json_of-Timeline}
 use Rattle.fault_text.specs.Reasons.{reason_text}
 use Rattle.tick_time.specs.declared.rates.Rate.{Rate}
 use Rattle.source_files.specs.Order.{EachIs, FirstIsNot}
@@ -43,53 +44,49 @@ use Rattle.otio_tools.specs.Carried.{AnswersCarried, NotSound, Left}
 use Rattle.edl_frames_law.proofs.ItemCounts.{timeline_count}
 use Rattle.limits.specs.Limits.{most_items}
 use Rattle.otio_model.specs.Counts.{count as count_below}
-use Rattle.otio_tools.specs.Asked.{Asked, files_of, media_source, asked_for, kind_of}
+use Rattle.otio_tools.specs.Asked.{Asked, one_file, media_source, kind_of}
 use Rattle.otio_tools.specs.Forms.{Answer, done, absent, refused}
-use Rattle.otio_tools.specs.Answer.{object_json, AnswersHeld, AnswersUnread, Gone, Faulty, AnswersAsked, Unread, Judged}
+use Rattle.otio_tools.specs.Written.{object_json}
+use Rattle.otio_tools.specs.Answer.{AnswersHeld, AnswersUnread, Gone, Faulty, AnswersAsked, Unread, Judged}
 use Rattle.otio_tools.specs.Run.{FailsUnder}
-use Rattle.otio_tools.specs.Plan.{HasFormedList, Suffices, IsRefusedHeld, PlansHeld, IsStop, Plans, AreContents, IsCarriedBy, IsConformedTo, media_content, text_planned}
+use Rattle.otio_tools.specs.Plan.{HasFormedList, Suffices, IsRefusedHeld, PlansHeld, IsStop, Plans, AreContents, IsCarriedBy, IsConformedTo, LeavesWork, media_content, text_planned}
 use Rattle.edl_list.specs.declared.list.EventList.{EventList}
 use Rattle.otio_model.specs.declared.timelines.Timeline.{Timeline}
 use Rattle.otio_tools.specs.Conformed.{media_in, AnswersConformed, Conformed, NotConformed}
 use Rattle.otio_tools.specs.declared.planned.Planned.{Planned}
 
-refused_held : (command : Command) (name called : List ℕ) (media target : Option (List ℕ))
-    (contents : List Content) (fault : ReadFault)
-    (old new : KnownFiles) → HaveRead (files_of command name media) contents old new → called ≡ name
-    → IsRefusedHeld command name media contents fault
-    → IsStop (asked_for command name media target) called fault old new
-refused_held command name called media target contents Absent old new h e p = absurd p
-refused_held command name called media target contents Failed old new h e p = absurd p
-refused_held command name called media target contents (Refused refusal) old new h e p =
-    refused_by (λ why. AnswersHeld command (files_of command name media) target contents
-    (refused name why))
-    (λ why. AnswersAsked (asked_for command name media target) old.held (refused called why)) refusal
-    (λ why a. Judged contents h.1 (subst
-    (λ n. AnswersHeld command (files_of command name media) target contents (refused n why))
-    (sym e) a))
-    (p target)
+refused_held : (asked : Asked) (called : List ℕ) (contents : List Content) (fault : ReadFault)
+    (old new : KnownFiles) → HaveRead asked.files contents old new
+    → IsRefusedHeld asked.command asked.files contents called fault
+    → IsStop asked called fault old new
+refused_held asked called contents Absent old new h p = absurd p
+refused_held asked called contents Failed old new h p = absurd p
+refused_held asked called contents (Refused refusal) old new h p =
+    refused_by (λ why. AnswersHeld asked.command asked.files asked.target contents
+    (refused called why))
+    (λ why. AnswersAsked asked old.held (refused called why)) refusal
+    (λ why a. Judged contents h.1 a) (p asked.target)
 
-held_in : (command : Command) (name : List ℕ) (media target : Option (List ℕ)) (contents : List Content)
-    (result : Result Planned SourceFault)
-    (old new : KnownFiles) → HaveRead (files_of command name media) contents old new
-    → PlansHeld command name media contents result
-    → Plans (asked_for command name media target) result old new
-held_in command name media target contents (Ok planned) old new h p =
-    (Judged contents h.1 (p target), h.2)
-held_in command name media target contents (Err stop) old new h p =
-    refused_held command name stop.name.now media target contents stop.fault old new h p.0 p.1
+held_in : (asked : Asked) (contents : List Content) (result : Result Planned SourceFault)
+    (old new : KnownFiles) → HaveRead asked.files contents old new
+    → PlansHeld asked.command asked.files contents result
+    → IfOk result (LeavesWork asked.command contents)
+    → Plans asked result old new
+held_in asked contents (Ok planned) old new h p w =
+    (Judged contents h.1 (p asked.target), h.2, (contents, h.1, w))
+held_in asked contents (Err stop) old new h p w =
+    refused_held asked stop.name.now contents stop.fault old new h p
 
 -- what is planned of what was read is owed for the files
-pub held_planned : (command : Command) (name : List ℕ) (media target : Option (List ℕ))
-    (contents : List Content)
-    (result : Result Planned SourceFault) (old new : Option KnownFiles)
-    → Tells (HaveRead (files_of command name media) contents) old new
-    → PlansHeld command name media contents result
-    → Tells (Plans (asked_for command name media target) result) old new
-held_planned command name media target contents result None new h p = tt
-held_planned command name media target contents result (Some old) None h p = absurd h
-held_planned command name media target contents result (Some old) (Some new) h p =
-    held_in command name media target contents result old new h p
+pub held_planned : (asked : Asked) (contents : List Content) (result : Result Planned SourceFault)
+    (old new : Option KnownFiles) → Tells (HaveRead asked.files contents) old new
+    → PlansHeld asked.command asked.files contents result
+    → IfOk result (LeavesWork asked.command contents)
+    → Tells (Plans asked result) old new
+held_planned asked contents result None new h p w = tt
+held_planned asked contents result (Some old) None h p w = absurd h
+held_planned asked contents result (Some old) (Some new) h p w =
+    held_in asked contents result old new h p w
 
 stop_as : (asked : Asked) (stop : SourceFault) (fault : ReadFault) (old new : KnownFiles)
     → stop.fault ≡ fault
@@ -131,6 +128,7 @@ suits_list rate (content.Value value) s = s
 suits_list rate (content.Root object) s = s
 suits_list rate (content.Film timeline) s = s
 suits_list rate (content.Rows rows) s = s
+suits_list rate (content.Commands commands) s = s
 
 -- what a file of a command that reads a list holds is a well formed list
 pub suits_of_list : (command : Command) (rate : Rate) (held : Content)
@@ -138,18 +136,19 @@ pub suits_of_list : (command : Command) (rate : Rate) (held : Content)
 suits_of_list command rate held e s = suits_list rate held (subst (λ k. Suits k held) e s)
 
 -- what is read as a media list is one
-media_suits : (held : Content) → Suits kinds.Media held
+pub media_suits : (held : Content) → Suits kinds.Media held
     → (rows : List MediaRow) × (held ≡ content.Rows rows)
 media_suits (content.Rows rows) s = (rows, refl)
 media_suits (content.Events list) s = absurd s
 media_suits (content.Value value) s = absurd s
 media_suits (content.Root object) s = absurd s
 media_suits (content.Film timeline) s = absurd s
+media_suits (content.Commands commands) s = absurd s
 
 -- what the files of a command hold is one content, and a media list behind it at most
 pub are_contents : (command : Command) (name : List ℕ) (media : Option (List ℕ))
     (contents : List Content)
-    → EachIs (λ source held. Suits source.kind held) (files_of command name media) contents
+    → EachIs (λ source held. Suits source.kind held) (one_file command name media) contents
     → AreContents contents
 are_contents command name None [] h = absurd h
 are_contents command name None (held ∷ []) h = (held, None, refl)
@@ -163,7 +162,7 @@ are_contents command name (Some list) (held ∷ rows ∷ other ∷ rest) h = abs
 -- the file of a command suits its kind
 pub first_suits : (command : Command) (name : List ℕ) (media : Option (List ℕ))
     (contents more : List Content) (held : Content) → contents ≡ held ∷ more
-    → EachIs (λ source held. Suits source.kind held) (files_of command name media) contents
+    → EachIs (λ source held. Suits source.kind held) (one_file command name media) contents
     → Suits (kind_of command) held
 first_suits command name media [] more held e h = absurd h
 first_suits command name media (first ∷ rest) more held e h =
@@ -175,10 +174,10 @@ pub held_planned_as : (command : Command) (name : List ℕ) (media : Option (Lis
     → contents ≡ held ∷ more
     → ((file : Source) (files : List Source) → Suffices (λ target answer.
     AnswersHeld command (file ∷ files) target (held ∷ more) answer) file.name (Ok planned))
-    → (target : Option (List ℕ)) → AnswersHeld command (files_of command name media) target
+    → (target : Option (List ℕ)) → AnswersHeld command (one_file command name media) target
     contents (done target (text_planned planned))
 held_planned_as command name media contents more held planned e h target =
-    subst (λ l. AnswersHeld command (files_of command name media) target l
+    subst (λ l. AnswersHeld command (one_file command name media) target l
     (done target (text_planned planned))) (sym e)
     (h (record { name = name; kind = kind_of command }) (media_source media) target)
 
@@ -188,16 +187,22 @@ pub refused_held_as : (command : Command) (name : List ℕ) (media : Option (Lis
     → ((file : Source) (files : List Source) → Suffices (λ target answer.
     AnswersHeld command (file ∷ files) target (held ∷ more) answer) file.name (Err refusal))
     → (target : Option (List ℕ)) → IsRefused (λ why.
-    AnswersHeld command (files_of command name media) target contents (refused name why)) refusal
+    AnswersHeld command (one_file command name media) target contents (refused name why)) refusal
 refused_held_as command name media contents more held refusal e h target =
     subst (λ l. IsRefused (λ why.
-    AnswersHeld command (files_of command name media) target l (refused name why)) refusal)
+    AnswersHeld command (one_file command name media) target l (refused name why)) refusal)
     (sym e) (h (record { name = name; kind = kind_of command }) (media_source media) target)
 
 -- what is written of an object is its JSON
 pub object_is : (object : Object) → object_json object ≡ json_of object
 unfolding object_json
 object_is object = refl
+
+-- what is written of a timeline is its JSON
+pub timeline_is : (timeline : Timeline)
+    → object_json (ObjectOfTimeline timeline) ≡ timeline_json timeline
+unfolding object_json
+timeline_is timeline = json_of-Timeline timeline
 
 -- what is planned for a command and contents that are known is planned for these
 pub held_as : (command other : Command) (held known : Content) (more : List Content)

@@ -10,7 +10,7 @@ use Rattle.source_files.specs.declared.faults.Refusal.TheVariants.{Broken, Memor
 use Rattle.source_files.specs.declared.faults.ReadFault.{ReadFault}
 use Rattle.source_files.specs.declared.faults.ReadFault.TheVariants as fault
 use Rattle.source_files.specs.declared.faults.SourceFault.{SourceFault}
-use Rattle.command_words.specs.Asked.{Ask, AskNothing}
+use Rattle.command_words.specs.Asked.{Ask, AskNothing, OtherNames}
 use Rattle.command_words.specs.declared.requests.Command.{Command}
 use Rattle.command_words.proofs.Gathering.{ask_once}
 use Rattle.otio_tools.specs.Asked.{Asked, Asks, ListsFrames, asked_for}
@@ -31,7 +31,7 @@ nothing_added (Some a) (Some b) h =
 
 -- what is asked for with all of its parts
 pub whole : (words : List (List ℕ)) (asked : Asked) (p : Asks words asked)
-    → asked ≡ asked_for asked.command p.name p.media asked.target
+    → asked ≡ asked_for asked.command p.name p.others asked.target
 whole words asked p = ap (λ files. record {
   command = asked.command;
   files = files;
@@ -39,7 +39,8 @@ whole words asked p = ap (λ files. record {
       asked.target;
 }) p.files
 
-same_parts : (c d : Command) (n m : List ℕ) (k l s t : Option (List ℕ)) → c ≡ d → n ≡ m → k ≡ l
+same_parts : (c d : Command) (n m : List ℕ) (k l : OtherNames) (s t : Option (List ℕ)) → c ≡ d
+    → n ≡ m → k ≡ l
     → s ≡ t → asked_for c n k s ≡ asked_for d m l t
 same_parts c d n m k l s t e f g h =
     ap (λ x. asked_for x n k s) e ∙ ap (λ y. asked_for d y k s) f ∙ ap (λ z. asked_for d m z s) g
@@ -48,16 +49,16 @@ same_parts c d n m k l s t e f g h =
 -- words ask for at most one thing
 pub asks_once : (words : List (List ℕ)) (a b : Asked) → Asks words a → Asks words b → a ≡ b
 asks_once words a b p q =
-    let same = ask_once words a.command b.command p.name q.name p.media q.media a.target b.target
+    let same = ask_once words a.command b.command p.name q.name p.others q.others a.target b.target
     p.ask q.ask in
-    whole words a p ∙ same_parts a.command b.command p.name q.name p.media q.media a.target
+    whole words a p ∙ same_parts a.command b.command p.name q.name p.others q.others a.target
     b.target same.0 same.1 same.2 same.3 ∙ sym (whole words b q)
 
 pub asks_for : (words : List (List ℕ)) (command : Command) (name : List ℕ)
-    (media target : Option (List ℕ)) → Ask words command name media target
-    → Asks words (asked_for command name media target)
-asks_for words command name media target w =
-    record { name = name; media = media; ask = w; files = refl }
+    (others : OtherNames) (target : Option (List ℕ)) → Ask words command name others target
+    → Asks words (asked_for command name others target)
+asks_for words command name others target w =
+    record { name = name; others = others; ask = w; files = refl }
 
 reads_all : (words : List (List ℕ)) (asked : Asked) (new : KnownFiles) → Asks words asked
     → EndsWith asked.files new → ReadsAll words new
@@ -110,73 +111,84 @@ carried_fault words asked name old new before now d (fault.Refused WantOfMemory)
 
 -- a command of frames that was asked for
 asks_frames : (words : List (List ℕ)) (command : Command) (name : List ℕ)
-    (media target : Option (List ℕ)) → Ask words command name media target
+    (others : OtherNames) (target : Option (List ℕ)) → Ask words command name others target
     → ListsFrames command → AsksFrames words
-asks_frames words command name media target w lists = record {
+asks_frames words command name others target w lists = record {
   command = command;
   lists = lists;
   name = name;
-  media = media;
+  others = others;
   target = target;
   ask = w;
 }
 
 -- who plans right and carries the plan out ends right
-carried_one : (words : List (List ℕ)) (command : Command) (name : List ℕ) (media target : Option (List ℕ))
+carried_one : (words : List (List ℕ)) (command : Command) (name : List ℕ) (others : OtherNames)
+    (target : Option (List ℕ))
     (old new : KnownFiles)
     (before now : ℕ) (d : Streams) (plan : Result Planned SourceFault) (status : Status)
-    → Ask words command name media target
-    → Plans (asked_for command name media target) plan old new
+    → Ask words command name others target
+    → Plans (asked_for command name others target) plan old new
     → IfOk plan (λ planned. IsFor command planned) → RaisedAt plan before now
     → Carries target plan d status → Ends words before now d status old new
-carried_one words command name media target old new before now d (Ok planned) Done w p k r c = (
+carried_one words command name others target old new before now d (Ok planned) Done w p k r c = (
   record {
     answer = done target (text_planned planned);
-    owed = OnFiles (asked_for command name media target) (asks_for words command name media target w) p.0;
+    owed = OnFiles (asked_for command name others target)
+        (asks_for words command name others target w) p.0;
     status = refl;
     output = c.0;
     message = c.1;
   },
-  reads_all words (asked_for command name media target) new (asks_for words command name media target w) p.1,
+  reads_all words (asked_for command name others target) new
+      (asks_for words command name others target w) p.1,
 )
-carried_one words command name media target old new before now d (Ok planned) Output w p k r c = record {
-  answer = done target (text_planned planned);
-  owed = OnFiles (asked_for command name media target) (asks_for words command name media target w) p.0;
-  status = refl;
-  failed = c.0;
-  output = c.1;
-  message = c.2;
-}
-carried_one words command name media target old new before now d (Ok planned) Usage w p k r c = absurd c
-carried_one words command name media target old new before now d (Ok planned) Refused w p k r c = absurd c
-carried_one words command name media target old new before now d (Ok planned) Input w p k r c = absurd c
-carried_one words command name media target old new before now d (Ok planned) Memory w p k r c = (
+carried_one words command name others target old new before now d (Ok planned) Output w p k r c =
+    record {
+      answer = done target (text_planned planned);
+      owed = OnFiles (asked_for command name others target)
+          (asks_for words command name others target w) p.0;
+      status = refl;
+      failed = c.0;
+      output = c.1;
+      message = c.2;
+    }
+carried_one words command name others target old new before now d (Ok planned) Usage w p k r c =
+    absurd c
+carried_one words command name others target old new before now d (Ok planned) Refused w p k r c =
+    absurd c
+carried_one words command name others target old new before now d (Ok planned) Input w p k r c =
+    absurd c
+carried_one words command name others target old new before now d (Ok planned) Memory w p k r c = (
   inr (record {
-    frames = asks_frames words command name media target w (k c.0);
+    frames = asks_frames words command name others target w (k c.0);
     answer = done target (text_planned planned);
-    owed = OnFiles (asked_for command name media target) (asks_for words command name media target w) p.0;
+    owed = OnFiles (asked_for command name others target)
+        (asks_for words command name others target w) p.0;
     status = refl;
     output = c.1;
   }),
   c.2,
 )
-carried_one words command name media target old new before now d (Err stop) status w p k r c =
-    carried_fault words (asked_for command name media target) stop.name.now old new before now d
+carried_one words command name others target old new before now d (Err stop) status w p k r c =
+    carried_fault words (asked_for command name others target) stop.name.now old new before now d
     stop.fault status
-    (asks_for words command name media target w) p r c
+    (asks_for words command name others target w) p r c
 
-pub carried : (words : List (List ℕ)) (command : Command) (name : List ℕ) (media target : Option (List ℕ))
+pub carried : (words : List (List ℕ)) (command : Command) (name : List ℕ) (others : OtherNames)
+    (target : Option (List ℕ))
     (old new : Option KnownFiles)
     (before now : ℕ) (d : Streams) (plan : Result Planned SourceFault) (status : Status)
-    → Ask words command name media target
-    → Tells (Plans (asked_for command name media target) plan) old new
+    → Ask words command name others target
+    → Tells (Plans (asked_for command name others target) plan) old new
     → IfOk plan (λ planned. IsFor command planned)
     → RaisedAt plan before now → Carries target plan d status
     → Tells (Ends words before now d status) old new
-carried words command name media target None new before now d plan status w p k r c = tt
-carried words command name media target (Some old) None before now d plan status w p k r c = absurd p
-carried words command name media target (Some old) (Some new) before now d plan status w p k r c =
-    carried_one words command name media target old new before now d plan status w p k r c
+carried words command name others target None new before now d plan status w p k r c = tt
+carried words command name others target (Some old) None before now d plan status w p k r c =
+    absurd p
+carried words command name others target (Some old) (Some new) before now d plan status w p k r c =
+    carried_one words command name others target old new before now d plan status w p k r c
 
 -- words that ask for nothing are answered by the usage text
 pub usage_given : (words : List (List ℕ)) (known : Option KnownFiles) (before now : ℕ) (d : Streams)
@@ -222,18 +234,18 @@ fault_still words name d (fault.Refused WantOfMemory) status c =
 
 -- what is not sent stays unsent
 pub carried_still : (words : List (List ℕ)) (command : Command) (name : List ℕ)
-    (media target : Option (List ℕ)) (d : Streams)
-    (plan : Result Planned SourceFault) (status : Status) → Ask words command name media target
+    (others : OtherNames) (target : Option (List ℕ)) (d : Streams)
+    (plan : Result Planned SourceFault) (status : Status) → Ask words command name others target
     → IfOk plan (λ planned. IsFor command planned)
     → Carries target plan d status → KeepsStill words d status
-carried_still words command name media target d (Ok planned) Done w k c = tt
-carried_still words command name media target d (Ok planned) Output w k c = c.0
-carried_still words command name media target d (Ok planned) Usage w k c = absurd c
-carried_still words command name media target d (Ok planned) Refused w k c = absurd c
-carried_still words command name media target d (Ok planned) Input w k c = absurd c
-carried_still words command name media target d (Ok planned) Memory w k c =
-    inr (asks_frames words command name media target w (k c.0))
-carried_still words command name media target d (Err stop) status w k c =
+carried_still words command name others target d (Ok planned) Done w k c = tt
+carried_still words command name others target d (Ok planned) Output w k c = c.0
+carried_still words command name others target d (Ok planned) Usage w k c = absurd c
+carried_still words command name others target d (Ok planned) Refused w k c = absurd c
+carried_still words command name others target d (Ok planned) Input w k c = absurd c
+carried_still words command name others target d (Ok planned) Memory w k c =
+    inr (asks_frames words command name others target w (k c.0))
+carried_still words command name others target d (Err stop) status w k c =
     (fault_still words stop.name.now d stop.fault status c).1
 
 -- no plan ends in usage

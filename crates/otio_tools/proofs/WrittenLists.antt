@@ -1,11 +1,10 @@
 -- The list of a timeline's events: it can be written, and keeps the timeline's frames.
-use Rattle.std.proofs.Common.{◌≡◌, ◌≤◌, Bool, true, false, cond, IsSome, Some, None, length, refl, sym, ap, ◌∙◌}
+use Rattle.std.proofs.Common.{◌≡◌, ◌≤◌, Bool, true, false, cond, IsSome, Some, None, length, refl, ap, ◌∙◌}
 use Rattle.std.specs.declared.option.Option.{Option}
 use Rattle.limits.specs.Limits.{most_bytes}
 use Rattle.smpte_tc.specs.declared.modes.Mode.{Mode}
 use Rattle.smpte_tc.specs.Modes.{mode_of}
 use Rattle.otio_model.specs.declared.timelines.Timeline.{Timeline}
-use Rattle.coord.specs.Keys.{frame_rate}
 use Rattle.coord.specs.Programs.{record_rate}
 use Rattle.coord.specs.Soundness.{IsFaultless, IsCalm}
 use Rattle.edl_list.specs.declared.list.EventList.{EventList}

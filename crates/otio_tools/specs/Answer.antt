@@ -1,39 +1,28 @@
 -- The answer to words and files.
 use Rattle.std.specs.Prelude.{◌≡◌, ◌||◌, ℕ, List, ◌∷◌, None}
 use Rattle.std.specs.declared.option.Option.{Option}
-use Rattle.json_value.specs.declared.Json.{Json}
 use Rattle.json_layout.specs.Layout.{layout}
-use Rattle.otio_model.specs.declared.roots.Object.{Object, Timeline as ObjectOfTimeline}
-use Rattle.otio_model.specs.declared.timelines.Timeline.{Timeline}
-use Rattle.schema_write.specs.Objects.{json_of}
 use Rattle.source_files.specs.Order.{FirstIsNot}
 use Rattle.source_files.specs.Reading.{Held, Source, IsRead, AreRead, IsRefusedIn}
 use Rattle.source_files.specs.declared.kinds.Content.{Content}
-use Rattle.source_files.specs.declared.kinds.Content.TheVariants.{Value, Root, Film, Events}
+use Rattle.source_files.specs.declared.kinds.Content.TheVariants.{Value, Root, Film, Events, Commands}
 use Rattle.command_words.specs.Asked.{AskNothing}
 use Rattle.command_words.specs.declared.requests.Command.{Command}
-use Rattle.command_words.specs.declared.requests.Command.TheVariants.{ListToList, ListToObjects, TimelineToList, ToObjects, ToJson, Frames, ListFrames}
+use Rattle.command_words.specs.declared.requests.Command.TheVariants.{ListToList, ListToObjects, TimelineToList, ToObjects, ToJson, Frames, ListFrames, Edit, ListEdit}
 use Rattle.otio_tools.specs.Asked.{Asked, Asks}
 use Rattle.otio_tools.specs.Forms.{Answer, done, refused, absent, usage}
 use Rattle.otio_tools.specs.Events.{AnswersEvents}
 use Rattle.otio_tools.specs.Frames.{AnswersTimeline}
 use Rattle.otio_tools.specs.Carried.{AnswersCarried}
 use Rattle.otio_tools.specs.Conformed.{media_in, AnswersConformed}
-
--- the JSON of an object that is written, in the current schemas and the written order
-unfoldable pub object_json : Object → Json
-object_json object = json_of object
-
--- the answer to a timeline that is written
-abbrev pub AnswersWritten : Option (List ℕ) → Timeline → Answer → Type 0
-AnswersWritten target timeline answer =
-    answer ≡ done target (layout (object_json (ObjectOfTimeline timeline)))
+use Rattle.otio_tools.specs.Written.{object_json, AnswersWritten}
+use Rattle.otio_tools.specs.Edited.{AnswersEdited}
 
 -- The answer to a command on what its files hold, in their order: a value or an object in the one
 -- layout, a list in its one spelling, with drop-frame timecode where that is asked for or is in
 -- force at its first event line, the timeline that a list conforms to with the media list behind
--- it, the list of a timeline's events with the media list behind it, or the rows of frames. A
--- refusal is told of one of the files.
+-- it, the list of a timeline's events with the media list behind it, the rows of frames, or the
+-- timeline that a script behind it leads to. A refusal is told of one of the files.
 abbrev pub AnswersHeld : Command → List Source → Option (List ℕ) → List Content → Answer → Type 0
 AnswersHeld ToJson files target (Value value ∷ more) answer = answer ≡ done target (layout value)
 AnswersHeld ToObjects files target (Root object ∷ more) answer =
@@ -48,6 +37,11 @@ AnswersHeld (Frames asked) (file ∷ files) target (Film timeline ∷ more) answ
     AnswersTimeline asked file.name target timeline answer
 AnswersHeld (ListFrames rate asked) (file ∷ files) target (Events list ∷ more) answer =
     AnswersConformed file.name list (media_in more) (AnswersTimeline asked file.name target) answer
+AnswersHeld Edit (file ∷ script ∷ files) target (Film timeline ∷ Commands commands ∷ more) answer =
+    AnswersEdited file.name script.name commands.items (media_in more) target timeline answer
+AnswersHeld (ListEdit rate) (file ∷ script ∷ files) target (Events list ∷ Commands commands ∷ more)
+    answer = AnswersConformed file.name list (media_in more)
+    (AnswersEdited file.name script.name commands.items (media_in more) target) answer
 AnswersHeld command files target contents answer = ⊥
 
 -- the answer to a file that isn't there, or whose bytes are nothing of what they are read as

@@ -1,12 +1,12 @@
 -- What words ask for: a command, the files in the order in which they are read, and the output.
-use Rattle.std.specs.Prelude.{◌≡◌, ℕ, List, [], ◌∷◌, Some, None}
+use Rattle.std.specs.Prelude.{◌≡◌, ℕ, List, [], ◌∷◌, ◌++◌, Some, None}
 use Rattle.std.specs.declared.option.Option.{Option}
 use Rattle.source_files.specs.Reading.{Source}
 use Rattle.source_files.specs.declared.kinds.Kind.{Kind}
 use Rattle.source_files.specs.declared.kinds.Kind.TheVariants as kinds
-use Rattle.command_words.specs.Asked.{Ask}
+use Rattle.command_words.specs.Asked.{Ask, OtherNames}
 use Rattle.command_words.specs.declared.requests.Command.{Command}
-use Rattle.command_words.specs.declared.requests.Command.TheVariants.{ListToList, ListToObjects, TimelineToList, ToObjects, ToJson, Frames, ListFrames}
+use Rattle.command_words.specs.declared.requests.Command.TheVariants.{ListToList, ListToObjects, TimelineToList, ToObjects, ToJson, Frames, ListFrames, Edit, ListEdit}
 
 pub record Asked : Type 0 where
   pub command : Command
@@ -23,21 +23,59 @@ kind_of ToObjects = kinds.Object
 kind_of ToJson = kinds.Json
 kind_of (Frames asked) = kinds.Timeline
 kind_of (ListFrames rate asked) = kinds.List rate
+kind_of Edit = kinds.Timeline
+kind_of (ListEdit rate) = kinds.List rate
+
+-- the script of that name, where one is read
+abbrev pub script_source : Option (List ℕ) → List Source
+script_source None = []
+script_source (Some name) = record { name = name; kind = kinds.Script } ∷ []
 
 -- the media list of that name, where one is read
 abbrev pub media_source : Option (List ℕ) → List Source
 media_source None = []
 media_source (Some name) = record { name = name; kind = kinds.Media } ∷ []
 
--- the files of a command on the file of that name, the media list behind it
-abbrev pub files_of : Command → List ℕ → Option (List ℕ) → List Source
-files_of command name media =
-    record { name = name; kind = kind_of command } ∷ media_source media
+-- a file of that name that is read as this
+abbrev pub read_as : List ℕ → Kind → Source
+read_as name kind = record { name = name; kind = kind }
 
--- what is asked for by a command on the file of that name, with this media list
-abbrev pub asked_for : Command → List ℕ → Option (List ℕ) → Option (List ℕ) → Asked
-asked_for command name media target =
-    record { command = command; files = files_of command name media; target = target }
+-- the file of that name, with no script behind it
+abbrev pub one_file : Command → List ℕ → Option (List ℕ) → List Source
+one_file command name media = read_as name (kind_of command) ∷ media_source media
+
+-- the file of that name, with this script behind it
+abbrev pub edit_files : Command → List ℕ → List ℕ → Option (List ℕ) → List Source
+edit_files command name script media =
+    read_as name (kind_of command) ∷ read_as script kinds.Script ∷ media_source media
+
+-- the files of a command on the file of that name, the script behind it and then the media list
+abbrev pub files_of : Command → List ℕ → OtherNames → List Source
+files_of command name others =
+    read_as name (kind_of command)
+    ∷ (script_source others.script ++ media_source others.media)
+
+-- what is asked for by a command on the file of that name, with these others
+abbrev pub asked_for : Command → List ℕ → OtherNames → Option (List ℕ) → Asked
+asked_for command name others target =
+    record { command = command; files = files_of command name others; target = target }
+
+-- the command edits a timeline
+abbrev pub EditsTimeline : Command → Type 0
+EditsTimeline (ListToList rate drop wide) = ⊥
+EditsTimeline (ListToObjects rate) = ⊥
+EditsTimeline (TimelineToList drop wide) = ⊥
+EditsTimeline ToObjects = ⊥
+EditsTimeline ToJson = ⊥
+EditsTimeline (Frames asked) = ⊥
+EditsTimeline (ListFrames rate asked) = ⊥
+EditsTimeline Edit = Unit {0}
+EditsTimeline (ListEdit rate) = Unit {0}
+
+-- a script is named exactly where a timeline is edited
+abbrev pub IsScripted : Command → Option (List ℕ) → Type 0
+IsScripted command None = EditsTimeline command → ⊥
+IsScripted command (Some script) = EditsTimeline command
 
 -- the command lists frames
 abbrev pub ListsFrames : Command → Type 0
@@ -48,10 +86,12 @@ ListsFrames ToObjects = ⊥
 ListsFrames ToJson = ⊥
 ListsFrames (Frames asked) = Unit {0}
 ListsFrames (ListFrames rate asked) = Unit {0}
+ListsFrames Edit = ⊥
+ListsFrames (ListEdit rate) = ⊥
 
 -- the words ask for this
 pub record Asks (words : List (List ℕ)) (asked : Asked) : Type 0 where
   pub name : List ℕ
-  pub media : Option (List ℕ)
-  pub ask : Ask words asked.command name media asked.target
-  pub files : asked.files ≡ files_of asked.command name media
+  pub others : OtherNames
+  pub ask : Ask words asked.command name others asked.target
+  pub files : asked.files ≡ files_of asked.command name others

@@ -9,7 +9,7 @@ use Rattle.edl_frames.specs.Shown.{MediaRows}
 use Rattle.edl_written_law.specs.Kept.{KeepsFrames}
 use Rattle.source_files.specs.Formats.{IsTimeline}
 use Rattle.source_files.specs.Reading.{Held}
-use Rattle.command_words.specs.Asked.{Ask}
+use Rattle.command_words.specs.Asked.{Ask, OtherNames}
 use Rattle.command_words.specs.declared.requests.Command.TheVariants.{TimelineToList}
 use Rattle.otio_tools.specs.Run.{Streams, Sends, Directs}
 use Rattle.otio_tools.specs.declared.Status.{Status}
@@ -41,9 +41,9 @@ pub record SendsFrames (held : Held) (name : List ℕ) (media target : Option (L
 -- what words that ask for a timeline written as a list have sent, where the run is done
 abbrev pub KeepsShown : List (List ℕ) → Streams → Status → KnownFiles → Type 0
 KeepsShown words d Done old =
-    (drop wide : Bool) (name : List ℕ) (media target : Option (List ℕ))
-    → Ask words (TimelineToList drop wide) name media target
-    → SendsFrames old.held name media target d
+    (drop wide : Bool) (name : List ℕ) (others : OtherNames) (target : Option (List ℕ))
+    → Ask words (TimelineToList drop wide) name others target
+    → SendsFrames old.held name others.media target d
 KeepsShown words d Usage old = Unit {0}
 KeepsShown words d Refused old = Unit {0}
 KeepsShown words d Input old = Unit {0}

@@ -4,9 +4,12 @@ pub mod Asked
 pub mod Events
 pub mod Frames
 pub mod Conformed
+pub mod Written
+pub mod Edited
 pub mod Answer
 pub mod Run
 pub mod Plan
 pub mod Texts
 pub mod Carried
 pub mod Kept
+pub mod Worked

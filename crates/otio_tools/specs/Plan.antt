@@ -1,6 +1,7 @@
 -- What is planned before anything is sent, and how it is carried out.
-use Rattle.std.specs.Prelude.{◌≡◌, ◌<◌, ◌≤◌, ◌^◌, ℕ, Bool, List, [], ◌∷◌, Some, None, Result, Ok, Err, MatchResult}
+use Rattle.std.specs.Prelude.{◌≡◌, ◌≢◌, ◌⊎◌, ◌<◌, ◌≤◌, ◌^◌, ℕ, Bool, List, [], ◌∷◌, Some, None, Result, Ok, Err, MatchResult}
 use Rattle.std.specs.declared.option.Option.{Option}
+use Rattle.std.specs.Global.{Vec}
 use Rattle.json_layout.specs.Layout.{layout}
 use Rattle.edl_list.specs.Formed.{IsWellFormed}
 use Rattle.edl_list.specs.declared.list.EventList.{EventList}
@@ -8,13 +9,24 @@ use Rattle.edl_layout.specs.Labelled.{IsFirstPast}
 use Rattle.edl_layout.specs.Spelling.{spelling}
 use Rattle.otio_model.specs.Counts.{count as count_below}
 use Rattle.otio_model.specs.declared.timelines.Timeline.{Timeline}
-use Rattle.coord.specs.Soundness.{IsFaultless}
+use Rattle.coord.specs.Soundness.{IsFaultless, IsFaultOf}
+use Rattle.coord.specs.declared.faults.CoordFault.{CoordFault}
+use Rattle.coord.specs.declared.faults.CoordFault.TheVariants as coord
+use Rattle.undo_log.specs.States.{State}
+use Rattle.edit_script.specs.Runs.{Halts}
+use Rattle.edit_script.specs.declared.faults.CommandFault.{CommandFault}
+use Rattle.script_text.specs.declared.commands.Command as script
+use Rattle.edl_frames.specs.Faults.{IsConformFault}
+use Rattle.edl_frames.specs.declared.faults.ConformFault.{ConformFault}
+use Rattle.edl_frames.specs.declared.faults.ConformFault.TheVariants as conform
+use Rattle.fault_text.specs.Faults.{coord_fault_text, conform_fault_text}
+use Rattle.source_files.specs.Formats.{IsOfTables, Suits}
 use Rattle.frame_rows.specs.Rows.{listing_text}
 use Rattle.frame_rows.specs.declared.listing.RowFault.{RowFault}
 use Rattle.frame_rows.specs.declared.listing.RowFault.TheVariants.{Sink, Memory as NoMemory}
 use Rattle.fault_text.specs.Reasons.{reason_text}
 use Rattle.source_files.specs.Order.{FirstIsNot}
-use Rattle.source_files.specs.Reading.{IsRead, IsRefused, EndsWith}
+use Rattle.source_files.specs.Reading.{Held, Source, IsRead, AreRead, IsRefused, EndsWith}
 use Rattle.source_files.specs.declared.kinds.Content.{Content}
 use Rattle.source_files.specs.declared.kinds.Content.TheVariants as content
 use Rattle.source_files.specs.declared.faults.Refusal.{Refusal}
@@ -23,6 +35,7 @@ use Rattle.source_files.specs.declared.faults.ReadFault.{ReadFault}
 use Rattle.source_files.specs.declared.faults.ReadFault.TheVariants.{Absent, Failed, Refused}
 use Rattle.source_files.specs.declared.faults.SourceFault.{SourceFault}
 use Rattle.command_words.specs.declared.requests.Command.{Command}
+use Rattle.command_words.specs.declared.requests.Command.TheVariants.{Edit, ListEdit}
 use Rattle.dev_io.specs.Known.{KnownFiles, KnownOut}
 use Rattle.dev_io.specs.Causes.{Rose}
 use Rattle.limits.specs.Limits.{most_items}
@@ -32,15 +45,20 @@ use Rattle.edl_frames.specs.Carried.{not_carried, IsListOf}
 use Rattle.edl_frames_law.specs.Premises.{AreListed}
 use Rattle.edl_frames.specs.Refused.{IsAccepted}
 use Rattle.edl_frames.specs.Counted.{item_count}
-use Rattle.otio_tools.specs.Asked.{Asked, ListsFrames, files_of}
+use Rattle.otio_tools.specs.Asked.{Asked, EditsTimeline, ListsFrames, kind_of}
 use Rattle.otio_tools.specs.Forms.{Answer, done, refused, absent, message_of, read_failed}
 use Rattle.otio_tools.specs.Events.{CanBeWritten}
-use Rattle.otio_tools.specs.Answer.{object_json, AnswersHeld, AnswersAsked}
+use Rattle.otio_tools.specs.Answer.{AnswersHeld, AnswersAsked}
+use Rattle.otio_tools.specs.Conformed.{media_in}
+use Rattle.script_law.specs.Shown.{opened}
+use Rattle.otio_tools.specs.Edited.{IsWorkOn, command_fault_text}
+use Rattle.otio_tools.specs.Written.{object_json, timeline_text}
+use Rattle.otio_tools.specs.declared.Desk.{Desk}
 use Rattle.otio_tools.specs.Run.{Streams, Sends, Directs, DirectsFront, DirectsPrefix, FailsUnder, Message, OutFailed, SendsNothing, no_memory, output_failed}
 use Rattle.otio_tools.specs.declared.Status.{Status}
 use Rattle.otio_tools.specs.declared.Status.TheVariants as status
 use Rattle.otio_tools.specs.declared.planned.Planned.{Planned}
-use Rattle.otio_tools.specs.declared.planned.Planned.TheVariants.{Events, Value, Root, Rows}
+use Rattle.otio_tools.specs.declared.planned.Planned.TheVariants.{Events, Value, Root, Rows, Edited}
 
 -- the text of what is to be sent
 abbrev pub text_planned : Planned → List ℕ
@@ -48,6 +66,7 @@ text_planned (Events list drop wide) = spelling list drop wide
 text_planned (Value value) = layout value
 text_planned (Root object) = layout (object_json object)
 text_planned (Rows timeline listing) = listing_text timeline listing
+text_planned (Edited desk) = timeline_text desk.timeline
 
 -- What is planned of contents is the answer, or why there is nothing to send, told of the file of
 -- that name; want of memory is free.
@@ -57,22 +76,18 @@ Suffices Is name (Ok planned) = (target : Option (List ℕ))
 Suffices Is name (Err refusal) =
     (target : Option (List ℕ)) → IsRefused (λ why. Is target (refused name why)) refusal
 
--- what is planned of what the file of that name holds; why there is nothing to send is told of that
--- file
-abbrev pub IsRefusedHeld : Command → List ℕ → Option (List ℕ) → List Content → ReadFault → Type 0
-IsRefusedHeld command name media contents Absent = ⊥
-IsRefusedHeld command name media contents Failed = ⊥
-IsRefusedHeld command name media contents (Refused refusal) = (target : Option (List ℕ))
-    → IsRefused (λ why. AnswersHeld command (files_of command name media) target contents
-    (refused name why)) refusal
+-- what is planned of what files hold; why there is nothing to send is told of the file of that name
+abbrev pub IsRefusedHeld : Command → List Source → List Content → List ℕ → ReadFault → Type 0
+IsRefusedHeld command files contents name Absent = ⊥
+IsRefusedHeld command files contents name Failed = ⊥
+IsRefusedHeld command files contents name (Refused refusal) = (target : Option (List ℕ))
+    → IsRefused (λ why. AnswersHeld command files target contents (refused name why)) refusal
 
-abbrev pub PlansHeld : Command → List ℕ → Option (List ℕ) → List Content
-    → Result Planned SourceFault → Type 0
-PlansHeld command name media contents (Ok planned) = (target : Option (List ℕ))
-    → AnswersHeld command (files_of command name media) target contents
-    (done target (text_planned planned))
-PlansHeld command name media contents (Err stop) =
-    (stop.name.now ≡ name) × IsRefusedHeld command name media contents stop.fault
+abbrev pub PlansHeld : Command → List Source → List Content → Result Planned SourceFault → Type 0
+PlansHeld command files contents (Ok planned) = (target : Option (List ℕ))
+    → AnswersHeld command files target contents (done target (text_planned planned))
+PlansHeld command files contents (Err stop) =
+    IsRefusedHeld command files contents stop.name.now stop.fault
 
 -- the timeline of a list, which is accepted and makes few items
 pub record IsConformedTo (list : EventList) (media : MediaRows)
@@ -98,6 +113,108 @@ abbrev pub AreContents : List Content → Type 0
 AreContents contents =
     (first : Content) × (media : MediaRows) × (contents ≡ first ∷ media_content media)
 
+-- what files hold that is edited: the timeline, or one that the list conforms to; the desk is what
+-- the commands leave of it
+abbrev pub IsWorkHeld : Command → List Content → Desk → Type 0
+IsWorkHeld Edit (content.Film timeline ∷ content.Commands commands ∷ more) desk =
+    IsFaultless timeline × IsWorkOn timeline commands.items (media_in more) desk
+IsWorkHeld (ListEdit rate) (content.Events list ∷ content.Commands commands ∷ more) desk =
+    (timeline : Timeline) × IsConformedTo list (media_in more) timeline × IsFaultless timeline
+    × IsWorkOn timeline commands.items (media_in more) desk
+IsWorkHeld command contents desk = ⊥
+
+-- what is planned of an edit is a desk, and of no other command
+abbrev pub LeavesWork : Command → List Content → Planned → Type 0
+LeavesWork command contents (Edited desk) = IsWorkHeld command contents desk
+LeavesWork command contents (Events list drop wide) = EditsTimeline command → ⊥
+LeavesWork command contents (Value value) = EditsTimeline command → ⊥
+LeavesWork command contents (Root object) = EditsTimeline command → ⊥
+LeavesWork command contents (Rows timeline listing) = EditsTimeline command → ⊥
+
+-- it is so of what these files hold
+abbrev pub LeavesWorkOf : Asked → Held → Planned → Type 0
+LeavesWorkOf asked held planned =
+    (contents : List Content) × AreRead held asked.files contents
+    × LeavesWork asked.command contents planned
+
+-- a desk is planned for edits alone
+abbrev pub IsDesk : Planned → Type 0
+IsDesk (Edited desk) = Unit {0}
+IsDesk (Events list drop wide) = ⊥
+IsDesk (Value value) = ⊥
+IsDesk (Root object) = ⊥
+IsDesk (Rows timeline listing) = ⊥
+
+abbrev pub IsDeskFor : Command → Planned → Type 0
+IsDeskFor command planned = IsDesk planned → EditsTimeline command
+
+-- what a desk holds once a plan was carried out
+abbrev pub desk_planned : Planned → Option Desk → Option Desk
+desk_planned (Edited desk) before = Some desk
+desk_planned (Events list drop wide) before = before
+desk_planned (Value value) before = before
+desk_planned (Root object) before = before
+desk_planned (Rows timeline listing) before = before
+
+abbrev pub desk_after : Result Planned SourceFault → Option Desk → Option Desk
+desk_after (Ok planned) before = desk_planned planned before
+desk_after (Err stop) before = before
+
+-- the sound timeline that is edited: that of the file, or one that its list conforms to
+abbrev pub IsOpened : Content → MediaRows → Timeline → Type 0
+IsOpened (content.Film film) media timeline = timeline ≡ film
+IsOpened (content.Events list) media timeline = IsConformedTo list media timeline
+IsOpened (content.Value value) media timeline = ⊥
+IsOpened (content.Root object) media timeline = ⊥
+IsOpened (content.Rows rows) media timeline = ⊥
+IsOpened (content.Commands commands) media timeline = ⊥
+
+-- a timeline isn't sound, as it is told
+abbrev pub IsUnsound : Timeline → List ℕ → Type 0
+IsUnsound timeline why = (fault : CoordFault) × (fault ≢ coord.Memory) × IsFaultOf timeline fault
+    × (why ≡ coord_fault_text fault)
+
+-- a list isn't conformed, as it is told
+abbrev pub IsUnconformed : EventList → MediaRows → List ℕ → Type 0
+IsUnconformed list media why = (fault : ConformFault) × (fault ≢ conform.Memory)
+    × IsConformFault list media fault × (why ≡ conform_fault_text fault)
+
+-- why there is no timeline to edit
+abbrev pub IsUnopened : Content → MediaRows → List ℕ → Type 0
+IsUnopened (content.Film film) media why = IsUnsound film why
+IsUnopened (content.Events list) media why = IsUnconformed list media why
+    ⊎ ((timeline : Timeline) × IsConformedTo list media timeline × IsUnsound timeline why)
+IsUnopened (content.Value value) media why = ⊥
+IsUnopened (content.Root object) media why = ⊥
+IsUnopened (content.Rows rows) media why = ⊥
+IsUnopened (content.Commands commands) media why = ⊥
+
+-- a command of the script is refused, as it is told
+abbrev pub IsHaltOf : Timeline → List script.Command → MediaRows → List ℕ → Type 0
+IsHaltOf timeline commands media why = (state : State) × (fault : CommandFault)
+    × Halts media commands (opened timeline) state fault × (why ≡ command_fault_text fault)
+
+-- a timeline of few items, or a well formed list
+abbrev pub IsEditable : Content → Type 0
+IsEditable (content.Film timeline) = IsOfTables timeline
+IsEditable (content.Events list) = IsWellFormed list
+IsEditable (content.Value value) = ⊥
+IsEditable (content.Root object) = ⊥
+IsEditable (content.Rows rows) = ⊥
+IsEditable (content.Commands commands) = ⊥
+
+-- what an edit reads: what is edited, the script, and the media list behind it where one is read
+abbrev pub AreEditContents : List Content → Type 0
+AreEditContents contents = (first : Content) × (commands : Vec script.Command) × (media : MediaRows)
+    × (contents ≡ first ∷ content.Commands commands ∷ media_content media)
+
+-- these are the parts of what an edit reads
+pub record AreEditParts (command : Command) (first : Content) (commands : Vec script.Command)
+    (rows : MediaRows) (contents : List Content) : Type 0 where
+  pub edits : EditsTimeline command
+  pub suits : Suits (kind_of command) first
+  pub are : contents ≡ first ∷ content.Commands commands ∷ media_content rows
+
 -- why there is nothing to send: the answer, or the first file of which a call failed
 abbrev pub IsStop : Asked → List ℕ → ReadFault → KnownFiles → KnownFiles → Type 0
 IsStop asked name Absent old new = AnswersAsked asked old.held (absent name)
@@ -111,7 +228,7 @@ IsStop asked name (Refused refusal) old new =
 abbrev pub Plans : Asked → Result Planned SourceFault → KnownFiles → KnownFiles → Type 0
 Plans asked (Ok planned) old new =
     AnswersAsked asked old.held (done asked.target (text_planned planned))
-    × EndsWith asked.files new
+    × EndsWith asked.files new × LeavesWorkOf asked old.held planned
 Plans asked (Err stop) old new = IsStop asked stop.name.now stop.fault old new
 
 -- the content is a well formed list
@@ -121,6 +238,7 @@ HasFormedList (content.Value value) = ⊥
 HasFormedList (content.Root object) = ⊥
 HasFormedList (content.Film timeline) = ⊥
 HasFormedList (content.Rows rows) = ⊥
+HasFormedList (content.Commands commands) = ⊥
 
 -- a list that can be written in this mode and layout
 pub record IsWritableIn (list : EventList) (drop wide : Bool) : Type 0 where
@@ -139,12 +257,14 @@ Fits (Events list drop wide) = IsWritableIn list drop wide
 Fits (Value value) = Unit {0}
 Fits (Root object) = Unit {0}
 Fits (Rows timeline listing) = CanBeShown timeline
+Fits (Edited desk) = Unit {0}
 
 abbrev pub AreRows : Planned → Type 0
 AreRows (Events list drop wide) = ⊥
 AreRows (Value value) = ⊥
 AreRows (Root object) = ⊥
 AreRows (Rows timeline listing) = Unit {0}
+AreRows (Edited desk) = ⊥
 
 -- rows are planned for frames alone
 abbrev pub IsFor : Command → Planned → Type 0

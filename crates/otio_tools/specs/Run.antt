@@ -6,7 +6,7 @@ use Rattle.dev_io.specs.Calls.{Tells, Adds, AddsPrefix}
 use Rattle.dev_io.specs.Causes.{Rose}
 use Rattle.source_files.specs.Order.{FirstIsNot}
 use Rattle.source_files.specs.Reading.{Held, Source, IsRead, IsFailureOf, EndsWith}
-use Rattle.command_words.specs.Asked.{Ask}
+use Rattle.command_words.specs.Asked.{Ask, OtherNames}
 use Rattle.command_words.specs.declared.requests.Command.{Command}
 use Rattle.otio_tools.specs.Asked.{Asked, Asks, ListsFrames}
 use Rattle.otio_tools.specs.Forms.{Answer, read_failed}
@@ -104,9 +104,9 @@ pub record AsksFrames (words : List (List ℕ)) : Type 0 where
   pub command : Command
   pub lists : ListsFrames command
   pub name : List ℕ
-  pub media : Option (List ℕ)
+  pub others : OtherNames
   pub target : Option (List ℕ)
-  pub ask : Ask words command name media target
+  pub ask : Ask words command name others target
 
 -- The answer was an output, the rows of frames, and memory ran out over them: a prefix was sent.
 pub record Breaks (words : List (List ℕ)) (held : Held) (d : Streams) : Type 0 where

@@ -9,7 +9,7 @@ ghost use Rattle.fault_text.specs.Faults.{not_carried_text};
 ghost use Rattle.source_files.specs.Formats.{IsOfTables};
 ghost use Rattle.source_files.specs.Reading.{IsRefused};
 ghost use Rattle.otio_tools.specs.Carried.{AnswersCarried};
-ghost use Rattle.otio_tools.specs.Plan.{AreRows, Fits, IsCarriedBy, Suffices};
+ghost use Rattle.otio_tools.specs.Plan.{AreRows, Fits, IsCarriedBy, IsDesk, Suffices};
 
 use crate::frames::unsound;
 use crate::planned::Planned;
@@ -41,6 +41,7 @@ pub fn timeline_to_list(
         AnswersCarried drop wide name media target timeline answer) name result }
     ensures fits { IfOk result (λ planned. Fits planned) }
     ensures kind { IfOk result (λ planned. AreRows planned → ⊥) }
+    ensures desk { IfOk result (λ planned. IsDesk planned → ⊥) }
 {
     match sound(alloc, &timeline) {
         Ok(()) => sound_to_list(alloc, timeline, media, drop, wide),
@@ -62,6 +63,7 @@ fn sound_to_list(
         AnswersCarried drop wide name media target timeline answer) name result }
     ensures fits { IfOk result (λ planned. Fits planned) }
     ensures kind { IfOk result (λ planned. AreRows planned → ⊥) }
+    ensures desk { IfOk result (λ planned. IsDesk planned → ⊥) }
 {
     match list_of(alloc, timeline, media, drop, wide) {
         Ok(list) => {

@@ -1,20 +1,23 @@
 // The top call.
-ghost use Rattle.std.specs.Prelude.{◌≡◌, ◌≢◌, ◌↔◌, ℕ, List, map, string_bytes, IfOk, IfSome};
+ghost use Rattle.std.specs.Prelude.{◌≡◌, ◌≢◌, ◌↔◌, ℕ, List, None, map, string_bytes, IfOk, IfSome};
 ghost use Rattle.dev_io.specs.Calls.{Tells, SendsAll, IsFresh};
 ghost use Rattle.edl_layout.specs.Spelling.{spelling};
 ghost use Rattle.json_layout.specs.Layout.{layout};
 ghost use Rattle.frame_rows.specs.Rows.{listing_text};
 ghost use Rattle.command_words.specs.Asked.{Ask, AskNothing};
-ghost use Rattle.otio_tools.specs.Answer.{object_json};
+ghost use Rattle.command_words.specs.Asked.{other_names};
+ghost use Rattle.otio_tools.specs.Asked.{IsScripted, EditsTimeline};
+ghost use Rattle.otio_tools.specs.Written.{object_json, timeline_text};
+ghost use Rattle.otio_tools.specs.Worked.{AskNoEdit, LeavesDesk};
 ghost use Rattle.otio_tools.specs.Texts.{text_at};
 ghost use Rattle.otio_tools.specs.Kept.{KeepsShown};
 ghost use Rattle.otio_tools.specs.Run.{Completes, Ends, Says, KeepsStill, no_memory, streams};
-ghost use Rattle.otio_tools.specs.Plan.{AreRows, CanBeShown, Carries, Complains, Fits, HasSendCause, IsWritableIn, Writes, WritesTo, text_planned, message_about, message_unsent, status_of, status_unsent};
+ghost use Rattle.otio_tools.specs.Plan.{AreRows, CanBeShown, Carries, Complains, Fits, HasSendCause, IsWritableIn, desk_after, desk_planned, Writes, WritesTo, text_planned, message_about, message_unsent, status_of, status_unsent};
 ghost use Rattle.source_files.specs.declared.faults.ReadFault.TheVariants.{Refused as RefusedFor};
 
-use crate::Status;
 use crate::planned::{Planned, plan};
 use crate::say::{say, say_of, say_why};
+use crate::{Desk, Status};
 use command_words::{Request, request_of};
 use dev_io::{Files, Out};
 use edl_layout::write_list;
@@ -22,7 +25,7 @@ use edl_list::EventList;
 use frame_rows::{Listing, RowFault, write_rows};
 use json_layout::write_json;
 use json_value::Json;
-use object_layout::write_object;
+use object_layout::{write_object, write_timeline};
 use otio_model::{Object, Timeline};
 use source_files::{ReadFault, Refusal, SourceFault};
 use std::alloc::Global;
@@ -63,6 +66,12 @@ const USAGE: &[u8] = b"otio: usage
 /// longest child, at most 100 000. Refused are an object that is no timeline, a timeline that isn't
 /// sound, and then a label that is none at the record rate.
 ///
+/// `edit --script S FILE` reads a timeline, or a list, which it conforms in the same way, and the
+/// script S, runs the script's commands on the timeline, with clips of the reels of the media list
+/// that `--media` names, and sends the timeline that they lead to. Refused are a timeline that
+/// isn't sound, and then, told of the script, the first command that is refused. What is sent
+/// stands on `desk` then, with the log of the edits; every other command leaves `desk` as it is.
+///
 /// `-o OUT` aims `out` at that file before anything is sent.
 /// Each status but `Done` sends one message to `err`; where `err` fails, a prefix of it was sent,
 /// and the status is the same. Nothing is sent to `out` before the file is judged. Want of memory
@@ -74,8 +83,10 @@ pub fn run<F: Files, W: Out, E: Out>(
     files: &mut F,
     out: &mut W,
     err: &mut E,
+    desk: &mut Option<Desk>,
 ) -> Status
-    requires { IsFresh (W.known out.old) }
+    requires fresh { IsFresh (W.known out.old) }
+    requires empty { desk.old ≡ None }
     // Over files that tell what they hold: the status, the output and the message are those of the
     // one answer to the words and the files.
     ensures ends { let said = map (λ w. string_bytes w) words.now.items in
@@ -88,6 +99,14 @@ pub fn run<F: Files, W: Out, E: Out>(
     ensures kept { let said = map (λ w. string_bytes w) words.now.items in
         let sent = streams W.faults W.known E.faults E.known out.old out.new err.old err.new in
         IfSome (F.known files.old) (KeepsShown said sent result) }
+
+    // An edit leaves on the desk the timeline that its script leads to, which is what is sent, and
+    // the log of the edits: after each of them every frame shows what its law says, and undoing all
+    // gives the timeline that was read. Every other command leaves nothing there.
+    ensures worked { let said = map (λ w. string_bytes w) words.now.items in
+        IfSome (F.known files.old) (LeavesDesk said result desk.new) }
+    ensures unworked { let said = map (λ w. string_bytes w) words.now.items in
+        AskNoEdit said → desk.new ≡ None }
 
     // Where no device failed, the status is that of the answer.
     ensures complete { let said = map (λ w. string_bytes w) words.now.items in
@@ -106,7 +125,7 @@ pub fn run<F: Files, W: Out, E: Out>(
     ensures calm { result ≢ Status.Input → F.faults files.new ≡ F.faults files.old }
 {
     match request_of(words.as_slice()) {
-        Some(request) => serve(alloc, request, files, out, err),
+        Some(request) => serve(alloc, request, files, out, err, desk),
         None => {
             say(err, &[USAGE]);
             Status::Usage
@@ -121,24 +140,32 @@ fn serve<F: Files, W: Out, E: Out>(
     files: &mut F,
     out: &mut W,
     err: &mut E,
+    desk: &mut Option<Desk>,
 ) -> Status
-    requires { IsFresh (W.known out.old) }
+    requires fresh { IsFresh (W.known out.old) }
+    requires empty { desk.old ≡ None }
+    requires scripted { IsScripted request.command (text_at request.others.script) }
     ensures ends { (words : List (List ℕ)) →
-        Ask words request.entry.command request.entry.name.now (text_at request.entry.media)
+        Ask words request.entry.command request.entry.name.now (other_names request.entry.others)
         (text_at request.entry.target) →
         let sent = streams W.faults W.known E.faults E.known out.old out.new err.old err.new in
         Tells (Ends words (F.faults files.old) (F.faults files.new) sent result)
         (F.known files.old) (F.known files.new) }
+    ensures worked { (words : List (List ℕ)) →
+        Ask words request.entry.command request.entry.name.now (other_names request.entry.others)
+        (text_at request.entry.target) →
+        IfSome (F.known files.old) (LeavesDesk words result desk.new) }
+    ensures unworked { (EditsTimeline request.entry.command → ⊥) → desk.new ≡ None }
     ensures still { (words : List (List ℕ)) →
-        Ask words request.entry.command request.entry.name.now (text_at request.entry.media)
+        Ask words request.entry.command request.entry.name.now (other_names request.entry.others)
         (text_at request.entry.target) →
         let sent = streams W.faults W.known E.faults E.known out.old out.new err.old err.new in
         KeepsStill words sent result }
     ensures asked { result ≢ Status.Usage }
     ensures calm { result ≢ Status.Input → F.faults files.new ≡ F.faults files.old }
 {
-    let planned = plan(alloc, request.command, request.name, request.media, files);
-    carry_out(alloc, request.target, planned, out, err)
+    let planned = plan(alloc, request.command, request.name, request.others, files);
+    carry_out(alloc, request.target, planned, out, err, desk)
 }
 
 // Sends what is planned, or the message of the fault.
@@ -148,19 +175,32 @@ fn carry_out<W: Out, E: Out>(
     planned: Result<Planned, SourceFault<'_>>,
     out: &mut W,
     err: &mut E,
+    desk: &mut Option<Desk>,
 ) -> Status
     requires fits { IfOk planned (λ all. Fits all) }
     requires fresh { IsFresh (W.known out.old) }
-    ensures { Carries (text_at target.entry) planned.entry
+    ensures carried { Carries (text_at target.entry) planned.entry
         (streams W.faults W.known E.faults E.known out.old out.new err.old err.new) result }
+    ensures desk { desk.new ≡ desk_after planned.entry desk.old }
 {
     match planned {
         Ok(planned) => {
             let status = send(alloc, target, &planned, out, err);
-            mem::forget(planned);
+            leave(planned, desk);
             status
         }
         Err(stop) => complain(stop, err),
+    }
+}
+
+// Leaves what was edited on the desk, and anything else where it is: what is left of a run is its
+// status.
+fn leave(planned: Planned, desk: &mut Option<Desk>)
+    ensures { desk.new ≡ desk_planned planned desk.old }
+{
+    match planned {
+        Planned::Edited(edited) => mem::forget(mem::replace(desk, Some(edited))),
+        other => mem::forget(other),
     }
 }
 
@@ -233,6 +273,7 @@ fn write_planned<W: Out>(alloc: Global, planned: &Planned, out: &mut W) -> Resul
         Planned::Value(value) => write_value(value, out),
         Planned::Root(object) => write_root(object, out),
         Planned::Rows(timeline, listing) => write_frames(alloc, timeline, listing, out),
+        Planned::Edited(desk) => write_edited(&desk.timeline, out),
     }
 }
 
@@ -272,6 +313,18 @@ fn write_root<W: Out>(object: &Object, out: &mut W) -> Result<(), RowFault>
     ensures cause { HasSendCause ⊥ (W.faults out.old) (W.faults out.new) result }
 {
     match write_object(object, out) {
+        Ok(()) => Ok(()),
+        Err(_) => Err(RowFault::Sink),
+    }
+}
+
+// Sends a timeline.
+fn write_edited<W: Out>(timeline: &Timeline, out: &mut W) -> Result<(), RowFault>
+    ensures told { Tells (SendsAll (timeline_text timeline.now) result) (W.known out.old)
+        (W.known out.new) }
+    ensures cause { HasSendCause ⊥ (W.faults out.old) (W.faults out.new) result }
+{
+    match write_timeline(timeline, out) {
         Ok(()) => Ok(()),
         Err(_) => Err(RowFault::Sink),
     }

@@ -6,9 +6,9 @@ ghost use Rattle.fault_text.specs.Faults.{conform_fault_text};
 ghost use Rattle.source_files.specs.Reading.{IsRefused};
 ghost use Rattle.edl_frames.specs.Faults.{IsConformFault};
 ghost use Rattle.otio_tools.specs.Conformed.{AnswersConformed};
-ghost use Rattle.otio_tools.specs.Answer.{AnswersWritten};
+ghost use Rattle.otio_tools.specs.Written.{AnswersWritten};
 ghost use Rattle.otio_tools.specs.Frames.{AnswersTimeline};
-ghost use Rattle.otio_tools.specs.Plan.{AreRows, Fits, IsConformedTo, Suffices};
+ghost use Rattle.otio_tools.specs.Plan.{AreRows, Fits, IsConformedTo, IsDesk, Suffices};
 
 use crate::frames::frames_to_write;
 use crate::planned::Planned;
@@ -35,6 +35,7 @@ pub fn conformed_to_write(
         AnswersConformed name list media (AnswersWritten target) answer) name result }
     ensures fits { IfOk result (λ planned. Fits planned) }
     ensures kind { IfOk result (λ planned. AreRows planned → ⊥) }
+    ensures desk { IfOk result (λ planned. IsDesk planned → ⊥) }
 {
     match conformed(alloc, list, media) {
         Ok(timeline) => Ok(Planned::Root(Object::Timeline(timeline))),
@@ -54,6 +55,7 @@ pub fn conformed_frames_to_write(
     ensures owed { (name : List ℕ) → Suffices (λ target answer.
         AnswersConformed name list media (AnswersTimeline frames name target) answer) name result }
     ensures fits { IfOk result (λ planned. Fits planned) }
+    ensures desk { IfOk result (λ planned. IsDesk planned → ⊥) }
 {
     match conformed(alloc, list, media) {
         Ok(timeline) => frames_to_write(alloc, timeline, frames),
@@ -79,8 +81,8 @@ fn conformed(
     timeline
 }
 
-// How a list that isn't conformed is refused.
-fn not_conformed(fault: ConformFault) -> Refusal
+/// How a list that isn't conformed is refused.
+pub fn not_conformed(fault: ConformFault) -> Refusal
     ensures { IsRefused (λ why. (fault ≢ ConformFault.Memory)
         × (why ≡ conform_fault_text fault)) result }
 {

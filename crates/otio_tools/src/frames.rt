@@ -5,7 +5,7 @@ ghost use Rattle.coord.specs.Soundness.{IsFaultless};
 ghost use Rattle.fault_text.specs.Faults.{coord_fault_text};
 ghost use Rattle.source_files.specs.Reading.{IsRefused};
 ghost use Rattle.otio_tools.specs.Frames.{AnswersTimeline};
-ghost use Rattle.otio_tools.specs.Plan.{Fits, Suffices};
+ghost use Rattle.otio_tools.specs.Plan.{Fits, IsDesk, Suffices};
 
 use crate::planned::Planned;
 use command_words::FramesAsked;
@@ -29,6 +29,7 @@ pub fn frames_to_write(
     ensures owed { (name : List ℕ) →
         Suffices (λ target answer. AnswersTimeline asked name target timeline answer) name result }
     ensures fits { IfOk result (λ planned. Fits planned) }
+    ensures desk { IfOk result (λ planned. IsDesk planned → ⊥) }
 {
     match sound(alloc, &timeline) {
         Ok(()) => rows_of(timeline, asked),
@@ -43,6 +44,7 @@ fn rows_of(timeline: Timeline, asked: FramesAsked) -> Result<Planned, Refusal>
     ensures owed { (name : List ℕ) →
         Suffices (λ target answer. AnswersTimeline asked name target timeline answer) name result }
     ensures fits { IfOk result (λ planned. Fits planned) }
+    ensures desk { IfOk result (λ planned. IsDesk planned → ⊥) }
 {
     match listing_of(&timeline, asked.child, asked.start, asked.count) {
         Some(listing) => Ok(Planned::Rows(timeline, listing)),

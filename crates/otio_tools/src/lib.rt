@@ -9,6 +9,7 @@ ghost use Rattle.otio_tools.specs.Forms.{Answer};
 mod carried;
 mod command;
 mod conformed;
+mod edited;
 mod frames;
 mod list;
 mod planned;
@@ -16,12 +17,23 @@ mod say;
 mod texts;
 
 pub use command::run;
+use otio_model::Timeline;
+use undo_log::Log;
 
 /// Law: words and files have at most one answer. It does nothing.
 pub fn one_answer()
     ensures { (words : List (List ℕ)) (held : Held) (a b : Answer) → Answers words held a
         → Answers words held b → a ≡ b }
 {}
+
+/// What a command has worked on: a timeline, and the log of the edits that led to it.
+#[derive(Drop)]
+pub struct Desk {
+    /// The timeline at the log's position.
+    pub timeline: Timeline,
+    /// The edits that can be undone, and those that can be done again.
+    pub log: Log,
+}
 
 /// How a run ended. The number beside each is the exit status of the program.
 #[derive(Clone, Copy, Debug, PartialEq, Eq)]

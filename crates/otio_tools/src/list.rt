@@ -5,7 +5,7 @@ ghost use Rattle.edl_list.specs.Formed.{IsWellFormed};
 ghost use Rattle.edl_list.specs.Layouts.{layout_of, FitsEvent};
 ghost use Rattle.edl_layout.specs.Wide.{IsFirstWide};
 ghost use Rattle.otio_tools.specs.Events.{AnswersEvents, CanBeWritten};
-ghost use Rattle.otio_tools.specs.Plan.{AreRows, Fits, Suffices};
+ghost use Rattle.otio_tools.specs.Plan.{AreRows, Fits, IsDesk, Suffices};
 
 use crate::planned::Planned;
 use edl_layout::{first_label_past_day, first_wide_reel};
@@ -55,6 +55,7 @@ pub fn list_to_write(list: EventList, asked: bool, wide: bool) -> Result<Planned
         name result }
     ensures fits { IfOk result (λ planned. Fits planned) }
     ensures kind { IfOk result (λ planned. AreRows planned → ⊥) }
+    ensures desk { IfOk result (λ planned. IsDesk planned → ⊥) }
 {
     let drop = is_drop(asked, &list);
     write_in_mode(list, drop, wide)
@@ -67,6 +68,7 @@ fn write_in_mode(list: EventList, drop: bool, wide: bool) -> Result<Planned, Ref
         Suffices (λ target answer. AnswersEvents name target list drop wide answer) name result }
     ensures fits { IfOk result (λ planned. Fits planned) }
     ensures kind { IfOk result (λ planned. AreRows planned → ⊥) }
+    ensures desk { IfOk result (λ planned. IsDesk planned → ⊥) }
 {
     if !has_timecode(list.rate, drop) {
         return Err(Refusal::Broken(no_timecode_reason()));
@@ -89,6 +91,7 @@ fn write_in_columns(list: EventList, drop: bool, wide: bool) -> Result<Planned, 
         Suffices (λ target answer. AnswersEvents name target list drop wide answer) name result }
     ensures fits { IfOk result (λ planned. Fits planned) }
     ensures kind { IfOk result (λ planned. AreRows planned → ⊥) }
+    ensures desk { IfOk result (λ planned. IsDesk planned → ⊥) }
 {
     match first_label_past_day(&list, drop) {
         Some(line) => Err(Refusal::Broken(day_reason(line))),

@@ -1,29 +1,39 @@
 // What is to be sent for a command, or why there is nothing.
 ghost use Rattle.std.specs.Prelude.{◌≡◌, ◌≢◌, ◌++◌, ℕ, List, Option, [], ◌∷◌, IfOk, IfErr, length};
+ghost use Rattle.std.specs.Global.{Vec as AnyVec};
+ghost use Rattle.std.specs.Option.{option_copied};
+ghost use Rattle.command_words.specs.declared.requests.Command.{Command as AnyCommand};
 ghost use Rattle.dev_io.specs.Calls.{Tells};
 ghost use Rattle.source_files.specs.Order.{EachIs};
 ghost use Rattle.source_files.specs.Formats.{Suits};
 ghost use Rattle.source_files.specs.Reading.{RaisedAt, HaveRead, HasStopped, Source as Input};
-ghost use Rattle.source_files.specs.declared.kinds.Content.TheVariants.{Value, Root, Film, Events as ListOf, Rows};
+ghost use Rattle.script_text.specs.declared.commands.Command.{Command as Line};
+ghost use Rattle.source_files.specs.declared.kinds.Content.{Content as AnyContent};
+ghost use Rattle.source_files.specs.declared.kinds.Content.TheVariants.{Value, Root, Film, Events as ListOf, Rows, Commands};
 ghost use Rattle.source_files.specs.declared.kinds.Kind.TheVariants.{Json as AsJson, Object as AsObject, Timeline as AsTimeline};
-ghost use Rattle.otio_tools.specs.Asked.{asked_for, files_of, kind_of};
+ghost use Rattle.command_words.specs.Asked.{other_names};
+ghost use Rattle.otio_tools.specs.Asked.{EditsTimeline, IsScripted, asked_for, edit_files, files_of, kind_of, one_file};
 ghost use Rattle.otio_tools.specs.Answer.{AnswersHeld};
-ghost use Rattle.otio_tools.specs.Plan.{Plans, PlansHeld, Suffices, AreContents, AreRows, Fits, HasFormedList, IsFor, media_content};
+ghost use Rattle.otio_tools.specs.Plan.{Plans, PlansHeld, Suffices, AreContents, AreEditContents, AreEditParts, AreRows, Fits, HasFormedList, IsDesk, IsDeskFor, IsEditable, IsFor, LeavesWork, media_content};
 ghost use Rattle.otio_tools.specs.Texts.{text_at};
 
+use crate::Desk;
 use crate::carried::timeline_to_list;
 use crate::conformed::{conformed_frames_to_write, conformed_to_write};
+use crate::edited::{run_script, timeline_to_edit};
 use crate::frames::frames_to_write;
 use crate::list::list_to_write;
-use command_words::Command;
+use command_words::{Command, Others};
 use dev_io::Files;
 use edl_list::EventList;
 use frame_rows::Listing;
 use json_value::Json;
 use media_list::MediaList;
 use otio_model::{Object, Timeline};
+use script_text::Command as ScriptCommand;
 use source_files::{Content, Kind, ReadFault, Refusal, Source, SourceFault, read_sources};
 use std::alloc::Global;
+use std::mem;
 
 /// What is to be sent.
 #[derive(Drop)]
@@ -43,61 +53,83 @@ pub enum Planned {
     Root(Object),
     /// Rows of a timeline's frames, one after another.
     Rows(Timeline, Listing),
+    /// The timeline of a desk, in the layout of its JSON.
+    Edited(Desk),
 }
 
-/// What the command is to send for the file of that name, with the media list of that name behind
-/// it: the files are read, and then the command is judged over what they hold.
+/// What the command is to send for the file of that name, with the others behind it: the files are
+/// read, and then the command is judged over what they hold.
 pub fn plan<'a, F: Files>(
     alloc: Global,
     command: Command,
     name: &'a str,
-    media: Option<&'a str>,
+    others: Others<'a>,
     files: &mut F,
 ) -> Result<Planned, SourceFault<'a>>
+    requires { IsScripted command (text_at others.script) }
     ensures told { (target : Option (List ℕ)) →
-        Tells (Plans (asked_for command name.now (text_at media.entry) target) result)
+        Tells (Plans (asked_for command name.now (other_names others.entry) target) result)
         (F.known files.old) (F.known files.new) }
     ensures fits { IfOk result (λ planned. Fits planned) }
     ensures kind { IfOk result (λ planned. IsFor command planned) }
+    ensures desk { IfOk result (λ planned. IsDeskFor command planned) }
     ensures cause { RaisedAt result (F.faults files.old) (F.faults files.new) }
 {
-    match contents_of(alloc, command, name, media, files) {
-        Ok(contents) => planned_for(alloc, command, name, contents),
+    match contents_of(alloc, command, name, others, files) {
+        Ok(contents) => planned_for(alloc, command, name, others, contents),
         Err(stop) => Err(stop),
     }
 }
 
-// What the file of that name and the media list hold.
+// What the file of that name and the others hold.
 fn contents_of<'a, F: Files>(
     alloc: Global,
     command: Command,
     name: &'a str,
-    media: Option<&'a str>,
+    others: Others<'a>,
     files: &mut F,
 ) -> Result<Vec<Content>, SourceFault<'a>>
     ensures read { IfOk result (λ contents.
-        Tells (HaveRead (files_of command name.now (text_at media.entry)) contents.items)
+        Tells (HaveRead (files_of command name.now (other_names others.entry)) contents.items)
         (F.known files.old) (F.known files.new)) }
     ensures stopped { IfErr result (λ stop.
-        Tells (HasStopped (files_of command name.now (text_at media.entry)) stop)
+        Tells (HasStopped (files_of command name.now (other_names others.entry)) stop)
         (F.known files.old) (F.known files.new)) }
     ensures suits { IfOk result (λ contents. EachIs (λ source content. Suits source.kind content)
-        (files_of command name.now (text_at media.entry)) contents.items) }
+        (files_of command name.now (other_names others.entry)) contents.items) }
     ensures cause { RaisedAt result (F.faults files.old) (F.faults files.new) }
 {
     let file = Source {
         name,
         kind: kind_asked(command),
     };
-    match media {
-        Some(list) => {
-            let rows = Source {
-                name: list,
-                kind: Kind::Media,
+    match others.script {
+        Some(name) => {
+            let script = Source {
+                name,
+                kind: Kind::Script,
             };
-            read_sources(alloc, &[file, rows], files)
+            match others.media {
+                Some(list) => {
+                    let rows = Source {
+                        name: list,
+                        kind: Kind::Media,
+                    };
+                    read_sources(alloc, &[file, script, rows], files)
+                }
+                None => read_sources(alloc, &[file, script], files),
+            }
         }
-        None => read_sources(alloc, &[file], files),
+        None => match others.media {
+            Some(list) => {
+                let rows = Source {
+                    name: list,
+                    kind: Kind::Media,
+                };
+                read_sources(alloc, &[file, rows], files)
+            }
+            None => read_sources(alloc, &[file], files),
+        },
     }
 }
 
@@ -113,22 +145,53 @@ fn kind_asked(command: Command) -> Kind
         Command::ToJson => Kind::Json,
         Command::Frames(_) => Kind::Timeline,
         Command::ListFrames { rate, frames: _ } => Kind::List(rate),
+        Command::Edit => Kind::Timeline,
+        Command::ListEdit { rate } => Kind::List(rate),
     }
 }
 
-// What the command is to send for what the file of that name and the media list hold.
+// What the command is to send for what the file of that name and the others hold.
 fn planned_for<'a>(
+    alloc: Global,
+    command: Command,
+    name: &'a str,
+    others: Others<'a>,
+    contents: Vec<Content>,
+) -> Result<Planned, SourceFault<'a>>
+    requires scripted { IsScripted command (text_at others.script) }
+    requires suits { EachIs (λ source content. Suits source.kind content)
+        (files_of command name.now (other_names others)) contents.items }
+    ensures told { PlansHeld command (files_of command name.now (other_names others.entry))
+        contents.items result }
+    ensures work { IfOk result (LeavesWork command contents.items) }
+    ensures fits { IfOk result (λ planned. Fits planned) }
+    ensures kind { IfOk result (λ planned. IsFor command planned) }
+    ensures desk { IfOk result (λ planned. IsDeskFor command planned) }
+    ensures calm { (n : ℕ) → RaisedAt result n n }
+{
+    match others.script {
+        Some(script) => edit_planned(alloc, command, name, script, contents),
+        None => judged(alloc, command, name, contents),
+    }
+}
+
+// What a command that reads no script is to send for what the file of that name and the media list
+// hold.
+fn judged<'a>(
     alloc: Global,
     command: Command,
     name: &'a str,
     contents: Vec<Content>,
 ) -> Result<Planned, SourceFault<'a>>
-    requires { (media : Option (List ℕ)) × EachIs (λ source content. Suits source.kind content)
-        (files_of command name.now media) contents.items }
+    requires other { EditsTimeline command → ⊥ }
+    requires suits { (media : Option (List ℕ)) ×
+        EachIs (λ source content. Suits source.kind content)
+        (one_file command name.now media) contents.items }
     ensures told { (media : Option (List ℕ)) →
-        PlansHeld command name.now media contents.items result }
+        PlansHeld command (one_file command name.now media) contents.items result }
     ensures fits { IfOk result (λ planned. Fits planned) }
     ensures kind { IfOk result (λ planned. IsFor command planned) }
+    ensures desk { IfOk result (λ planned. IsDesk planned → ⊥) }
     ensures calm { (n : ℕ) → RaisedAt result n n }
 {
     let (content, media) = parted(contents);
@@ -138,6 +201,110 @@ fn planned_for<'a>(
             name,
             fault: ReadFault::Refused(refusal),
         }),
+    }
+}
+
+// What an edit is to send for what the file of that name, the script and the media list hold.
+fn edit_planned<'a>(
+    alloc: Global,
+    command: Command,
+    name: &'a str,
+    script: &'a str,
+    contents: Vec<Content>,
+) -> Result<Planned, SourceFault<'a>>
+    requires edits { EditsTimeline command }
+    requires suits { (media : Option (List ℕ)) ×
+        EachIs (λ source content. Suits source.kind content)
+        (edit_files command name.now script.now media) contents.items }
+    ensures told { (media : Option (List ℕ)) →
+        PlansHeld command (edit_files command name.now script.now media) contents.items result }
+    ensures work { IfOk result (LeavesWork command contents.items) }
+    ensures fits { IfOk result (λ planned. Fits planned) }
+    ensures kind { IfOk result (λ planned. AreRows planned → ⊥) }
+    ensures calm { (n : ℕ) → RaisedAt result n n }
+{
+    let (content, commands, media) = edit_parts(contents);
+    let ended = edited(alloc, name, script, content, commands, media.as_ref());
+    mem::forget(media);
+    ended
+}
+
+#[tactic(auto, using(crate::proofs::Editing::edit_done, crate::proofs::Editing::edit_halted, crate::proofs::Editing::edit_unopened, crate::proofs::Editing::edit_work))]
+// What an edit is to send for what is edited, these commands and this media list.
+fn edited<'a>(
+    alloc: Global,
+    name: &'a str,
+    script: &'a str,
+    content: Content,
+    commands: Vec<ScriptCommand>,
+    media: Option<&MediaList>,
+) -> Result<Planned, SourceFault<'a>>
+    requires { IsEditable content }
+    ensures told { (command : AnyCommand) (named : Option (List ℕ)) (contents : List AnyContent) →
+        AreEditParts command content commands (option_copied media.entry) contents →
+        PlansHeld command (edit_files command name.now script.now named) contents result }
+    ensures work { (command : AnyCommand) (contents : List AnyContent) →
+        AreEditParts command content commands (option_copied media.entry) contents →
+        IfOk result (LeavesWork command contents) }
+    ensures fits { IfOk result (λ planned. Fits planned) }
+    ensures kind { IfOk result (λ planned. AreRows planned → ⊥) }
+    ensures calm { (n : ℕ) → RaisedAt result n n }
+{
+    match timeline_to_edit(alloc, content, media) {
+        Ok(timeline) => match run_script(alloc, timeline, commands, media) {
+            Ok(desk) => Ok(Planned::Edited(desk)),
+            Err(refusal) => Err(SourceFault {
+                name: script,
+                fault: ReadFault::Refused(refusal),
+            }),
+        },
+        Err(refusal) => Err(SourceFault {
+            name,
+            fault: ReadFault::Refused(refusal),
+        }),
+    }
+}
+
+#[tactic(auto, using(crate::proofs::Parting::only_two, crate::proofs::Parting::front_two, crate::proofs::Parting::all_two, crate::proofs::Parting::all_three))]
+// What is edited, the script, and the media list behind it where one was read.
+fn edit_parts(contents: Vec<Content>) -> (Content, Vec<ScriptCommand>, Option<MediaList>)
+    requires { AreEditContents contents.items }
+    ensures { contents.items ≡ result.0 ∷ Commands result.1 ∷ media_content result.2 }
+{
+    if contents.len() == 2 {
+        let (content, commands) = content_and_script(contents);
+        return (content, commands, None);
+    }
+    let (contents, media) = media_behind(contents);
+    let (content, commands) = content_and_script(contents);
+    (content, commands, Some(media))
+}
+
+#[tactic(auto, using(crate::proofs::Parting::last_rows, crate::proofs::Parting::front_length))]
+// What is edited and the script, and the media list behind them.
+fn media_behind(contents: Vec<Content>) -> (Vec<Content>, MediaList)
+    requires are { AreEditContents contents.items }
+    requires three { length contents.items ≢ 2 }
+    ensures media { contents.items ≡ result.0.items ++ Rows result.1 ∷ [] }
+    ensures two { length result.0.items ≡ 2 }
+{
+    let mut contents = contents;
+    match contents.pop() {
+        Some(Content::Rows(media)) => (contents, media),
+        _ => unreachable!(),
+    }
+}
+
+// What is edited, and the script behind it.
+fn content_and_script(contents: Vec<Content>) -> (Content, Vec<ScriptCommand>)
+    requires { (first : AnyContent) × (commands : AnyVec Line) ×
+        (contents.items ≡ first ∷ Commands commands ∷ []) }
+    ensures { contents.items ≡ result.0 ∷ Commands result.1 ∷ [] }
+{
+    let mut contents = contents;
+    match contents.pop() {
+        Some(Content::Commands(commands)) => (only_content(contents), commands),
+        _ => unreachable!(),
     }
 }
 
@@ -186,12 +353,14 @@ fn judge(
     content: Content,
     media: Option<MediaList>,
 ) -> Result<Planned, Refusal>
-    requires { Suits (kind_of command) content }
+    requires suits { Suits (kind_of command) content }
+    requires other { EditsTimeline command → ⊥ }
     ensures owed { (file : Input) (more : List Input) →
         Suffices (λ target answer. AnswersHeld command (file ∷ more) target
         (content ∷ media_content media) answer) file.name result }
     ensures fits { IfOk result (λ planned. Fits planned) }
     ensures kind { IfOk result (λ planned. IsFor command planned) }
+    ensures desk { IfOk result (λ planned. IsDesk planned → ⊥) }
 {
     match command {
         Command::ListToList { drop, wide, .. } => list_to_write(list_in(content), drop, wide),
@@ -205,6 +374,8 @@ fn judge(
         Command::ListFrames { rate: _, frames } => {
             conformed_frames_to_write(alloc, list_in(content), media, frames)
         }
+        Command::Edit => unreachable!(),
+        Command::ListEdit { rate: _ } => unreachable!(),
     }
 }
 
@@ -219,6 +390,7 @@ fn list_in(content: Content) -> EventList
         Content::Root(_) => unreachable!(),
         Content::Film(_) => unreachable!(),
         Content::Rows(_) => unreachable!(),
+        Content::Commands(_) => unreachable!(),
     }
 }
 
@@ -233,6 +405,7 @@ fn value_in(content: Content) -> Json
         Content::Film(_) => unreachable!(),
         Content::Events(_) => unreachable!(),
         Content::Rows(_) => unreachable!(),
+        Content::Commands(_) => unreachable!(),
     }
 }
 
@@ -247,6 +420,7 @@ fn object_in(content: Content) -> Object
         Content::Film(_) => unreachable!(),
         Content::Events(_) => unreachable!(),
         Content::Rows(_) => unreachable!(),
+        Content::Commands(_) => unreachable!(),
     }
 }
 
@@ -261,5 +435,6 @@ fn timeline_in(content: Content) -> Timeline
         Content::Root(_) => unreachable!(),
         Content::Events(_) => unreachable!(),
         Content::Rows(_) => unreachable!(),
+        Content::Commands(_) => unreachable!(),
     }
 }

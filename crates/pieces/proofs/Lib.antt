@@ -5,3 +5,4 @@ pub mod Faultless
 pub mod BackLemmas
 pub mod StripLemmas
 pub mod WholeLemmas
+pub mod NotFar

@@ -148,10 +148,12 @@ pub fn cut(alloc: Global, item: &Item, ticks: i128, rate: Rate) -> Result<(Item,
     }
     let left = match left_piece(alloc, item, ticks, rate) {
         Ok(left) => left,
-        Err(_) => return Err(CutFault::Memory),
+        Err(RangedFault::Range) => unreachable!(),
+        Err(RangedFault::Memory) => return Err(CutFault::Memory),
     };
     match right_piece(alloc, item, ticks, rate) {
         Ok(right) => Ok((left, right)),
-        Err(_) => Err(CutFault::Memory),
+        Err(RangedFault::Range) => unreachable!(),
+        Err(RangedFault::Memory) => Err(CutFault::Memory),
     }
 }

@@ -56,7 +56,8 @@ pub fn front(alloc: Global, list: &[Item], ticks: i128, rate: Rate) -> Result<Ve
     }
     match front_items(alloc, list, ticks, rate) {
         Ok(front) => Ok(front),
-        Err(_) => Err(CutFault::Memory),
+        Err(RangedFault::Range) => unreachable!(),
+        Err(RangedFault::Memory) => Err(CutFault::Memory),
     }
 }
 
@@ -79,6 +80,7 @@ pub fn back(alloc: Global, list: &[Item], ticks: i128, rate: Rate) -> Result<Vec
     }
     match back_items(alloc, list, ticks, rate) {
         Ok(back) => Ok(back),
-        Err(_) => Err(CutFault::Memory),
+        Err(RangedFault::Range) => unreachable!(),
+        Err(RangedFault::Memory) => Err(CutFault::Memory),
     }
 }

@@ -1,26 +1,17 @@
 -- Words of the walk over lists that shows an instant; no public clause cites them.
 use Rattle.std.specs.Prelude.{◌≡◌, ℕ, zero, suc, ◌+◌, ◌<◌, ℤ, pos, ◌-ℤ◌, ◌≤ℤ◌, ◌<ℤ◌, unsigned_abs, Bool, true, false, ◌&&◌, cond, List, Option, Some, None, IfSome, slice_get, length}
 use Rattle.limits.specs.Limits.{most_ticks}
-use Rattle.json_value.specs.declared.Json.{Json, out-Json}
 use Rattle.otio_model.specs.declared.compositions.ItemOf.{ItemOf}
 use Rattle.otio_model.specs.declared.compositions.Listed.{Listed}
 use Rattle.otio_model.specs.Trees.{items_of, is_transition}
 use Rattle.otio_model.specs.Lengths.{added, lengths, length_of, or_zero}
 use Rattle.otio_model.specs.Overlaps.{within}
 use Rattle.coord.specs.Looks.{Weight, Show, Blank, mixed, weight, item_shows}
-use Rattle.coord.specs.Keys.{text_in, member_in}
 use Rattle.coord.specs.Sights.{View, sight, looks}
 use Rattle.coord.specs.Images.{Image, Empty, Mixture, kind_of, is_empty}
 use Rattle.show_prog.specs.declared.lists.ActiveTransition.{ActiveTransition}
 use Rattle.show_prog.specs.declared.lists.Held.{Held}
 use Rattle.show_prog.specs.declared.weights.Share.{Share}
-
--- the characters of a string, and the member of an object
-abbrev pub text_of : Json → Option (List ℕ)
-text_of j = text_in (out-Json j)
-
-abbrev pub member_of : List ℕ → Json → Option Json
-member_of name j = member_in name (out-Json j)
 
 abbrev pub shown : View → Option (ItemOf Listed) → ℤ → Show
 shown v None u = Blank

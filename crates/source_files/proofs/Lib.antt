@@ -7,3 +7,4 @@ pub mod JsonLemmas
 pub mod ListLemmas
 pub mod ObjectLemmas
 pub mod MediaLemmas
+pub mod ScriptLemmas

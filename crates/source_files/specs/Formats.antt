@@ -1,5 +1,6 @@
 -- The formats of files: which bytes are what, why bytes are none, and bytes that show no fault yet.
 use Rattle.std.specs.Prelude.{◌≡◌, ◌⊎◌, ◌≤◌, ◌<◌, ◌^◌, ℕ, List, [], length}
+use Rattle.std.specs.Global.{Vec}
 use Rattle.limits.specs.Limits.{most_bytes, most_items}
 use Rattle.json_value.specs.declared.Json.{Json}
 use Rattle.json_text.specs.Grammar.{IsLive, text_of}
@@ -24,11 +25,14 @@ use Rattle.schema_rows.specs.Faults.{IsFirstFault}
 use Rattle.schema_rows.specs.declared.faults.SchemaFault.{SchemaFault}
 use Rattle.media_list.specs.Lists.{IsMediaList, IsFault as IsMediaFault}
 use Rattle.media_list.specs.declared.faults.MediaFault.{MediaFault}
-use Rattle.fault_text.specs.Faults.{json_fault_text, list_fault_text, media_fault_text, fault_text, not_timeline_text}
+use Rattle.script_text.specs.Scripts.{IsScript, IsFault as IsScriptFault}
+use Rattle.script_text.specs.declared.commands.Command.{Command}
+use Rattle.script_text.specs.declared.commands.ScriptFault.{ScriptFault}
+use Rattle.fault_text.specs.Faults.{json_fault_text, list_fault_text, media_fault_text, script_fault_text, fault_text, not_timeline_text}
 use Rattle.source_files.specs.declared.kinds.Kind.{Kind}
 use Rattle.source_files.specs.declared.kinds.Kind.TheVariants as kinds
 use Rattle.source_files.specs.declared.kinds.Content.{Content}
-use Rattle.source_files.specs.declared.kinds.Content.TheVariants.{Value, Root, Film, Events, Rows}
+use Rattle.source_files.specs.declared.kinds.Content.TheVariants.{Value, Root, Film, Events, Rows, Commands}
 
 -- the bytes are a text of this value
 pub record IsJson (bytes : List ℕ) (value : Json) : Type 0 where
@@ -49,6 +53,10 @@ pub record IsTimeline (bytes : List ℕ) (timeline : Timeline) : Type 0 where
   pub is : IsObject bytes object
   pub root : out-Object object ≡ Object-F.Timeline timeline
 
+-- the bytes are a script of these commands
+abbrev pub IsCommands : List ℕ → Vec Command → Type 0
+IsCommands bytes commands = IsScript bytes commands.items
+
 -- the bytes are this, by the format of their file
 abbrev pub Holds : Kind → List ℕ → Content → Type 0
 Holds kinds.Json bytes (Value value) = IsJson bytes value
@@ -56,6 +64,7 @@ Holds kinds.Object bytes (Root object) = IsObject bytes object
 Holds kinds.Timeline bytes (Film timeline) = IsTimeline bytes timeline
 Holds (kinds.List rate) bytes (Events list) = IsList rate bytes list
 Holds kinds.Media bytes (Rows rows) = IsMediaList bytes rows
+Holds kinds.Script bytes (Commands commands) = IsCommands bytes commands
 Holds kind bytes content = ⊥
 
 -- the bytes are no JSON text, and their first fault is told so
@@ -95,6 +104,11 @@ abbrev pub RefusesMedia : List ℕ → List ℕ → Type 0
 RefusesMedia bytes why =
     (fault : MediaFault) × IsMediaFault bytes fault × (why ≡ media_fault_text fault)
 
+-- the bytes are no script, and their first fault is told so
+abbrev pub RefusesScript : List ℕ → List ℕ → Type 0
+RefusesScript bytes why =
+    (fault : ScriptFault) × IsScriptFault bytes fault × (why ≡ script_fault_text fault)
+
 -- why the bytes are nothing of their file's format, as it is told behind the name of the file
 abbrev pub Refuses : Kind → List ℕ → List ℕ → Type 0
 Refuses kinds.Json bytes why = RefusesJson bytes why
@@ -102,6 +116,7 @@ Refuses kinds.Object bytes why = RefusesObject bytes why
 Refuses kinds.Timeline bytes why = RefusesTimeline bytes why
 Refuses (kinds.List rate) bytes why = RefusesList rate bytes why
 Refuses kinds.Media bytes why = RefusesMedia bytes why
+Refuses kinds.Script bytes why = RefusesScript bytes why
 
 -- bytes from the front of a JSON text show no fault: some continuation of them is a text
 pub record IsCalmJson (taken : List ℕ) : Type 0 where
@@ -119,6 +134,10 @@ pub record IsCalmList (rate : Rate) (taken : List ℕ) : Type 0 where
 abbrev pub IsCalmMedia : List ℕ → Type 0
 IsCalmMedia taken = length taken ≤ most_bytes
 
+-- bytes from the front of a script show no fault: it too is judged when it has ended
+abbrev pub IsCalmScript : List ℕ → Type 0
+IsCalmScript taken = length taken ≤ most_bytes
+
 -- bytes from the front of such a file show no fault, however the file goes on
 abbrev pub IsCalm : Kind → List ℕ → Type 0
 IsCalm kinds.Json taken = IsCalmJson taken
@@ -126,6 +145,7 @@ IsCalm kinds.Object taken = IsCalmJson taken
 IsCalm kinds.Timeline taken = IsCalmJson taken
 IsCalm (kinds.List rate) taken = IsCalmList rate taken
 IsCalm kinds.Media taken = IsCalmMedia taken
+IsCalm kinds.Script taken = IsCalmScript taken
 
 -- some value stands for the timeline, by the tables of the schemas, and it has few items
 pub record IsOfTables (timeline : Timeline) : Type 0 where
@@ -142,4 +162,5 @@ Suits kinds.Object (Root object) = count_of object ≤ most_items
 Suits kinds.Timeline (Film timeline) = IsOfTables timeline
 Suits (kinds.List rate) (Events list) = IsWellFormed list
 Suits kinds.Media (Rows rows) = Unit {0}
+Suits kinds.Script (Commands commands) = Unit {0}
 Suits kind content = ⊥

@@ -3,6 +3,7 @@ use edl_list::EventList;
 use json_value::Json;
 use media_list::MediaList;
 use otio_model::{Object, Timeline};
+use script_text::Command;
 use tick_time::Rate;
 
 /// What a file is read as.
@@ -18,6 +19,8 @@ pub enum Kind {
     List(Rate),
     /// A media list.
     Media,
+    /// An edit script.
+    Script,
 }
 
 /// A file that is read.
@@ -42,4 +45,6 @@ pub enum Content {
     Events(EventList),
     /// A media list.
     Rows(MediaList),
+    /// The commands of a script, at most 10 000.
+    Commands(Vec<Command>),
 }

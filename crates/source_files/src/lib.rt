@@ -8,6 +8,7 @@ mod kinds;
 mod lists;
 mod media;
 mod objects;
+mod scripts;
 mod sources;
 
 pub use faults::{ReadFault, Refusal, SourceFault};

@@ -13,6 +13,7 @@ use crate::kinds::{Content, Kind, Source};
 use crate::lists::read_list;
 use crate::media::read_media;
 use crate::objects::{read_object, read_timeline};
+use crate::scripts::read_commands;
 use dev_io::{Files, Opened};
 use std::alloc::Global;
 use tick_time::Rate;
@@ -83,6 +84,7 @@ fn read_as<F: Files>(alloc: Global, kind: Kind, files: &mut F) -> Result<Content
         Kind::Timeline => read_film(alloc, files),
         Kind::List(rate) => read_events(alloc, rate, files),
         Kind::Media => read_rows(alloc, files),
+        Kind::Script => read_edits(alloc, files),
     }
 }
 
@@ -151,6 +153,20 @@ fn read_rows<F: Files>(alloc: Global, files: &mut F) -> Result<Content, ReadFaul
 {
     match read_media(alloc, files) {
         Ok(rows) => Ok(Content::Rows(rows)),
+        Err(fault) => Err(fault),
+    }
+}
+
+// The script in the file in hand.
+fn read_edits<F: Files>(alloc: Global, files: &mut F) -> Result<Content, ReadFault>
+    ensures told { Tells (ReadsHand (Holds Kind.Script) (Refuses Kind.Script)
+        (IsCalm Kind.Script) result)
+        (F.known files.old) (F.known files.new) }
+    ensures suits { IfOk result (Suits Kind.Script) }
+    ensures cause { Raised result (F.faults files.old) (F.faults files.new) }
+{
+    match read_commands(alloc, files) {
+        Ok(commands) => Ok(Content::Commands(commands)),
         Err(fault) => Err(fault),
     }
 }

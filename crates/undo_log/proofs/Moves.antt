@@ -8,7 +8,7 @@ use Rattle.otio_model.specs.Patches.{IsFit, applied, undoing}
 use Rattle.otio_model.specs.Timelines.{bare}
 use Rattle.otio_model.proofs.UndoLemmas.{undone_fits, undone_same}
 use Rattle.undo_log.specs.Histories.{History, unspared}
-use Rattle.undo_log.specs.States.{AreFit, IsKept, State, moved, run, state_of}
+use Rattle.undo_log.specs.States.{AreFit, CrossesOver, IsKept, State, moved, run, state_of}
 
 -- a patch fits a timeline whatever memory it has to spare
 pub fit_bare : (p : Patch) (t : Timeline) → IsFit p t → IsFit p (bare t)
@@ -119,3 +119,14 @@ pub state_on : (h k : History) (a b : Timeline) → unspared k ≡ unspared h �
 state_on h k a b e f =
     ap (λ (g : History). state_by (run (bare b) g.past) (bare b) (run (bare b) g.future)) e
     ∙ ap (λ t. state_by (run t h.past) t (run t h.future)) f
+
+-- the last patch of one vector was applied, and the one that undoes it was put behind the other's
+pub crossed : {shown other : List Patch} {xs ws : List Patch} (zs ys : List Patch) (r : Patch) (t : Timeline)
+    (p : Patch) → xs ≡ zs ++ p ∷ [] → ws ≡ ys ++ r ∷ [] → reverse xs ≡ shown → reverse ys ≡ other
+    → r ≡ undoing p t → CrossesOver t shown other (reverse zs) (reverse ws)
+crossed zs ys r t p e f g h i = record {
+  patch = p;
+  taken = first_kept zs p g e;
+  undoes = ap reverse f ∙ reverse_last ys r ∙ ap (λ q. q ∷ reverse ys) i
+      ∙ ap (λ l. undoing p t ∷ l) h;
+}

@@ -1,8 +1,8 @@
 -- The timelines that a timeline and its log stand for, and a position among them.
-use Rattle.std.specs.Prelude.{List, [], ◌∷◌, Option, Some, None}
+use Rattle.std.specs.Prelude.{◌≡◌, List, [], ◌∷◌, Option, Some, None}
 use Rattle.otio_model.specs.declared.patches.Patch.{Patch}
 use Rattle.otio_model.specs.declared.timelines.Timeline.{Timeline}
-use Rattle.otio_model.specs.Patches.{IsFit, applied}
+use Rattle.otio_model.specs.Patches.{IsFit, applied, undoing}
 use Rattle.otio_model.specs.Timelines.{bare}
 use Rattle.undo_log.specs.Histories.{History}
 
@@ -55,3 +55,10 @@ turned_some (Some s) = Some (turned s)
 -- forward by one, where there is one behind
 abbrev pub forth : State → Option State
 forth s = turned_some (back (turned s))
+
+-- The first patch of one side of the log was applied to the timeline, and the one that undoes it
+-- stands first on the other side.
+pub record CrossesOver (t : Timeline) (from to left kept : List Patch) : Type 0 where
+  pub patch : Patch
+  pub taken : from ≡ patch ∷ left
+  pub undoes : kept ≡ undoing patch t ∷ to

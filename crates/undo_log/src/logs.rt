@@ -6,7 +6,7 @@ ghost use Rattle.std.specs.Vec.{vec_capacity};
 ghost use Rattle.otio_model.specs.Patches.{IsFit, applied, undoing};
 ghost use Rattle.otio_model.specs.Timelines.{bare};
 ghost use Rattle.undo_log.specs.Histories.{unspared};
-ghost use Rattle.undo_log.specs.States.{IsKept, back, committed, forth, state_of};
+ghost use Rattle.undo_log.specs.States.{CrossesOver, IsKept, back, committed, forth, state_of};
 ghost use Rattle.undo_log.specs.Rooms.{IsRoomForCommit, IsRoomForRedo, IsRoomForUndo};
 ghost use Rattle.undo_log.specs.declared.faults.UndoFault.TheVariants.{NothingDone, NothingUndone};
 
@@ -135,6 +135,8 @@ impl Log {
         ensures kept { IsKept self.new timeline.new }
         ensures state { OnOk result
             (back (state_of self.old timeline.old) ≡ Some (state_of self.new timeline.new)) }
+        ensures patches { OnOk result (CrossesOver timeline.old self.old.past self.old.future
+            self.new.past self.new.future) }
         ensures exact { IsErr result ↔ (self.old.past ≡ []) }
         ensures fault { IfErr result (λ fault. fault ≡ NothingDone) }
         ensures log { OnErr result (self.new ≡ self.old) }
@@ -156,6 +158,8 @@ impl Log {
         ensures kept { IsKept self.new timeline.new }
         ensures state { OnOk result
             (forth (state_of self.old timeline.old) ≡ Some (state_of self.new timeline.new)) }
+        ensures patches { OnOk result (CrossesOver timeline.old self.old.future self.old.past
+            self.new.future self.new.past) }
         ensures exact { IsErr result ↔ (self.old.future ≡ []) }
         ensures fault { IfErr result (λ fault. fault ≡ NothingUndone) }
         ensures log { OnErr result (self.new ≡ self.old) }

@@ -20,4 +20,4 @@ judge_children-returns-clause-ok t c = sound_all c.args.children.now c.children.
 pub judge_item-returns-in-Ok-clause-ok : goal.judge_item-returns-in-Ok-clause-ok
 judge_item-returns-in-Ok-clause-ok t c =
     let e : children_of c.args.item.now ≡ Some c.in-Some-children.children.now = first_of (cc (c.in-Some-children.ensures), search rules) in
-    sound_with c.args.item.now c.in-Some-children.children.now e (sym c.fault_of.ensures ∙ c.in-None.is) c.in-Ok.ensures.ok
+    sound_with c.args.item.now c.in-Some-children.children.now e (sym c.item_fault.ensures ∙ c.in-None.is) c.in-Ok.ensures.ok

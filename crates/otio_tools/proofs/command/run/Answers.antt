@@ -1,8 +1,9 @@
-use Rattle.std.proofs.Common.{refl, map, string_bytes}
+use Rattle.std.proofs.Common.{refl, None, map, string_bytes}
 use Rattle.otio_tools.proofs.RunEnds.{usage_given}
 use Rattle.otio_tools.proofs.OneAnswer.{completes}
 use Rattle.otio_tools.proofs.Keeping.{keeps}
 use Rattle.otio_tools.proofs.Sending.{stays_same}
+use Rattle.otio_tools.proofs.Working.{leaves_usage, no_edit, scripted}
 use Rattle.otio_tools.specs.Run.{streams}
 use Rattle.otio_tools.specs.declared.Status.TheVariants.{Usage}
 use Rattle.otio_tools.proofs.command.run.Goals as goal
@@ -63,3 +64,22 @@ returns-in-None-clause-kept g c =
     keeps words known known faults faults all Usage
     (usage_given words known faults faults all (rw c.as_slice.ensures.value at c.in-None.ensures)
     (stays_same (g.W.Out.known c.args.out.now)) c.say.ensures)
+
+pub serve-requires-clause-scripted : goal.serve-requires-clause-scripted
+serve-requires-clause-scripted g c =
+    scripted _ _ _ _ _ (rw c.as_slice.ensures.value at c.in-Some.ensures)
+
+pub returns-in-Some-clause-worked : goal.returns-in-Some-clause-worked
+returns-in-Some-clause-worked g c =
+    let words = map (λ w. string_bytes w) c.args.words.now.items in
+    c.serve.ensures.worked words (rw c.as_slice.ensures.value at c.in-Some.ensures)
+
+pub returns-in-Some-clause-unworked : goal.returns-in-Some-clause-unworked
+returns-in-Some-clause-unworked g c = λ none.
+    c.serve.ensures.unworked
+    (no_edit _ _ _ _ _ (rw c.as_slice.ensures.value at c.in-Some.ensures) none)
+
+pub returns-in-None-clause-worked : goal.returns-in-None-clause-worked
+returns-in-None-clause-worked g c =
+    let words = map (λ w. string_bytes w) c.args.words.now.items in
+    leaves_usage words None (g.F.Files.known c.args.files.now)

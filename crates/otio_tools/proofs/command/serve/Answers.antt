@@ -1,4 +1,7 @@
+use Rattle.command_words.specs.Asked.{other_names}
 use Rattle.otio_tools.proofs.RunEnds.{carried, carried_still, carried_calm, never_usage}
+use Rattle.otio_tools.proofs.Working.{leaves, untouched}
+use Rattle.std.proofs.Common.{◌∙◌}
 use Rattle.otio_tools.specs.Texts.{text_at}
 use Rattle.otio_tools.proofs.command.serve.Goals as goal
 
@@ -6,23 +9,37 @@ pub returns-clause-ends : goal.returns-clause-ends
 returns-clause-ends g c = λ words asked.
     let plan = c.plan-planned.ensures in
     carried words c.args.request.command c.args.request.name.now
-    (text_at c.args.request.media) (text_at c.args.request.target) _ _ _ _ _ c.plan-planned.result
-    c.carry_out.result asked (plan.told (text_at c.args.request.target)) plan.kind plan.cause
-    c.carry_out.ensures
+    (other_names c.args.request.others) (text_at c.args.request.target) _ _ _ _ _
+    c.plan-planned.result c.carry_out.result asked (plan.told (text_at c.args.request.target))
+    plan.kind plan.cause c.carry_out.ensures.carried
+
+pub returns-clause-worked : goal.returns-clause-worked
+returns-clause-worked g c = λ words asked.
+    leaves words c.args.request.command c.args.request.name.now
+    (other_names c.args.request.others) (text_at c.args.request.target) _ _ _
+    c.plan-planned.result c.carry_out.result _ _ asked
+    (c.plan-planned.ensures.told (text_at c.args.request.target)) c.carry_out.ensures.carried
+    c.carry_out.ensures.desk
+
+pub returns-clause-unworked : goal.returns-clause-unworked
+returns-clause-unworked g c = λ other.
+    c.carry_out.ensures.desk
+    ∙ untouched c.args.request.command c.plan-planned.result _ c.plan-planned.ensures.desk other
+    ∙ c.requires.empty
 
 pub returns-clause-still : goal.returns-clause-still
 returns-clause-still g c = λ words asked.
     carried_still words c.args.request.command c.args.request.name.now
-    (text_at c.args.request.media) (text_at c.args.request.target) _ c.plan-planned.result
-    c.carry_out.result asked c.plan-planned.ensures.kind c.carry_out.ensures
+    (other_names c.args.request.others) (text_at c.args.request.target) _ c.plan-planned.result
+    c.carry_out.result asked c.plan-planned.ensures.kind c.carry_out.ensures.carried
 
 pub returns-clause-asked : goal.returns-clause-asked
 returns-clause-asked g c =
     never_usage (text_at c.args.request.target) _ c.plan-planned.result c.carry_out.result
-    c.carry_out.ensures
+    c.carry_out.ensures.carried
 
 pub returns-clause-calm : goal.returns-clause-calm
 returns-clause-calm g c =
     carried_calm (text_at c.args.request.target) _ _ _ c.plan-planned.result c.carry_out.result
     c.plan-planned.ensures.cause
-    c.carry_out.ensures
+    c.carry_out.ensures.carried

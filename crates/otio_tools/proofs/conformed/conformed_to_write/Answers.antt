@@ -1,5 +1,5 @@
 use Rattle.std.proofs.Common.{refl}
-use Rattle.otio_tools.specs.Answer.{AnswersWritten}
+use Rattle.otio_tools.specs.Written.{AnswersWritten}
 use Rattle.otio_tools.specs.Conformed.{Conformed}
 use Rattle.otio_tools.proofs.Planning.{not_conformed_as}
 use Rattle.otio_tools.proofs.conformed.conformed_to_write.Goals as goal

@@ -8,7 +8,7 @@ use Rattle.otio_tools.proofs.planned.judge.Goals as goal
 
 pub list_in-requires : goal.list_in-requires
 list_in-requires c =
-    suits_of_list _ _ c.args.content (ap kind_of c.in-ListToList.is) c.requires
+    suits_of_list _ _ c.args.content (ap kind_of c.in-ListToList.is) c.requires.suits
 
 pub returns-in-ListToList-clause-owed : goal.returns-in-ListToList-clause-owed
 returns-in-ListToList-clause-owed c = λ file more.

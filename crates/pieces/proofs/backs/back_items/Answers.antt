@@ -1,4 +1,4 @@
-use Rattle.std.proofs.Common.{arith, to_z, ap, vec_items, ◌∙◌, ◌+◌}
+use Rattle.std.proofs.Common.{arith, to_z, ap, vec_items, ◌∙◌}
 use mir.Syntax.{w128}
 use Rattle.std.proofs.lemmas.Int.{ints}
 use Rattle.pieces.proofs.Grown.{next}

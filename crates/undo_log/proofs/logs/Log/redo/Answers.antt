@@ -2,7 +2,7 @@
 use Rattle.std.proofs.Common.{arith, ap, sym, ◌∙◌, subst}
 use Rattle.undo_log.specs.Histories.{History}
 use Rattle.undo_log.specs.States.{IsKept, forth, state_of, turned_some}
-use Rattle.undo_log.proofs.Moves.{first_kept, went}
+use Rattle.undo_log.proofs.Moves.{crossed, first_kept, went}
 use Rattle.undo_log.proofs.RoomLemmas.{has_redo}
 use Rattle.undo_log.proofs.logs.Log.redo.Goals as goal
 
@@ -30,3 +30,9 @@ returns-clause-state c =
     let w = went c.args.timeline.now c.apply-undo.new.self c.in-Some.patch c.in-Some.ensures.items
     c.keep.ensures.items k.future k.past c.apply-undo.ensures.new c.apply-undo.ensures.undo in
     ap (λ h. forth (state_of h c.args.timeline.now)) (sym c.self.view_is) ∙ ap turned_some w.moves
+
+pub returns-clause-patches : goal.returns-clause-patches
+returns-clause-patches c =
+    crossed _ _ c.apply-undo.result c.args.timeline.now c.in-Some.patch c.in-Some.ensures.items
+    c.keep.ensures.items (ap (λ (h : History). h.future) c.self.view_is)
+    (ap (λ (h : History). h.past) c.self.view_is) c.apply-undo.ensures.undo

@@ -2,7 +2,7 @@
 use Rattle.std.proofs.Common.{arith, ap, sym, ◌∙◌, subst}
 use Rattle.undo_log.specs.Histories.{History}
 use Rattle.undo_log.specs.States.{IsKept, back, state_of}
-use Rattle.undo_log.proofs.Moves.{first_kept, went}
+use Rattle.undo_log.proofs.Moves.{crossed, first_kept, went}
 use Rattle.undo_log.proofs.RoomLemmas.{has_undo}
 use Rattle.undo_log.proofs.logs.Log.undo.Goals as goal
 
@@ -30,3 +30,9 @@ returns-clause-state c =
     let w = went c.args.timeline.now c.apply-redo.new.self c.in-Some.patch c.in-Some.ensures.items
     c.keep.ensures.items k.past k.future c.apply-redo.ensures.new c.apply-redo.ensures.undo in
     ap (λ h. back (state_of h c.args.timeline.now)) (sym c.self.view_is) ∙ w.moves
+
+pub returns-clause-patches : goal.returns-clause-patches
+returns-clause-patches c =
+    crossed _ _ c.apply-redo.result c.args.timeline.now c.in-Some.patch c.in-Some.ensures.items
+    c.keep.ensures.items (ap (λ (h : History). h.past) c.self.view_is)
+    (ap (λ (h : History). h.future) c.self.view_is) c.apply-redo.ensures.undo

@@ -1,0 +1,3 @@
+-- What the code of clamps speaks of.
+pub mod Bounds
+pub mod Parts

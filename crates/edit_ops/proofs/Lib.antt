@@ -1,0 +1,12 @@
+pub mod Tests
+pub mod Beginning
+pub mod Totals
+pub mod Stripping
+pub mod Items
+pub mod Zoning
+pub mod Holding
+pub mod Steps
+pub mod Kept
+pub mod Maps
+pub mod Listed
+pub mod Fillings

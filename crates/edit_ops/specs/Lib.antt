@@ -1,0 +1,3 @@
+-- What is known on the way to a plan.
+pub mod Begun
+pub mod Zoned

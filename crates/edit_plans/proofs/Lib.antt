@@ -1,0 +1,11 @@
+pub mod AmountLemmas
+pub mod EachMade
+pub mod Endings
+pub mod Exchanges
+pub mod PinLemmas
+pub mod Rates
+pub mod Shown
+pub mod TrackLemmas
+pub mod WayLemmas
+pub mod WayMeaning
+pub mod WaySteps

@@ -1,0 +1,301 @@
+-- What a change, an undo and a redo do to a log of edits and to its state.
+use Rattle.std.proofs.Common.{◌≡◌, refl, sym, ap, subst, ◌∙◌, ℕ, ◌+◌, ◌≤◌, ◌<◌, ◌^◌, List, [], ◌∷◌, Option, Some, None, length, take, drop, arith}
+use Rattle.std.specs.Prelude.{IsSomeAnd}
+use Rattle.std.proofs.lemmas.List.{length-take}
+use Rattle.limits.specs.Limits.{most_items}
+use Rattle.otio_model.specs.declared.compositions.ItemOf.{ItemOf}
+use Rattle.otio_model.specs.declared.compositions.Listed.{Listed}
+use Rattle.otio_model.specs.declared.editing.Edit.{Edit}
+use Rattle.otio_model.specs.declared.patches.Patch.{Patch}
+use Rattle.otio_model.specs.declared.timelines.Timeline.{Timeline}
+use Rattle.otio_model.specs.Counts.{count}
+use Rattle.otio_model.specs.Patches.{IsFit, applied, target, undoing, undoing_list}
+use Rattle.otio_model.specs.Timelines.{bare}
+use Rattle.otio_model.specs.Trees.{items_of}
+use Rattle.otio_model.proofs.UndoLemmas.{undone_same}
+use Rattle.coord.proofs.SpareLemmas.{sound_bare}
+use Rattle.undo_log.specs.Histories.{History, unspared}
+use Rattle.undo_log.specs.States.{AreFit, CrossesOver, IsKept, State, back, committed, forth, moved, run, state_of, turned, turned_some}
+use Rattle.undo_log.proofs.Moves.{fit_bare, kept_on, state_on}
+use Rattle.edit_plans.specs.Planned.{IsPlan}
+use Rattle.script_text.specs.declared.commands.Act.{Act}
+use Rattle.script_text.specs.declared.commands.Act.TheVariants as A
+use Rattle.edit_script.specs.Items.{MediaRows}
+use Rattle.edit_script.specs.Keeping.{AreEditable, AreRedoing, AreUndoing, HoldsEdits, IsEditable, IsEditableState, IsNarrow}
+use Rattle.edit_script.specs.Plans.{IsPlanOf}
+use Rattle.edit_script.specs.Runs.{edits, redoes, undoes}
+use Rattle.edit_script.specs.Steps.{IsDone, IsReady, IsSame}
+use Rattle.edit_script.proofs.Bares.{accepted_bare, applied_bare}
+
+-- ---- room that was made
+
+holds_on : (h k : History) (a b : Timeline) → unspared k ≡ unspared h → bare b ≡ bare a
+    → HoldsEdits h a → HoldsEdits k b
+holds_on h k a b e f w = record {
+  past = subst (λ (g : History). AreUndoing (bare b) g.past) (sym e)
+      (subst (λ t. AreUndoing t h.past) (sym f) w.past);
+  future = subst (λ (g : History). AreRedoing (bare b) g.future) (sym e)
+      (subst (λ t. AreRedoing t h.future) (sym f) w.future);
+}
+
+ready_on : (h k : History) (a b : Timeline) → unspared k ≡ unspared h → bare b ≡ bare a
+    → IsReady h a → IsReady k b
+ready_on h k a b e f w = record {
+  kept = kept_on h k a b e f w.kept;
+  editable = subst IsEditableState (sym (state_on h k a b e f)) w.editable;
+}
+
+pub roomier : (h k : History) (a b : Timeline) → unspared k ≡ unspared h → bare b ≡ bare a
+    → IsReady h a → IsSame h a k b
+roomier h k a b e f w = record {
+  ready = ready_on h k a b e f w;
+  state = state_on h k a b e f;
+  holds = holds_on h k a b e f;
+}
+
+-- ---- how many children the patch that undoes another one has
+
+record Sizes (p q : Patch) : Type 0 where
+  puts : length q.put ≤ p.count
+  takes : q.count ≡ length p.put
+
+taken_few : (n : ℕ) (l : List (ItemOf Listed)) → length (take n l) ≤ n
+taken_few n l = omega (arith, length-take n l)
+
+sizes : (p : Patch) (b : Timeline) → IsFit p b → Sizes p (undoing p b)
+sizes p b f = by (target p b) f.within
+  where
+    by : (o : Option Listed) → IsSomeAnd o (λ l. p.at + p.count ≤ length (items_of l))
+        → Sizes p (elim o as (λ _. Patch) [ None ↦ p | Some l ↦ undoing_list p l ])
+    by None h = absurd h
+    by (Some l) h = record { puts = taken_few p.count (drop p.at (items_of l)); takes = refl }
+
+-- ---- the state
+
+few_of : (n : ℕ) → (most_items < n → ⊥) → n < 2 ^ 32
+few_of n h = omega (arith, h)
+
+planned_editable : (t : Timeline) (e : Edit) (p : Patch) → IsPlan t e p
+    → IsEditable (applied p (bare t))
+planned_editable t e p i = subst IsEditable (sym (applied_bare p t)) (record {
+  sound = sound_bare (applied p t) (bare (applied p t)) refl i.sound;
+  few = few_of (count (applied p t).tracks.children)
+      (λ h. i.after.few (applied p t, i.after.made, h));
+})
+
+committed_editable : (t : Timeline) (e : Edit) (p : Patch) (s : State) → IsPlan t e p
+    → s.now ≡ bare t → IsEditableState s → IsEditableState (committed p s)
+committed_editable t e p s i f w = record {
+  before = (w.now, w.before);
+  now = subst (λ x. IsEditable (applied p x)) (sym f) (planned_editable t e p i);
+  after = tt;
+}
+
+-- ---- a change that is planned
+
+narrow_of : (t : Timeline) (e : Edit) (p : Patch) → IsPlan t e p
+    → IsNarrow (bare t) (applied p (bare t)) (length (undoing p (bare t)).put)
+    (undoing p (bare t)).count
+narrow_of t e p i =
+    let n = sizes p (bare t) (fit_bare p t i.fit) in
+    record {
+      edit = e;
+      after = accepted_bare t e p i.after;
+      to_undo = omega (arith, n.puts, i.few_out);
+      to_redo = omega (arith, n.takes, i.few_in);
+    }
+
+-- the patch that undoes it stands first
+first_undoing : (b : Timeline) (p : Patch) (ps : List Patch) → IsFit p b
+    → IsNarrow b (applied p b) (length (undoing p b).put) (undoing p b).count → AreUndoing b ps
+    → AreUndoing (applied p b) (undoing p b ∷ ps)
+first_undoing b p ps f n w =
+    let same = undone_same p b f in (
+      subst (λ a. IsNarrow a (applied p b) (length (undoing p b).put) (undoing p b).count)
+          (sym same) n,
+      subst (λ a. AreUndoing a ps) (sym same) w,
+    )
+
+first_redoing : (b : Timeline) (p : Patch) (ps : List Patch) → IsFit p b
+    → IsNarrow (applied p b) b (undoing p b).count (length (undoing p b).put) → AreRedoing b ps
+    → AreRedoing (applied p b) (undoing p b ∷ ps)
+first_redoing b p ps f n w =
+    let same = undone_same p b f in (
+      subst (λ a. IsNarrow (applied p b) a (undoing p b).count (length (undoing p b).put))
+          (sym same) n,
+      subst (λ a. AreRedoing a ps) (sym same) w,
+    )
+
+pub changed : (media : MediaRows) (act : Act) (h g k : History) (t s u : Timeline) (p : Patch)
+    → IsReady h t → unspared g ≡ unspared h → bare s ≡ bare t → IsKept k u
+    → state_of k u ≡ committed p (state_of g s) → k.past ≡ undoing p s ∷ g.past → k.future ≡ []
+    → IsPlanOf media act t p → IsDone media act h t k u
+changed media act h g k t s u p w e f kept state past future i =
+    let b = bare t in
+    let fit : IsFit p b = fit_bare p t i.plan.fit in
+    let is : state_of k u ≡ committed p (state_of h t) =
+    state ∙ ap (committed p) (state_on h g t s e f) in
+    let now : bare u ≡ applied p b = ap (λ (x : State). x.now) is in
+    let older : g.past ≡ h.past = ap (λ (x : History). x.past) e in
+    let pasts : k.past ≡ undoing p b ∷ h.past =
+    past ∙ ap (λ x. undoing p x ∷ g.past) f ∙ ap (λ l. undoing p b ∷ l) older in
+    record {
+      ready = record {
+        kept = kept;
+        editable = subst IsEditableState (sym is)
+            (committed_editable t i.edit p (state_of h t) i.plan refl w.editable);
+      };
+      takes = edits i.edit (applied p b)
+          (record { listed = i.asks.listed; near = i.asks.near; edit = i.asks.edit })
+          (accepted_bare t i.edit p i.plan.after) is;
+      holds = λ (d : HoldsEdits h t). record {
+        past = subst (AreUndoing (bare u)) (sym pasts)
+            (subst (λ x. AreUndoing x (undoing p b ∷ h.past)) (sym now)
+            (first_undoing b p h.past fit (narrow_of t i.edit p i.plan) d.past));
+        future = subst (AreRedoing (bare u)) (sym future) tt;
+      };
+    }
+
+-- ---- undo and redo
+
+moved_editable : (l : List Timeline) (n : Timeline) (r : List Timeline) (s : State)
+    → AreEditable l → IsEditable n → AreEditable r → moved l n r ≡ Some s → IsEditableState s
+moved_editable [] n r s a b c e = absurd (let g : None ≡ Some s = e in cc g)
+moved_editable (x ∷ l) n r s a b c e =
+    let g : record { before = l; now = x; after = n ∷ r } ≡ s = cc e in
+    subst IsEditableState g (record { before = a.1; now = a.0; after = (b, c) })
+
+back_editable : (s r : State) → IsEditableState s → back s ≡ Some r → IsEditableState r
+back_editable s r w e = moved_editable s.before s.now s.after r w.before w.now w.after e
+
+turned_editable : (s : State) → IsEditableState s → IsEditableState (turned s)
+turned_editable s w = record { before = w.after; now = w.now; after = w.before }
+
+forth_editable : (s r : State) → IsEditableState s → forth s ≡ Some r → IsEditableState r
+forth_editable s r w e = by (back (turned s)) refl e
+  where
+    by : (o : Option State) → back (turned s) ≡ o → turned_some o ≡ Some r → IsEditableState r
+    by None f g = absurd (let x : None ≡ Some r = g in cc x)
+    by (Some q) f g =
+        let x : turned q ≡ r = cc g in
+        subst IsEditableState x
+        (turned_editable q (back_editable (turned s) q (turned_editable s w) f))
+
+-- of an undo and a redo: the patch that crossed over, and the timeline that it gave
+record Crossed (b c : Timeline) (from to left kept : List Patch) : Type 0 where
+  patch : Patch
+  taken : from ≡ patch ∷ left
+  undoes : kept ≡ undoing patch b ∷ to
+  fits : IsFit patch b
+  gives : c ≡ applied patch b
+
+first_given : (b : Timeline) (p : Patch) (from left : List Patch) (to : List Timeline) (r : State)
+    → from ≡ p ∷ left → moved (run b from) b to ≡ Some r → r.now ≡ applied p b
+first_given b p from left to r e f =
+    let g : Some (record { before = run (applied p b) left; now = applied p b; after = b ∷ to })
+    ≡ Some r =
+    ap (λ l. moved (run b l) b to) (sym e) ∙ f in
+    let h : record { before = run (applied p b) left; now = applied p b; after = b ∷ to } ≡ r =
+    cc g in
+    ap (λ (x : State). x.now) (sym h)
+
+crossed_by : (b c : Timeline) (from to left kept : List Patch) (ts : List Timeline) (r : State)
+    (t : Timeline) → bare t ≡ b → CrossesOver t from to left kept → AreFit b from
+    → moved (run b from) b ts ≡ Some r → r.now ≡ c → Crossed b c from to left kept
+crossed_by b c from to left kept ts r t same x fits goes now = record {
+  patch = x.patch;
+  taken = x.taken;
+  undoes = x.undoes ∙ ap (λ a. undoing x.patch a ∷ to) same;
+  fits = (subst (AreFit b) x.taken fits).0;
+  gives = sym now ∙ first_given b x.patch from left ts r x.taken goes;
+}
+
+-- edits that were redone and are undone
+undone_holds : (b c : Timeline) (from to left kept : List Patch) → Crossed b c from to left kept
+    → AreUndoing b from → AreRedoing b to → AreUndoing c left × AreRedoing c kept
+undone_holds b c from to left kept x past future =
+    let p = x.patch in
+    let w : AreUndoing b (p ∷ left) = subst (AreUndoing b) x.taken past in
+    let n = sizes p b x.fits in
+    let narrow : IsNarrow (applied p b) b (undoing p b).count (length (undoing p b).put) = record {
+      edit = w.0.edit;
+      after = w.0.after;
+      to_undo = omega (arith, n.takes, w.0.to_undo);
+      to_redo = omega (arith, n.puts, w.0.to_redo);
+    } in (
+      subst (λ a. AreUndoing a left) (sym x.gives) w.1,
+      subst (λ a. AreRedoing a kept) (sym x.gives)
+          (subst (AreRedoing (applied p b)) (sym x.undoes)
+          (first_redoing b p to x.fits narrow future)),
+    )
+
+redone_holds : (b c : Timeline) (from to left kept : List Patch) → Crossed b c from to left kept
+    → AreRedoing b from → AreUndoing b to → AreRedoing c left × AreUndoing c kept
+redone_holds b c from to left kept x future past =
+    let p = x.patch in
+    let w : AreRedoing b (p ∷ left) = subst (AreRedoing b) x.taken future in
+    let n = sizes p b x.fits in
+    let narrow : IsNarrow b (applied p b) (length (undoing p b).put) (undoing p b).count = record {
+      edit = w.0.edit;
+      after = w.0.after;
+      to_undo = omega (arith, n.puts, w.0.to_undo);
+      to_redo = omega (arith, n.takes, w.0.to_redo);
+    } in (
+      subst (λ a. AreRedoing a left) (sym x.gives) w.1,
+      subst (λ a. AreUndoing a kept) (sym x.gives)
+          (subst (AreUndoing (applied p b)) (sym x.undoes)
+          (first_undoing b p to x.fits narrow past)),
+    )
+
+-- what a move forward is, seen from the end
+turned_moves : (o : Option State) (r : State) → turned_some o ≡ Some r → o ≡ Some (turned r)
+turned_moves None r e = absurd (let x : None ≡ Some r = e in cc x)
+turned_moves (Some q) r e = let x : turned q ≡ r = cc e in ap (λ y. Some (turned y)) x
+
+pub undone : (media : MediaRows) (h g k : History) (t s u : Timeline) → IsReady h t
+    → unspared g ≡ unspared h → bare s ≡ bare t → IsKept k u
+    → back (state_of g s) ≡ Some (state_of k u)
+    → CrossesOver s g.past g.future k.past k.future → IsDone media A.Undo h t k u
+undone media h g k t s u w e f kept goes x =
+    let r = ready_on h g t s e f w in
+    let is : back (state_of h t) ≡ Some (state_of k u) =
+    ap back (sym (state_on h g t s e f)) ∙ goes in
+    record {
+      ready = record {
+        kept = kept;
+        editable = back_editable (state_of g s) (state_of k u) r.editable goes;
+      };
+      takes = undoes refl is;
+      holds = λ (d : HoldsEdits h t).
+          let d' = holds_on h g t s e f d in
+          let c = crossed_by (bare s) (bare u) g.past g.future k.past k.future
+          (run (bare s) g.future)
+          (state_of k u) s refl x r.kept.past goes refl in
+          let both = undone_holds (bare s) (bare u) g.past g.future k.past k.future c d'.past
+          d'.future in
+          record { past = both.0; future = both.1 };
+    }
+
+pub redone : (media : MediaRows) (h g k : History) (t s u : Timeline) → IsReady h t
+    → unspared g ≡ unspared h → bare s ≡ bare t → IsKept k u
+    → forth (state_of g s) ≡ Some (state_of k u)
+    → CrossesOver s g.future g.past k.future k.past → IsDone media A.Redo h t k u
+redone media h g k t s u w e f kept goes x =
+    let r = ready_on h g t s e f w in
+    let is : forth (state_of h t) ≡ Some (state_of k u) =
+    ap forth (sym (state_on h g t s e f)) ∙ goes in
+    record {
+      ready = record {
+        kept = kept;
+        editable = forth_editable (state_of g s) (state_of k u) r.editable goes;
+      };
+      takes = redoes refl is;
+      holds = λ (d : HoldsEdits h t).
+          let d' = holds_on h g t s e f d in
+          let m = turned_moves (back (turned (state_of g s))) (state_of k u) goes in
+          let c = crossed_by (bare s) (bare u) g.future g.past k.future k.past (run (bare s) g.past)
+          (turned (state_of k u)) s refl x r.kept.future m refl in
+          let both = redone_holds (bare s) (bare u) g.future g.past k.future k.past c d'.future
+          d'.past in
+          record { past = both.1; future = both.0 };
+    }

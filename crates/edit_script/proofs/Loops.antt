@@ -1,0 +1,41 @@
+-- How far a script has run.
+use Rattle.std.proofs.Common.{◌≡◌, sym, ap, subst, ◌∙◌, ℕ, ◌+◌, ◌<◌, List, Some, length, get_or, add-one, slice_get}
+use Rattle.std.specs.Prelude.{IsSomeAnd}
+use Rattle.std.proofs.lemmas.Option.{slice_get-get_or}
+use Rattle.otio_model.specs.declared.timelines.Timeline.{Timeline}
+use Rattle.undo_log.specs.Histories.{History}
+use Rattle.undo_log.specs.States.{state_of}
+use Rattle.script_text.specs.declared.commands.Command.{Command}
+use Rattle.edit_script.specs.declared.faults.CommandFault.{CommandFault}
+use Rattle.edit_script.specs.Items.{MediaRows}
+use Rattle.edit_script.specs.Runs.{Halts, IsHalted, Runs, Takes}
+use Rattle.edit_script.specs.Steps.{HasRun, IsDone, IsSame}
+
+pub member : (xs : List Command) (i : ℕ) (x : Command) → i < length xs → x ≡ get_or xs i x
+    → slice_get xs i ≡ Some x
+member xs i x l e = slice_get-get_or xs i x l ∙ ap (λ y. Some y) (sym e)
+
+pub run_more : (m : MediaRows) (s : List Command) (i : ℕ) (c : Command) (h k l : History)
+    (t u v : Timeline) → HasRun m s i h t k u → slice_get s i ≡ Some c → IsDone m c.act k u l v
+    → HasRun m s (i + 1) h t l v
+run_more m s i c h k l t u v w e d = subst (λ n. HasRun m s n h t l v) (sym (add-one i)) (record {
+  ready = d.ready;
+  runs = (
+    state_of k u,
+    w.runs,
+    subst (λ o. IsSomeAnd o (λ b. Takes m b.act (state_of k u) (state_of l v))) (sym e) d.takes,
+  );
+  holds = λ x. d.holds (w.holds x);
+})
+
+pub run_halts : (m : MediaRows) (s : List Command) (i : ℕ) (c : Command) (h k l : History)
+    (t u v : Timeline) (f : CommandFault) → HasRun m s i h t k u → slice_get s i ≡ Some c
+    → IsSame k u l v → IsHalted m c (state_of k u) f
+    → Halts m s (state_of h t) (state_of l v) f
+run_halts m s i c h k l t u v f w e d x = record {
+  done = i;
+  ran = subst (λ y. Runs m s i (state_of h t) y) (sym d.state) w.runs;
+  command = c;
+  next = e;
+  halted = subst (λ y. IsHalted m c y f) (sym d.state) x;
+}

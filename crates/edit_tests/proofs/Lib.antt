@@ -1,0 +1,4 @@
+pub mod Places
+pub mod Beside
+pub mod FitLemmas
+pub mod FillLemmas

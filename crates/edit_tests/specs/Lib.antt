@@ -1,0 +1,3 @@
+-- What is asked of edits and their items.
+pub mod Filled
+pub mod Neighbours

@@ -1,0 +1,24 @@
+-- The nearest items beside a child of a list.
+use Rattle.std.specs.Prelude.{◌≡◌, ℕ, ◌+◌, ◌<◌, true, List, Some, slice_get, take, drop}
+use Rattle.otio_model.specs.declared.compositions.ItemOf.{ItemOf}
+use Rattle.otio_model.specs.declared.compositions.Listed.{Listed}
+use Rattle.otio_model.specs.Trees.{is_transition}
+use Rattle.edits.specs.Edges.{first_item, last_item}
+
+-- the nearest before an index that isn't a transition stands at i
+pub record IsBefore (l : List (ItemOf Listed)) (index i : ℕ) : Type 0 where
+  pub before : i < index
+  pub item : ItemOf Listed
+  pub there : slice_get l i ≡ Some item
+  pub last : last_item (take index l) ≡ Some item
+  pub between : (j : ℕ) (x : ItemOf Listed) → i < j → j < index → slice_get l j ≡ Some x
+      → is_transition x ≡ true
+
+-- the nearest behind an index that isn't a transition stands at i
+pub record IsAfter (l : List (ItemOf Listed)) (index i : ℕ) : Type 0 where
+  pub behind : index < i
+  pub item : ItemOf Listed
+  pub there : slice_get l i ≡ Some item
+  pub first : first_item (drop (index + 1) l) ≡ Some item
+  pub between : (j : ℕ) (x : ItemOf Listed) → index < j → j < i → slice_get l j ≡ Some x
+      → is_transition x ≡ true

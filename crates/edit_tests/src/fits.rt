@@ -1,0 +1,66 @@
+//! The speed at which an item fills a gap.
+
+ghost use Rattle.std.specs.Prelude.{◌≡◌, ◌≤◌, ◌<◌, ◌*◌, ℤ, pos, ◌≤ℤ◌, ◌<ℤ◌, IfSome, unsigned_abs};
+ghost use Rattle.limits.specs.Limits.{most_ticks};
+ghost use Rattle.tick_time.specs.Times.{IsSpeed};
+ghost use Rattle.otio_model.specs.Speeds.{kept_speed};
+ghost use Rattle.coord.specs.Speeds as speeds;
+ghost use Rattle.depths.specs.Editable.{IsEditItem};
+ghost use Rattle.edits.specs.Edits as edits;
+
+use otio_model::{Item, ItemOf};
+
+/// The speed that the effects of an item come to, in millionths; `None` exactly where it passes
+/// 1000 times, either way, after one of them.
+pub(crate) fn kept_speed(item: &Item) -> Option<i64>
+    ensures speed { result ≡ kept_speed (pos 1000000) (speeds.effects_of item.now) }
+    ensures range { IfSome result IsSpeed }
+{
+    match item {
+        ItemOf::Clip(clip) => clip.effects.speed(),
+        ItemOf::Gap(gap) => gap.effects.speed(),
+        ItemOf::Transition(_) => Some(1_000_000),
+        ItemOf::Stack(stack) => stack.effects.speed(),
+        ItemOf::Track(track) => track.effects.speed(),
+    }
+}
+
+/// The speed of an item that may be put into a track, in millionths.
+#[tactic(auto, using(crate::proofs::FitLemmas::edit_speeds))]
+pub(crate) fn edit_speed(item: &Item) -> i64
+    requires { IsEditItem item.now }
+    ensures value { result ≡ speeds.speed_of item.now }
+    ensures range { IsSpeed result }
+{
+    match kept_speed(item) {
+        Some(speed) => speed,
+        None => unreachable!(),
+    }
+}
+
+/// A quotient as a whole number, rounded half to even.
+fn half_even(dividend: u128, divisor: u128) -> u128
+    requires divisor { 1 ≤ divisor }
+    requires small { divisor ≤ 1000000000000000000000000000000 }
+    requires short { dividend ≤ 1000000000000000000000000000000 }
+    ensures value { result ≡ edits.half_even dividend divisor }
+{
+    let quotient = dividend / divisor;
+    let rest = dividend % divisor;
+    if 2 * rest < divisor || (2 * rest == divisor && quotient % 2 == 0) {
+        quotient
+    } else {
+        quotient + 1
+    }
+}
+
+/// The speed at which so many ticks fill a gap, in millionths.
+pub(crate) fn fit_speed(ticks: i128, room: i128) -> u128
+    requires ticks_low { pos 0 ≤ℤ ticks }
+    requires ticks_high { ticks ≤ℤ pos most_ticks }
+    requires room_low { pos 0 <ℤ room }
+    requires room_high { room ≤ℤ pos most_ticks }
+    ensures { pos result ≡ edits.fit_speed ticks room }
+{
+    half_even(ticks.unsigned_abs() * 1_000_000, room.unsigned_abs())
+}

@@ -1,0 +1,17 @@
+pub mod Kept
+pub mod Whole
+pub mod Longs
+pub mod Bounded
+pub mod MotionLemmas
+pub mod TrimLemmas
+pub mod Made
+pub mod Puts
+pub mod Seated
+pub mod Walks
+pub mod Reshaping
+pub mod Copying
+pub mod Seeking
+pub mod Neighbours
+pub mod Early
+pub mod Asking
+pub mod Planning

@@ -1,0 +1,44 @@
+-- What an edit leaves on the desk.
+use Rattle.std.specs.Prelude.{◌≡◌, ℕ, List, Some}
+use Rattle.std.specs.declared.option.Option.{Option}
+use Rattle.dev_io.specs.Known.{KnownFiles}
+use Rattle.source_files.specs.Reading.{Held, AreRead}
+use Rattle.source_files.specs.declared.kinds.Content.{Content}
+use Rattle.command_words.specs.Asked.{Ask, OtherNames}
+use Rattle.command_words.specs.declared.requests.Command.{Command}
+use Rattle.otio_tools.specs.Asked.{EditsTimeline, files_of}
+use Rattle.otio_tools.specs.Plan.{IsWorkHeld}
+use Rattle.otio_tools.specs.declared.Desk.{Desk}
+use Rattle.otio_tools.specs.declared.Status.{Status}
+use Rattle.otio_tools.specs.declared.Status.TheVariants.{Done, Usage, Refused, Input, Output, Memory}
+
+-- The files hold a timeline, or a list that conforms to one, and a script, and the desk holds what
+-- the script's commands lead to from that timeline, with its log.
+pub record IsWorkOf (held : Held) (command : Command) (name : List ℕ) (others : OtherNames)
+    (on_desk : Option Desk) : Type 0 where
+  pub contents : List Content
+  pub read : AreRead held (files_of command name others) contents
+  pub desk : Desk
+  pub is : on_desk ≡ Some desk
+  pub work : IsWorkHeld command contents desk
+
+-- it does so for words that ask for an edit
+abbrev pub WorksOn : List (List ℕ) → Option Desk → Held → Type 0
+WorksOn words on_desk held =
+    (command : Command) (name : List ℕ) (others : OtherNames) (target : Option (List ℕ))
+    → EditsTimeline command → Ask words command name others target
+    → IsWorkOf held command name others on_desk
+
+-- what a run leaves where it is done, or where its output isn't taken
+abbrev pub LeavesDesk : List (List ℕ) → Status → Option Desk → KnownFiles → Type 0
+LeavesDesk words Done on_desk old = WorksOn words on_desk old.held
+LeavesDesk words Output on_desk old = WorksOn words on_desk old.held
+LeavesDesk words Usage on_desk old = Unit {0}
+LeavesDesk words Refused on_desk old = Unit {0}
+LeavesDesk words Input on_desk old = Unit {0}
+LeavesDesk words Memory on_desk old = Unit {0}
+
+-- the words ask for no edit
+abbrev pub AskNoEdit : List (List ℕ) → Type 0
+AskNoEdit words = (command : Command) (name : List ℕ) (others : OtherNames)
+    (target : Option (List ℕ)) → EditsTimeline command → Ask words command name others target → ⊥

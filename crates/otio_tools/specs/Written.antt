@@ -1,0 +1,21 @@
+-- What is written of objects and timelines.
+use Rattle.std.specs.Prelude.{◌≡◌, ℕ, List}
+use Rattle.std.specs.declared.option.Option.{Option}
+use Rattle.json_value.specs.declared.Json.{Json}
+use Rattle.json_layout.specs.Layout.{layout}
+use Rattle.otio_model.specs.declared.roots.Object.{Object, Timeline as ObjectOfTimeline}
+use Rattle.otio_model.specs.declared.timelines.Timeline.{Timeline}
+use Rattle.schema_write.specs.Objects.{json_of}
+use Rattle.otio_tools.specs.Forms.{Answer, done}
+
+-- the JSON of an object that is written, in the current schemas and the written order
+unfoldable pub object_json : Object → Json
+object_json object = json_of object
+
+-- the text of a timeline
+abbrev pub timeline_text : Timeline → List ℕ
+timeline_text timeline = layout (object_json (ObjectOfTimeline timeline))
+
+-- the answer to a timeline that is written
+abbrev pub AnswersWritten : Option (List ℕ) → Timeline → Answer → Type 0
+AnswersWritten target timeline answer = answer ≡ done target (timeline_text timeline)

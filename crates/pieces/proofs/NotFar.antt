@@ -1,0 +1,169 @@
+-- Cuts of items without a fault, up to a million seconds, are in range.
+use Rattle.std.proofs.Common.{◌≡◌, refl, sym, ◌∙◌, ℕ, zero, suc, ℤ, pos, negsuc}
+use Rattle.std.proofs.Common.{◌+ℤ◌, ◌-ℤ◌, ◌*ℤ◌, ◌≤ℤ◌, ◌<ℤ◌, Bool, true, false, List, [], ◌∷◌}
+use Rattle.std.proofs.Common.{None, arith, mul-le-mul_right, ◌⊎◌, inl, inr, ◌≤◌}
+use Rattle.std.specs.Int.{int_div_euclid, int_rem_euclid}
+use Rattle.std.proofs.lemmas.Int.{by_lt_z, ints}
+use Rattle.otio_model.specs.declared.compositions.ItemOf.{ItemOf}
+use Rattle.otio_model.specs.declared.compositions.Listed.{Listed}
+use Rattle.otio_model.specs.Lengths.{length_of, or_zero, trimmed_start}
+use Rattle.coord.specs.Soundness.{fault_of}
+use Rattle.coord.specs.Speeds.{media_at, speed_of}
+use Rattle.cuts.specs.Children.{Ranged, has_far, is_far, plain_gap, ticks}
+use Rattle.cuts.specs.Cuts.{back, front, left_piece, olds, right_piece}
+use Rattle.cuts.specs.Finest.{in_range}
+use Rattle.pieces.specs.Short.{AreCuttable, IsCuttable}
+use Rattle.pieces.proofs.Faultless.{faultless, faultless_short, start_high, start_low}
+use Rattle.pieces.proofs.Grown.{ticks_are}
+use Rattle.pieces.proofs.Tests.{le_no, le_yes, lt_no, lt_yes}
+
+abbrev most : ℤ
+most = pos 705600000000000000000000
+
+in_yes : (z : ℤ) → (pos 0 -ℤ most) ≤ℤ z → z ≤ℤ most → in_range z ≡ true
+in_yes z l h = grind (arith, ints)
+
+near_item : (x : ItemOf Listed) (s n : ℤ) → (pos 0 -ℤ most) ≤ℤ s → s ≤ℤ most → pos 0 ≤ℤ n
+    → n ≤ℤ most → is_far (Ranged x s n) ≡ false
+near_item x s n a b c d =
+    let e = in_yes s a b in
+    let f = in_yes n (omega (arith, ints)) d in
+    rw (e, f) refl
+
+-- ---- the media of a right piece
+
+-- the floor and the rest of a number, by a million
+record IsFloor (z q : ℤ) : Type 0 where
+  rest : ℤ
+  sum : ((q *ℤ pos 1000000) +ℤ rest) ≡ z
+  low : pos 0 ≤ℤ rest
+  high : rest <ℤ pos 1000000
+
+floor : (z : ℤ) → IsFloor z (int_div_euclid z (pos 1000000))
+floor (pos a) = record {
+  rest = int_rem_euclid (pos a) (pos 1000000);
+  sum = omega (arith, ints);
+  low = omega (arith, ints);
+  high = omega (arith, ints);
+}
+floor (negsuc a) = record {
+  rest = int_rem_euclid (negsuc a) (pos 1000000);
+  sum = omega (arith, ints);
+  low = omega (arith, ints);
+  high = omega (arith, ints);
+}
+
+-- a number between 0 and another, on either side
+abbrev IsBetween : ℤ → ℤ → Type 0
+IsBetween z w = ((pos 0 ≤ℤ z) × (z ≤ℤ w)) ⊎ ((w ≤ℤ z) × (z ≤ℤ pos 0))
+
+-- less time goes less far
+less_far : (t n : ℕ) (p : ℤ) → t ≤ n → IsBetween (pos t *ℤ p) (pos n *ℤ p)
+less_far t n (pos k) h =
+    let m = mul-le-mul_right k h in inl (omega (arith, ints), omega (arith, ints, m))
+less_far t n (negsuc k) h =
+    let m = mul-le-mul_right (suc k) h in inr (omega (arith, ints, m), omega (arith, ints))
+
+-- what is between a start in range and an end in range is in range
+record IsInside (z : ℤ) : Type 0 where
+  low : (pos 0 -ℤ most) ≤ℤ z
+  high : z ≤ℤ most
+
+inside : (s z w q : ℤ) → IsInside s → IsFloor z q → IsBetween z w
+    → (pos 0 -ℤ (most *ℤ pos 1000000)) ≤ℤ ((s *ℤ pos 1000000) +ℤ w)
+    → ((s *ℤ pos 1000000) +ℤ w) ≤ℤ (most *ℤ pos 1000000) → IsInside (s +ℤ q)
+inside s z w q i f (inl b) l h =
+    let a = f.sum in let c = f.low in let d = f.high in let e = i.low in let g = b.0 in
+    let j = b.1 in
+    record { low = omega (arith, ints, a, c, d, e, g); high = omega (arith, ints, a, c, h, j) }
+inside s z w q i f (inr b) l h =
+    let a = f.sum in let c = f.low in let d = f.high in let e = i.high in let g = b.0 in
+    let j = b.1 in
+    record { low = omega (arith, ints, a, d, l, g); high = omega (arith, ints, a, c, e, j) }
+
+start_inside : (x : ItemOf Listed) → IsInside (trimmed_start x)
+start_inside x =
+    record { low = start_low x (trimmed_start x) refl; high = start_high x (trimmed_start x) refl }
+
+media_inside : (x : ItemOf Listed) (t : ℤ) → fault_of x ≡ None → pos 0 ≤ℤ t → t ≤ℤ ticks x
+    → IsInside (media_at (trimmed_start x) (speed_of x) t)
+media_inside x (pos t) e a b =
+    let s = faultless x e in
+    let n = ticks_are x in
+    inside (trimmed_start x) (pos t *ℤ speed_of x) (pos (or_zero (length_of x)) *ℤ speed_of x) _
+    (start_inside x) (floor (pos t *ℤ speed_of x))
+    (less_far t (or_zero (length_of x)) (speed_of x) (omega (arith, ints, n, b)))
+    s.ends_low s.ends_high
+media_inside x (negsuc t) e a b = absurd (omega (arith, ints, a))
+
+-- ---- pieces
+
+pub left_near : (x : ItemOf Listed) (t : ℤ) → pos 0 ≤ℤ t → t ≤ℤ most
+    → is_far (left_piece x t) ≡ false
+left_near x t a b =
+    let s = start_inside x in near_item x (trimmed_start x) t s.low s.high a b
+
+pub right_near : (x : ItemOf Listed) (t : ℤ) → fault_of x ≡ None → pos 0 ≤ℤ t → t ≤ℤ ticks x
+    → is_far (right_piece x t) ≡ false
+right_near x t e a b =
+    let m = media_inside x t e a b in
+    let h = faultless_short x e in
+    near_item x (media_at (trimmed_start x) (speed_of x) t) (ticks x -ℤ t) m.low m.high
+    (omega (arith, ints, b)) (omega (arith, ints, h, a))
+
+-- ---- lists
+
+others : (x : ItemOf Listed) (l : List (ItemOf Listed)) → AreCuttable (x ∷ l) → AreCuttable l
+others x l k i y e = k (suc i) y e
+
+olds_near : (l : List (ItemOf Listed)) → has_far (olds l) ≡ false
+olds_near [] = refl
+olds_near (x ∷ l) = olds_near l
+
+pub front_near : (l : List (ItemOf Listed)) (t : ℤ) → pos 0 ≤ℤ t → t ≤ℤ most
+    → has_far (front l t) ≡ false
+front_near [] t a b = by_lt_z (pos 0) t
+    (λ h. let e = lt_yes (pos 0) t h in
+    let f = near_item plain_gap (pos 0) t (omega (arith, ints)) (omega (arith, ints)) a b in
+    rw (e, f) refl)
+    (λ h. let e = lt_no (pos 0) t h in rw e refl)
+front_near (x ∷ l) t a b = by_lt_z (pos 0) t
+    (λ h. let e = lt_yes (pos 0) t h in by_lt_z t (ticks x)
+    (λ k. let f = le_no (ticks x) t k in let g = left_near x t a b in rw (e, f, g) refl)
+    (λ k. let f = le_yes (ticks x) t k in
+    rw (e, f) (front_near l (t -ℤ ticks x) (omega (arith, ints, k)) (omega (arith, ints, b)))))
+    (λ h. let e = lt_no (pos 0) t h in rw e refl)
+
+pub back_near : (l : List (ItemOf Listed)) (t : ℤ) → AreCuttable l → has_far (back l t) ≡ false
+back_near [] t k = refl
+back_near (x ∷ l) t k = by_lt_z (pos 0) t
+    (λ h. let e = lt_yes (pos 0) t h in by_lt_z t (ticks x)
+    (λ j. let f = le_no (ticks x) t j in
+    let own = k zero x refl in
+    let g = right_near x t own.sound (omega (arith, ints, h)) (omega (arith, ints, j)) in
+    rw (e, f, g) (olds_near l))
+    (λ j. let f = le_yes (ticks x) t j in
+    rw (e, f) (back_near l (t -ℤ ticks x) (others x l k))))
+    (λ h. let e = lt_no (pos 0) t h in rw e (olds_near l))
+
+-- ---- so no fault of range comes
+
+never : (b : Bool) → b ≡ false → b ≡ true → ⊥
+never b e f = cc (sym e ∙ f)
+
+pub cut_left : (x : ItemOf Listed) (t : ℤ) → IsCuttable x → pos 0 ≤ℤ t → t ≤ℤ ticks x
+    → is_far (left_piece x t) ≡ true → ⊥
+cut_left x t k a b =
+    let h = faultless_short x k.sound in
+    never (is_far (left_piece x t)) (left_near x t a (omega (arith, ints, h, b)))
+
+pub cut_right : (x : ItemOf Listed) (t : ℤ) → IsCuttable x → pos 0 ≤ℤ t → t ≤ℤ ticks x
+    → is_far (right_piece x t) ≡ true → ⊥
+cut_right x t k a b = never (is_far (right_piece x t)) (right_near x t k.sound a b)
+
+pub cut_front : (l : List (ItemOf Listed)) (t : ℤ) → pos 0 ≤ℤ t → t ≤ℤ most
+    → has_far (front l t) ≡ true → ⊥
+cut_front l t a b = never (has_far (front l t)) (front_near l t a b)
+
+pub cut_back : (l : List (ItemOf Listed)) (t : ℤ) → AreCuttable l → has_far (back l t) ≡ true → ⊥
+cut_back l t k = never (has_far (back l t)) (back_near l t k)

@@ -1,0 +1,4 @@
+pub mod Sides
+pub mod Reached
+pub mod Bounds
+pub mod Ways

@@ -1,0 +1,2 @@
+-- The way down to a place.
+pub mod Way

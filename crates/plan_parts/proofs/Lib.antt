@@ -1,0 +1,5 @@
+pub mod Passing
+pub mod Clearing
+pub mod Holding
+pub mod LongLemmas
+pub mod ZoneLemmas

@@ -1,0 +1,2 @@
+pub mod EditItems
+pub mod Steps

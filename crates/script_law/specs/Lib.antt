@@ -1,0 +1,2 @@
+-- What a script makes of a timeline.
+pub mod Shown

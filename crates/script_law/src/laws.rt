@@ -1,0 +1,18 @@
+//! The law of scripts. Its function does nothing.
+
+ghost use Rattle.std.specs.Prelude.{ℕ, List};
+ghost use Rattle.otio_model.specs.declared.timelines.Timeline.{Timeline};
+ghost use Rattle.coord.specs.Soundness.{IsSound};
+ghost use Rattle.undo_log.specs.States.{State};
+ghost use Rattle.script_text.specs.declared.commands.Command.{Command};
+ghost use Rattle.edit_script.specs.Items.{MediaRows};
+ghost use Rattle.edit_script.specs.Runs.{Runs};
+ghost use Rattle.script_law.specs.Shown.{IsEditedFrom, opened};
+
+/// Law: whatever commands are run on a sound timeline, each timeline of the state that they lead to
+/// stands for an edit of the one before it, after which every frame shows what the edit's law says;
+/// and undoing all edits gives the first timeline.
+pub fn commands_show()
+    ensures { (media : MediaRows) (script : List Command) (n : ℕ) (t : Timeline) (s : State) →
+        IsSound t → Runs media script n (opened t) s → IsEditedFrom t s }
+{}

@@ -1,0 +1,4 @@
+pub mod ActLemmas
+pub mod Once
+pub mod LineByLine
+pub mod Texts

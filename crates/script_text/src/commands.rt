@@ -1,0 +1,143 @@
+//! Commands.
+
+ghost use Rattle.std.specs.Prelude.{◌≡◌};
+
+use otio_model::{FillMode, Place, RemoveMode};
+use sequences::Text;
+use std::alloc::{AllocError, AllocFailed};
+use thiserror::Error;
+
+/// How many commands a script has at most.
+pub const MOST_COMMANDS: usize = 10_000;
+
+/// What an edit puts in.
+#[derive(Debug, Drop)]
+pub enum Put {
+    /// A gap of so many record frames.
+    Gap(i64),
+    /// A clip of a reel. `start` counts frames of the reel's rate, `length` record frames.
+    Clip {
+        name: Text,
+        reel: Text,
+        start: i64,
+        length: i64,
+    },
+}
+
+/// What a command does: an edit, or a step in the log. Its numbers are in record frames.
+#[derive(Debug, Drop)]
+pub enum Act {
+    /// Puts the item in place of what is there from `at` on.
+    Overwrite {
+        place: Place,
+        at: i64,
+        put: Put,
+    },
+    /// Puts the item in at `at`, and what follows moves on.
+    Insert {
+        place: Place,
+        at: i64,
+        put: Put,
+    },
+    /// Cuts the item at `at` in two.
+    Slice {
+        place: Place,
+        at: i64,
+    },
+    /// Puts the item into the gap at `at`.
+    Fill {
+        place: Place,
+        at: i64,
+        mode: FillMode,
+        put: Put,
+    },
+    /// Takes the item at `at` out.
+    Remove {
+        place: Place,
+        at: i64,
+        mode: RemoveMode,
+    },
+    /// Moves the head and the tail of the item at `at`, against the gaps beside it.
+    Trim {
+        place: Place,
+        at: i64,
+        head: i64,
+        tail: i64,
+    },
+    /// Moves the media that the item at `at` shows, and not the item.
+    Slip {
+        place: Place,
+        at: i64,
+        by: i64,
+    },
+    /// Moves the item at `at`, and the tail of the item before it with it.
+    Slide {
+        place: Place,
+        at: i64,
+        by: i64,
+    },
+    /// Moves the head and the tail of the item at `at`, and what follows moves with it.
+    Ripple {
+        place: Place,
+        at: i64,
+        head: i64,
+        tail: i64,
+    },
+    /// Moves the cuts at the head and the tail of the item at `at`, against the items beside it.
+    Roll {
+        place: Place,
+        at: i64,
+        head: i64,
+        tail: i64,
+    },
+    /// Takes the last edit back.
+    Undo,
+    /// Brings the edit back that was taken back last.
+    Redo,
+}
+
+/// A command and the line that it stands on, counted from 1.
+#[derive(Debug, Drop)]
+pub struct Command {
+    /// The line.
+    pub line: u32,
+    /// What it does.
+    pub act: Act,
+}
+
+/// Why bytes are no script.
+#[derive(Clone, Copy, Debug, PartialEq, Eq, Error)]
+pub enum ScriptFault {
+    /// The line isn't UTF-8, or it says no command and isn't skipped.
+    #[error("line {0} has the wrong form")]
+    Line(u32),
+    /// There are more than 10 000 commands.
+    #[error("more than 10000 commands")]
+    Many,
+    /// There are more than 33 554 432 bytes.
+    #[error("more than 33554432 bytes")]
+    Large,
+    /// Memory ran out.
+    #[error("no memory")]
+    Memory,
+}
+
+impl From<AllocError> for ScriptFault {
+    ghost use Rattle.script_text.specs.declared.commands.ScriptFault.TheVariants.{Memory};
+
+    ghost from_gives = { λ _ fault. fault ≡ Memory };
+
+    fn from(_error: AllocError) -> ScriptFault {
+        ScriptFault::Memory
+    }
+}
+
+impl<T: Drop> From<AllocFailed<T>> for ScriptFault {
+    ghost use Rattle.script_text.specs.declared.commands.ScriptFault.TheVariants.{Memory};
+
+    ghost from_gives = { λ _ fault. fault ≡ Memory };
+
+    fn from(_error: AllocFailed<T>) -> ScriptFault {
+        ScriptFault::Memory
+    }
+}

@@ -1,0 +1,4 @@
+pub mod WordLemmas
+pub mod Figures
+pub mod PlaceLemmas
+pub mod Grammar
