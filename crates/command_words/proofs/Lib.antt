@@ -1,4 +1,4 @@
 pub mod Naming
-pub mod Spelling
 pub mod SameRates
-pub mod Gathering
+pub mod Reading
+pub mod Asking

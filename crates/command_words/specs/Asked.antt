@@ -5,10 +5,11 @@ use Rattle.tick_time.specs.declared.rates.Rate.{Rate}
 use Rattle.rate_words.specs.RateWords.{IsRateWord}
 use Rattle.record_points.specs.Words.{IsWholeNumber, IsPoint}
 use Rattle.command_words.specs.Names.{IsListName, word_of}
-use Rattle.command_words.specs.Parts.{CommandPart, AreParts, spell}
-use Rattle.command_words.specs.Gathered.{Given, nothing_given, add_all}
+use Rattle.command_words.specs.Given.{Given, Gives}
 use Rattle.command_words.specs.declared.conversions.Form.{Form}
 use Rattle.command_words.specs.declared.conversions.Form.TheVariants as form
+use Rattle.command_words.specs.declared.faults.WordsFault.{WordsFault}
+use Rattle.command_words.specs.declared.faults.WordsFault.TheVariants.{Usage, Memory}
 use Rattle.command_words.specs.declared.requests.Command.{Command}
 use Rattle.command_words.specs.declared.requests.Command.TheVariants.{ListToList, ListToObjects, TimelineToList, ToObjects, ToJson, Frames, ListFrames, Edit, ListEdit}
 use Rattle.command_words.specs.declared.requests.FramesAsked.{FramesAsked}
@@ -180,18 +181,23 @@ pub record IsRequest (verb : Verb) (command : Command) (name : List ℕ) (others
   pub once : ReadsOnce name others
   pub target_is : given.target ≡ target
 
--- The words ask for this: the command's own word, then its options and the file in any order.
+-- The words ask for this: the command's own word, and behind it words that `clap` has a match for,
+-- with values and names that the command allows together.
 pub record Ask (words : List (List ℕ)) (command : Command) (name : List ℕ) (others : OtherNames)
     (target : Option (List ℕ)) : Type 0 where
   pub verb : Verb
-  pub parts : List CommandPart
-  pub are_parts : AreParts verb parts
-  pub words_are : words ≡ word_of verb ∷ spell parts
+  pub behind : List (List ℕ)
+  pub words_are : words ≡ word_of verb ∷ behind
   pub given : Given
-  pub gathered : add_all nothing_given parts ≡ Some given
+  pub gives : Gives verb behind given
   pub is : IsRequest verb command name others target given
 
 -- the words ask for no command
 abbrev pub AskNothing : List (List ℕ) → Type 0
 AskNothing words = (command : Command) (name : List ℕ) (others : OtherNames)
     (target : Option (List ℕ)) → Ask words command name others target → ⊥
+
+-- why no request is given: the words ask for none, or memory ran out, which may come at any words
+abbrev pub NoRequest : List (List ℕ) → WordsFault → Type 0
+NoRequest words Usage = AskNothing words
+NoRequest words Memory = Unit {0}

@@ -1,5 +1,4 @@
 pub mod Names
-pub mod Parts
-pub mod Gathered
+pub mod Options
+pub mod Given
 pub mod Asked
-pub mod Found

@@ -2,7 +2,7 @@
 ghost use Rattle.std.specs.Prelude.{◌≡◌, ℕ, Bool, List, Option, Some, None, MatchOption};
 ghost use Rattle.std.specs.Option.{option_map};
 ghost use Rattle.command_words.specs.Asked.{IsConversion, IsAskedOf, IsInput, IsOutput};
-ghost use Rattle.command_words.specs.Gathered.{given_by};
+ghost use Rattle.command_words.specs.Given.{given_by};
 
 use crate::lines::Line;
 use crate::names::is_list_name;

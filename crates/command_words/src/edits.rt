@@ -1,7 +1,7 @@
 // What a command line of `edit` asks for.
 ghost use Rattle.std.specs.Prelude.{◌≡◌, ℕ, List, MatchOption};
 ghost use Rattle.command_words.specs.Asked.{IsEdit, IsEditing};
-ghost use Rattle.command_words.specs.Gathered.{given_by};
+ghost use Rattle.command_words.specs.Given.{given_by};
 
 use crate::lines::Line;
 use crate::names::is_list_name;

@@ -1,11 +1,14 @@
-// What the parts of a command line give together.
-ghost use Rattle.std.specs.Prelude.{◌≡◌, ℕ, List, Some, None, map, string_bytes, MatchOption};
-ghost use Rattle.command_words.specs.Parts.{CommandPart, AreParts, spell, Valued as ValuedPart, Flagged as FlaggedPart};
-ghost use Rattle.command_words.specs.Gathered.{Given, add, add_all, given_by, nothing_given};
-ghost use Rattle.command_words.specs.Found.{part_found};
+// What the words behind a command's own word give.
+ghost use Rattle.std.specs.Prelude.{◌≡◌, map, string_bytes, MatchResult};
+ghost use Rattle.std.specs.Option.{option_map};
+ghost use Rattle.clap.specs.Words.{first_of, found_of, rows_of};
+ghost use Rattle.command_words.specs.Given.{Gives, GivesNothing, given_by, given_in, is_there};
 
-use crate::names::{Choice, Flag, Verb};
-use crate::parts::{Found, first_part, first_word};
+use crate::faults::{WordsFault, fault_of};
+use crate::names::Verb;
+use crate::options::reader_of;
+use clap::ArgMatches;
+use std::alloc::Global;
 
 /// The values of the options, whether each flag is there, and the file.
 #[derive(Clone, Copy)]
@@ -24,132 +27,53 @@ pub struct Line<'a> {
     pub file: Option<&'a str>,
 }
 
-/// A line that gives nothing.
-pub fn empty_line<'a>() -> Line<'a>
-    ensures { given_by result ≡ nothing_given }
+/// What the words behind a command's own word give.
+pub fn line_of<'a>(alloc: Global, verb: Verb, words: &'a [String]) -> Result<Line<'a>, WordsFault>
+    ensures { let said = map (λ w. string_bytes w) words.entry.now in MatchResult result
+        (λ line. Gives verb said (given_by line)) (GivesNothing verb said) }
+{
+    let Ok(reader) = reader_of(alloc, verb) else {
+        return Err(WordsFault::Memory);
+    };
+    match reader.try_get_matches_from(words) {
+        Ok(matches) => Ok(line_in(&matches)),
+        Err(error) => Err(fault_of(&error)),
+    }
+}
+
+// What the matches give.
+fn line_in<'a>(matches: &ArgMatches<'a>) -> Line<'a>
+    ensures { given_by result ≡ given_in (rows_of (found_of matches.now)) }
 {
     Line {
-        from: None,
-        to: None,
-        rate: None,
-        target: None,
-        child: None,
-        start: None,
-        count: None,
-        media: None,
-        script: None,
-        drop: false,
-        wide: false,
-        file: None,
+        from: value_of(matches, "from"),
+        to: value_of(matches, "to"),
+        rate: value_of(matches, "rate"),
+        target: value_of(matches, "output"),
+        child: value_of(matches, "child"),
+        start: value_of(matches, "start"),
+        count: value_of(matches, "count"),
+        media: value_of(matches, "media"),
+        script: value_of(matches, "script"),
+        drop: has_flag(matches, "drop"),
+        wide: has_flag(matches, "wide"),
+        file: value_of(matches, "file"),
     }
 }
 
-/// The line with one more part; none where that was given before.
-pub fn with_part<'a>(line: Line<'a>, found: Found<'a>) -> Option<Line<'a>>
-    ensures { MatchOption result
-        (add (given_by line.entry) (part_found found.entry) ≡ None)
-        (λ more. add (given_by line.entry) (part_found found.entry) ≡ Some (given_by more)) }
+// The value of an option, or the file.
+fn value_of<'a>(matches: &ArgMatches<'a>, name: &str) -> Option<&'a str>
+    ensures { option_map (λ s. s.now) result ≡ first_of name.now (rows_of (found_of matches.now)) }
 {
-    match found {
-        Found::Valued(choice, _, value) => with_value(line, choice, value),
-        Found::Flagged(flag, _) => with_flag(line, flag),
-        Found::File(name) => match line.file {
-            Some(_) => None,
-            None => Some(Line {
-                file: Some(name),
-                ..line
-            }),
-        },
-    }
+    matches.get_str(name)
 }
 
-// The line with one more flag.
-fn with_flag<'a>(line: Line<'a>, flag: Flag) -> Option<Line<'a>>
-    ensures { (name : List ℕ) → MatchOption result
-        (add (given_by line.entry) (FlaggedPart flag name) ≡ None)
-        (λ more. add (given_by line.entry) (FlaggedPart flag name) ≡ Some (given_by more)) }
+// Whether a flag is there.
+fn has_flag(matches: &ArgMatches<'_>, name: &str) -> bool
+    ensures { result ≡ is_there (first_of name.now (rows_of (found_of matches.now))) }
 {
-    match flag {
-        Flag::Drop => {
-            if line.drop {
-                None
-            } else {
-                Some(Line { drop: true, ..line })
-            }
-        }
-        Flag::Wide => {
-            if line.wide {
-                None
-            } else {
-                Some(Line { wide: true, ..line })
-            }
-        }
-    }
-}
-
-// The line with one more value.
-fn with_value<'a>(line: Line<'a>, choice: Choice, value: &'a str) -> Option<Line<'a>>
-    ensures { (name : List ℕ) → MatchOption result
-        (add (given_by line.entry) (ValuedPart choice name value.now) ≡ None)
-        (λ more. add (given_by line.entry) (ValuedPart choice name value.now) ≡
-        Some (given_by more)) }
-{
-    let value = Some(value);
-    match choice {
-        Choice::From if line.from.is_none() => Some(Line {
-            from: value,
-            ..line
-        }),
-        Choice::To if line.to.is_none() => Some(Line { to: value, ..line }),
-        Choice::Rate if line.rate.is_none() => Some(Line {
-            rate: value,
-            ..line
-        }),
-        Choice::Target if line.target.is_none() => Some(Line {
-            target: value,
-            ..line
-        }),
-        Choice::Child if line.child.is_none() => Some(Line {
-            child: value,
-            ..line
-        }),
-        Choice::Start if line.start.is_none() => Some(Line {
-            start: value,
-            ..line
-        }),
-        Choice::Count if line.count.is_none() => Some(Line {
-            count: value,
-            ..line
-        }),
-        Choice::Media if line.media.is_none() => Some(Line {
-            media: value,
-            ..line
-        }),
-        Choice::Script if line.script.is_none() => Some(Line {
-            script: value,
-            ..line
-        }),
-        _ => None,
-    }
-}
-
-/// What a line and the parts that the words of a command spell give together; none where they spell
-/// no parts, or something is given twice.
-pub fn gather<'a>(verb: Verb, words: &'a [String], line: Line<'a>) -> Option<Line<'a>>
-    ensures { let spelled = map (λ w. string_bytes w) words.now in MatchOption result
-        ((parts : List CommandPart) (given : Given) → AreParts verb parts → spelled ≡ spell parts →
-        add_all (given_by line.entry) parts ≡ Some given → ⊥)
-        (λ all. (parts : List CommandPart) × AreParts verb parts × (spelled ≡ spell parts) ×
-        (add_all (given_by line.entry) parts ≡ Some (given_by all))) }
-{
-    let Some((word, rest)) = first_word(words) else {
-        return Some(line);
-    };
-    let Some((found, behind)) = first_part(verb, word, rest) else {
-        return None;
-    };
-    match with_part(line, found) {
-        Some(more) => gather(verb, behind, more),
-        None => None,
+    match value_of(matches, name) {
+        Some(value) => value == "true",
+        None => false,
     }
 }

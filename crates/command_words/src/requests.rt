@@ -1,16 +1,17 @@
 // What a command line asks for.
-ghost use Rattle.std.specs.Prelude.{◌≡◌, ◌↔◌, ℕ, List, Option, Some, map, string_bytes, IsTrue, MatchOption};
+ghost use Rattle.std.specs.Prelude.{◌≡◌, ◌↔◌, ℕ, List, Option, Some, map, string_bytes, IsTrue, MatchOption, MatchResult};
 ghost use Rattle.std.specs.Option.{option_map};
-ghost use Rattle.command_words.specs.Asked.{Ask, AskNothing, IsAskedBy, IsMedia, IsRequest, IsScript, OtherNames, ReadsOnce, other_names, standard_input};
-ghost use Rattle.command_words.specs.Gathered.{given_by};
+ghost use Rattle.command_words.specs.Asked.{Ask, IsAskedBy, IsMedia, IsRequest, IsScript, NoRequest, OtherNames, ReadsOnce, other_names, standard_input};
+ghost use Rattle.command_words.specs.Given.{given_by};
 
 use crate::conversions::conversion_of;
 use crate::edits::edit_of;
+use crate::faults::WordsFault;
 use crate::frame_lists::frame_list_of;
-use crate::lines::{Line, empty_line, gather};
-use crate::names::{Verb, verb_of};
-use crate::parts::first_word;
+use crate::lines::{Line, line_of};
+use crate::names::{Verb, first_word, verb_of};
 use record_points::RecordPoint;
+use std::alloc::Global;
 use text_lines::is_text;
 use tick_time::Rate;
 
@@ -96,21 +97,25 @@ pub struct Request<'a> {
     pub target: Option<&'a str>,
 }
 
-/// What the words behind the program's name ask for; none exactly where they ask for nothing.
-pub fn request_of(words: &[String]) -> Option<Request<'_>>
-    ensures { let said = map (λ w. string_bytes w) words.now in MatchOption result (AskNothing said)
+/// What the words behind the program's name ask for: `Usage` exactly where they ask for nothing, but
+/// that want of memory may come at any words.
+pub fn request_of(alloc: Global, words: &[String]) -> Result<Request<'_>, WordsFault>
+    ensures { let said = map (λ w. string_bytes w) words.now in MatchResult result
         (λ request. Ask said request.command request.name.now (other_names request.others)
-        (option_map (λ s. s.now) request.target)) }
+        (option_map (λ s. s.now) request.target)) (NoRequest said) }
 {
-    let Some((word, rest)) = first_word(words) else {
-        return None;
+    let Some((word, behind)) = first_word(words) else {
+        return Err(WordsFault::Usage);
     };
     let Some(verb) = verb_of(word) else {
-        return None;
+        return Err(WordsFault::Usage);
     };
-    match gather(verb, rest, empty_line()) {
-        Some(line) => request_in(verb, &line),
-        None => None,
+    match line_of(alloc, verb, behind) {
+        Ok(line) => match request_in(verb, &line) {
+            Some(request) => Ok(request),
+            None => Err(WordsFault::Usage),
+        },
+        Err(fault) => Err(fault),
     }
 }
 

@@ -1,6 +1,6 @@
 //! Command lines and what they ask for.
 
-use crate::{Command, FramesAsked, request_of};
+use crate::{Command, FramesAsked, Request, WordsFault, request_of};
 use record_points::RecordPoint;
 use std::alloc::{AllocError, Global};
 use std::test::Fail;
@@ -13,10 +13,22 @@ fn words_of(alloc: Global, line: &str) -> Result<Vec<String>, AllocError> {
     Ok(words)
 }
 
+// What words ask for.
+fn requested<'a>(alloc: Global, words: &'a [String]) -> Option<Request<'a>> {
+    match request_of(alloc, words) {
+        Ok(request) => Some(request),
+        Err(_) => None,
+    }
+}
+
 // Whether a line asks for nothing.
 fn asks_for_nothing(alloc: Global, line: &str) -> Result<bool, AllocError> {
     let words = words_of(alloc, line)?;
-    Ok(request_of(words.as_slice()).is_none())
+    match request_of(alloc, words.as_slice()) {
+        Err(WordsFault::Usage) => Ok(true),
+        Err(WordsFault::Memory) => Err(AllocError),
+        Ok(_) => Ok(false),
+    }
 }
 
 #[test]
@@ -34,7 +46,7 @@ fn lines_ask_for_lists(rt: HostRuntime) -> Result<(), Fail> {
         ("convert --from edl --to edl x.edl", 24, false, false),
     ] {
         let words = words_of(rt.alloc(), line)?;
-        match request_of(words.as_slice()) {
+        match requested(rt.alloc(), words.as_slice()) {
             Some(request) => {
                 assert!(rt; request.name.ends_with(".edl"), "{line}");
                 match request.command {
@@ -77,7 +89,7 @@ fn lines_ask_for_timelines_as_lists(rt: HostRuntime) -> Result<(), Fail> {
         ),
     ] {
         let words = words_of(rt.alloc(), line)?;
-        match request_of(words.as_slice()) {
+        match requested(rt.alloc(), words.as_slice()) {
             Some(request) => {
                 assert_eq!(rt;
                     request.command,
@@ -100,7 +112,7 @@ fn lines_ask_for_json(rt: HostRuntime) -> Result<(), Fail> {
         ("convert --drop x.edl.json --to json --wide", "x.edl.json"),
     ] {
         let words = words_of(rt.alloc(), line)?;
-        match request_of(words.as_slice()) {
+        match requested(rt.alloc(), words.as_slice()) {
             Some(request) => {
                 assert_eq!(rt; request.name, name, "{line}");
                 assert_eq!(rt; request.command, Command::ToJson, "{line}");
@@ -120,9 +132,8 @@ fn other_lines_ask_for_nothing(rt: HostRuntime) -> Result<(), Fail> {
         "convert --to edl",
         "convert --to edl a.edl a.edl",
         "convert --to edl --to edl a.edl",
-        "convert --to=edl a.edl",
         "convert --to edl -a.edl",
-        "convert --to edl -- a.edl",
+        "convert --to edl -- a.edl b.edl",
         "convert --to json a.edl",
         "convert --to edl --media - -",
         "convert --to edl --wide --wide x",
@@ -166,7 +177,7 @@ fn lines_ask_for_objects_and_outputs(rt: HostRuntime) -> Result<(), Fail> {
         ("convert --media - --to json -", Command::ToJson, None),
     ] {
         let words = words_of(rt.alloc(), line)?;
-        match request_of(words.as_slice()) {
+        match requested(rt.alloc(), words.as_slice()) {
             Some(request) => {
                 assert_eq!(rt; request.command, command, "{line}");
                 assert_eq!(rt; request.target, target, "{line}");
@@ -175,7 +186,7 @@ fn lines_ask_for_objects_and_outputs(rt: HostRuntime) -> Result<(), Fail> {
         }
     }
     let words = words_of(rt.alloc(), "convert -o l.edl a.edl")?;
-    match request_of(words.as_slice()) {
+    match requested(rt.alloc(), words.as_slice()) {
         Some(request) => assert!(rt; matches!(request.command, Command::ListToList { .. })),
         None => assert!(rt; false),
     }
@@ -207,7 +218,7 @@ fn lines_ask_for_frames(rt: HostRuntime) -> Result<(), Fail> {
             start,
             count,
         };
-        match request_of(words.as_slice()) {
+        match requested(rt.alloc(), words.as_slice()) {
             Some(request) => {
                 assert_eq!(rt; request.command, Command::Frames(asked), "{line}");
             }
@@ -224,7 +235,7 @@ fn other_lines_ask_for_no_frames(rt: HostRuntime) -> Result<(), Fail> {
         "Frames x",
         "frames x y",
         "frames -x",
-        "frames --count=1 x",
+        "frames --count= x",
         "frames x --count",
         "frames --child 1 --child 1 x",
         "frames --child 00 x",
@@ -274,14 +285,14 @@ fn lines_ask_for_edits(rt: HostRuntime) -> Result<(), Fail> {
         ),
     ] {
         let words = words_of(rt.alloc(), line)?;
-        let asked = match request_of(words.as_slice()) {
+        let found = match requested(rt.alloc(), words.as_slice()) {
             Some(request) => {
                 let others = request.others;
                 Some((edited_at(request.command), others.script, others.media))
             }
             None => None,
         };
-        assert_eq!(rt; asked, Some((Some(num), Some(script), media)), "{line}");
+        assert_eq!(rt; found, Some((Some(num), Some(script), media)), "{line}");
     }
     Ok(())
 }
@@ -356,11 +367,11 @@ fn lines_ask_for_conformed_lists(rt: HostRuntime) -> Result<(), Fail> {
         ),
     ] {
         let words = words_of(rt.alloc(), line)?;
-        let asked = match request_of(words.as_slice()) {
+        let found = match requested(rt.alloc(), words.as_slice()) {
             Some(request) => Some((request.others.media, conformed_at(request.command))),
             None => None,
         };
-        assert_eq!(rt; asked, Some((media, Some((num, listed)))), "{line}");
+        assert_eq!(rt; found, Some((media, Some((num, listed)))), "{line}");
     }
     Ok(())
 }
@@ -368,9 +379,90 @@ fn lines_ask_for_conformed_lists(rt: HostRuntime) -> Result<(), Fail> {
 #[test]
 fn a_media_list_without_effect_is_not_read(rt: HostRuntime) -> Result<(), Fail> {
     let words = words_of(rt.alloc(), "frames --media - --rate 24 -")?;
-    match request_of(words.as_slice()) {
+    match requested(rt.alloc(), words.as_slice()) {
         Some(request) => assert!(rt; request.others.media.is_none()),
         None => assert!(rt; false),
+    }
+    Ok(())
+}
+
+#[test]
+fn clap_reads_the_words(rt: HostRuntime) -> Result<(), Fail> {
+    for (line, command, name, target) in [
+        (
+            "convert --from=otio a.edl",
+            Command::ToObjects,
+            "a.edl",
+            None,
+        ),
+        ("convert --to=json --rate=24 x", Command::ToJson, "x", None),
+        ("convert -oy x", Command::ToObjects, "x", Some("y")),
+        ("convert -o=y x", Command::ToObjects, "x", Some("y")),
+        ("convert x --output=", Command::ToObjects, "x", Some("")),
+        ("convert --output=-y x", Command::ToObjects, "x", Some("-y")),
+        ("convert --to json -- -x", Command::ToJson, "-x", None),
+        ("convert -- --help", Command::ToObjects, "--help", None),
+        ("convert --to json --", Command::ToJson, "", None),
+        ("edit --script=s -- -", Command::Edit, "-", None),
+    ] {
+        let mut words = words_of(rt.alloc(), line)?;
+        if name.is_empty() {
+            words.push(String::from_str(rt.alloc(), "")?)?;
+        }
+        match requested(rt.alloc(), words.as_slice()) {
+            Some(request) => {
+                assert_eq!(rt; request.command, command, "{line}");
+                assert_eq!(rt; request.name, name, "{line}");
+                assert_eq!(rt; request.target, target, "{line}");
+            }
+            None => assert!(rt; false, "{line}"),
+        }
+    }
+    Ok(())
+}
+
+#[test]
+fn an_empty_name_may_stand_anywhere(rt: HostRuntime) -> Result<(), Fail> {
+    let mut words = words_of(rt.alloc(), "edit --media m --script")?;
+    words.push(String::from_str(rt.alloc(), "")?)?;
+    words.push(String::from_str(rt.alloc(), "x")?)?;
+    match requested(rt.alloc(), words.as_slice()) {
+        Some(request) => assert_eq!(rt; request.others.script, Some("")),
+        None => assert!(rt; false),
+    }
+    let mut words = words_of(rt.alloc(), "convert x --rate")?;
+    words.push(String::from_str(rt.alloc(), "")?)?;
+    assert!(rt; requested(rt.alloc(), words.as_slice()).is_none());
+    Ok(())
+}
+
+#[test]
+fn clap_refuses_the_words(rt: HostRuntime) -> Result<(), Fail> {
+    for line in [
+        "--help",
+        "convert --help",
+        "convert x --help",
+        "convert -h",
+        "edit --script s x -h",
+        "frames --version",
+        "frames -V x",
+        "convert --rate 24 --rate 24 x",
+        "convert -o y --output y x",
+        "convert --drop --drop x",
+        "convert --drop=true x",
+        "convert --dro x",
+        "convert -drop x",
+        "convert --from= x",
+        "convert --output --drop x",
+        "convert x -o",
+        "convert --",
+        "convert -- x y",
+        "edit --script s -- x --media m",
+    ] {
+        assert!(rt; asks_for_nothing(rt.alloc(), line)?, "{line}");
+    }
+    for line in ["convert -", "convert x --", "convert -o - x"] {
+        assert!(rt; !asks_for_nothing(rt.alloc(), line)?, "{line}");
     }
     Ok(())
 }

@@ -10,9 +10,10 @@ use Rattle.source_files.specs.declared.faults.Refusal.TheVariants.{Broken, Memor
 use Rattle.source_files.specs.declared.faults.ReadFault.{ReadFault}
 use Rattle.source_files.specs.declared.faults.ReadFault.TheVariants as fault
 use Rattle.source_files.specs.declared.faults.SourceFault.{SourceFault}
-use Rattle.command_words.specs.Asked.{Ask, AskNothing, OtherNames}
+use Rattle.command_words.specs.Asked.{Ask, AskNothing, NoRequest, OtherNames}
+use Rattle.command_words.specs.declared.faults.WordsFault.{WordsFault}
 use Rattle.command_words.specs.declared.requests.Command.{Command}
-use Rattle.command_words.proofs.Gathering.{ask_once}
+use Rattle.command_words.proofs.Asking.{ask_once}
 use Rattle.otio_tools.specs.Asked.{Asked, Asks, ListsFrames, asked_for}
 use Rattle.otio_tools.specs.Forms.{Answer, done, absent, usage}
 use Rattle.otio_tools.specs.Answer.{NoCommand, OnFiles, AnswersAsked}
@@ -189,6 +190,11 @@ carried words command name others target (Some old) None before now d plan statu
     absurd p
 carried words command name others target (Some old) (Some new) before now d plan status w p k r c =
     carried_one words command name others target old new before now d plan status w p k r c
+
+-- words without a request ask for nothing, but where memory ran out
+pub asks_nothing : (words : List (List ℕ)) (why : WordsFault) → why ≡ WordsFault.Usage
+    → NoRequest words why → AskNothing words
+asks_nothing words why e h = subst (NoRequest words) e h
 
 -- words that ask for nothing are answered by the usage text
 pub usage_given : (words : List (List ℕ)) (known : Option KnownFiles) (before now : ℕ) (d : Streams)

@@ -9,12 +9,12 @@ use Rattle.source_files.specs.declared.faults.ReadFault.{ReadFault}
 use Rattle.source_files.specs.declared.faults.ReadFault.TheVariants as fault
 use Rattle.source_files.specs.declared.faults.SourceFault.{SourceFault}
 use Rattle.command_words.specs.Asked.{Ask, IsRequest, OtherNames}
-use Rattle.command_words.specs.Gathered.{Given}
+use Rattle.command_words.specs.Given.{Given}
 use Rattle.command_words.specs.declared.names.Verb.{Verb}
 use Rattle.command_words.specs.declared.names.Verb.TheVariants as verbs
 use Rattle.command_words.specs.declared.requests.Command.{Command}
 use Rattle.command_words.specs.declared.requests.Command.TheVariants.{ListToList, ListToObjects, TimelineToList, ToObjects, ToJson, Frames, ListFrames, Edit, ListEdit}
-use Rattle.command_words.proofs.Gathering.{ask_once}
+use Rattle.command_words.proofs.Asking.{ask_once}
 use Rattle.otio_tools.specs.Asked.{EditsTimeline, IsScripted, asked_for}
 use Rattle.otio_tools.specs.Plan.{Carries, Complains, IsDeskFor, LeavesWorkOf, Plans, desk_after, desk_planned}
 use Rattle.otio_tools.specs.Run.{Streams}

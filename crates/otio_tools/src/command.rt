@@ -1,5 +1,5 @@
 // The top call.
-ghost use Rattle.std.specs.Prelude.{◌≡◌, ◌≢◌, ◌↔◌, ℕ, List, None, map, string_bytes, IfOk, IfSome};
+ghost use Rattle.std.specs.Prelude.{◌≡◌, ◌≢◌, ◌⊎◌, ℕ, List, None, map, string_bytes, IfOk, IfSome};
 ghost use Rattle.dev_io.specs.Calls.{Tells, SendsAll, IsFresh};
 ghost use Rattle.edl_layout.specs.Spelling.{spelling};
 ghost use Rattle.json_layout.specs.Layout.{layout};
@@ -18,7 +18,7 @@ ghost use Rattle.source_files.specs.declared.faults.ReadFault.TheVariants.{Refus
 use crate::planned::{Planned, plan};
 use crate::say::{say, say_of, say_why};
 use crate::{Desk, Status};
-use command_words::{Request, request_of};
+use command_words::{Request, WordsFault, request_of};
 use dev_io::{Files, Out};
 use edl_layout::write_list;
 use edl_list::EventList;
@@ -114,22 +114,25 @@ pub fn run<F: Files, W: Out, E: Out>(
         IfSome (F.known files.old)
         (Completes said (F.faults files.old) (F.faults files.new) sent result) }
 
-    // Over all files: usage exactly for other words; nothing sent but under Done, under Output,
-    // which has its cause, and where memory runs out over frames; under every status but Input no
-    // call of the files failed.
+    // Over all files: usage for other words alone, which get usage or no memory; nothing sent but
+    // under Done, under Output, which has its cause, and where memory runs out over frames; under
+    // every status but Input no call of the files failed.
     ensures usage { let said = map (λ w. string_bytes w) words.now.items in
-        (result ≡ Status.Usage) ↔ AskNothing said }
+        result ≡ Status.Usage → AskNothing said }
+    ensures others { let said = map (λ w. string_bytes w) words.now.items in
+        AskNothing said → (result ≡ Status.Usage) ⊎ (result ≡ Status.Memory) }
     ensures still { let said = map (λ w. string_bytes w) words.now.items in
         let sent = streams W.faults W.known E.faults E.known out.old out.new err.old err.new in
         KeepsStill said sent result }
     ensures calm { result ≢ Status.Input → F.faults files.new ≡ F.faults files.old }
 {
-    match request_of(words.as_slice()) {
-        Some(request) => serve(alloc, request, files, out, err, desk),
-        None => {
+    match request_of(alloc, words.as_slice()) {
+        Ok(request) => serve(alloc, request, files, out, err, desk),
+        Err(WordsFault::Usage) => {
             say(err, &[USAGE]);
             Status::Usage
         }
+        Err(WordsFault::Memory) => complain_of_memory(err),
     }
 }
 

@@ -1,7 +1,7 @@
 use Rattle.std.proofs.Common.{ap, List, ℕ}
 use Rattle.std.specs.Option.{option_map}
 use denote.Ref.{Bor}
-use Rattle.command_words.proofs.Gathering.{asked_with}
+use Rattle.command_words.proofs.Asking.{asked_with}
 use Rattle.command_words.proofs.conversions.conversion_of.Goals as goal
 
 abbrev now : Bor (List ℕ) → List ℕ

@@ -1,5 +1,5 @@
 use Rattle.std.proofs.Common.{arith}
-use Rattle.command_words.proofs.Gathering.{no_count}
+use Rattle.command_words.proofs.Asking.{no_count}
 use Rattle.command_words.proofs.frame_lists.count_of.Goals as goal
 
 pub returns-then-count-lt-LEAST_FRAMES : goal.returns-then-count-lt-LEAST_FRAMES

@@ -1,5 +1,5 @@
 use Rattle.std.proofs.lemmas.Bool.{false≢true}
-use Rattle.command_words.proofs.Gathering.{without_media, read_twice}
+use Rattle.command_words.proofs.Asking.{without_media, read_twice}
 use Rattle.command_words.proofs.requests.request_in.Goals as goal
 
 pub returns-in_default-media_of : goal.returns-in_default-media_of

@@ -1,17 +1,37 @@
-use Rattle.std.proofs.Common.{List, ℕ, ◌∷◌, ◌≡◌, Some, map, string_bytes, sym, ap, subst, ◌∙◌}
-use Rattle.command_words.specs.Gathered.{Given, add_all, given_by}
+use Rattle.std.proofs.Common.{List, ℕ, None, Some, ◌≡◌, ◌∷◌, map, string_bytes, sym, ap, ◌∙◌}
+use Rattle.command_words.specs.Given.{given_by}
+use Rattle.command_words.specs.Names.{word_of}
+use Rattle.command_words.proofs.Asking.{request_asks, unmatched}
 use Rattle.command_words.proofs.Naming.{verb_word}
-use Rattle.command_words.proofs.Gathering.{request_asks}
 use Rattle.command_words.proofs.requests.request_of.Goals as goal
 
-pub returns-in-Some-gather : goal.returns-in-Some-gather
-returns-in-Some-gather c =
-    let g = c.in-Some-gather.ensures in
-    let given = given_by c.in-Some-gather.line in
-    let rest = map (λ w. string_bytes w) c.in-Some.rest.now in
-    let t = verb_word c.in-Some.word.now c.in-Some-verb_of.verb (sym c.in-Some-verb_of.ensures) in
-    let first : List (List ℕ) → List ℕ → List (List ℕ) = λ l w. w ∷ l in
-    request_asks c.in-Some-verb_of.verb _ rest g.0 given c.request_in.result
-    (c.in-Some.ensures.words ∙ ap (first rest) t) g.1 g.2
-    (subst (λ (h : Given). add_all h g.0 ≡ Some given) c.empty_line.ensures g.3)
-    c.request_in.ensures
+-- words whose first is the word of a command begin with that word
+begins : (words behind : List (List ℕ)) (word verb : List ℕ) → words ≡ word ∷ behind → word ≡ verb
+    → words ≡ verb ∷ behind
+begins words behind word verb e f = e ∙ ap (λ w. w ∷ behind) f
+
+pub returns-in-Some-request_in : goal.returns-in-Some-request_in
+returns-in-Some-request_in c =
+    let behind = map (λ w. string_bytes w) c.in-Some.behind.now in
+    let verb = c.in-Some-verb_of.verb in
+    let word = verb_word c.in-Some.word.now verb (sym c.in-Some-verb_of.ensures) in
+    request_asks _ behind verb (given_by c.in-Ok.line) (Some c.in-Some-request_in.request)
+    (begins _ behind c.in-Some.word.now (word_of verb) c.in-Some.ensures word) c.in-Ok.ensures
+    c.in-Some-request_in.ensures
+
+pub returns-in-None : goal.returns-in-None
+returns-in-None c =
+    let behind = map (λ w. string_bytes w) c.in-Some.behind.now in
+    let verb = c.in-Some-verb_of.verb in
+    let word = verb_word c.in-Some.word.now verb (sym c.in-Some-verb_of.ensures) in
+    request_asks _ behind verb (given_by c.in-Ok.line) None
+    (begins _ behind c.in-Some.word.now (word_of verb) c.in-Some.ensures word) c.in-Ok.ensures
+    c.in-None.ensures
+
+pub returns-in-Err : goal.returns-in-Err
+returns-in-Err c =
+    let behind = map (λ w. string_bytes w) c.in-Some.behind.now in
+    let verb = c.in-Some-verb_of.verb in
+    let word = verb_word c.in-Some.word.now verb (sym c.in-Some-verb_of.ensures) in
+    unmatched _ behind verb c.in-Err.fault
+    (begins _ behind c.in-Some.word.now (word_of verb) c.in-Some.ensures word) c.in-Err.ensures

@@ -1,0 +1,472 @@
+-- What words give, and what it asks for.
+use Rattle.std.proofs.Common.{◌≡◌, ℕ, Bool, List, ◌∷◌, Option, Some, None, MatchOption, refl, sym, ◌∙◌, ap, ap₂, subst, get_or, ◌≤◌, arith}
+use Rattle.command_words.specs.declared.requests.Request.{Request}
+use denote.Ref.{Bor}
+use Rattle.std.specs.Option.{option_map}
+use Rattle.tick_time.specs.declared.rates.Rate.{Rate}
+use Rattle.clap.specs.Words.{fault_of, matches_of}
+use Rattle.command_words.specs.Given.{Given, Gives, GivesNothing, given_in}
+use Rattle.command_words.specs.Options.{reader_of}
+use Rattle.command_words.specs.Asked.{IsRate, IsInput, IsDefault, IsOutput, IsAskedOf, IsConversion, IsValue, IsCount, AreFrames, IsListing, IsFrameList, IsEditing, IsEdit, IsAskedBy, IsMedia, IsScript, OtherNames, other_names, ReadsOnce, IsRequest, Ask, AskNothing, NoRequest}
+use Rattle.command_words.specs.declared.conversions.Form.{Form}
+use Rattle.command_words.specs.declared.conversions.Form.TheVariants as form
+use Rattle.command_words.specs.declared.faults.WordsFault.{WordsFault}
+use Rattle.command_words.specs.declared.faults.WordsFault.TheVariants.{Usage, Memory}
+use Rattle.command_words.specs.declared.requests.Command.{Command}
+use Rattle.command_words.specs.declared.requests.Command.TheVariants.{ListToList, ListToObjects, TimelineToList, ToObjects, ToJson, Frames, ListFrames, Edit, ListEdit}
+use Rattle.command_words.specs.declared.requests.FramesAsked.{FramesAsked}
+use Rattle.command_words.specs.declared.names.Verb.{Verb}
+use Rattle.command_words.specs.declared.names.Verb.TheVariants as verbs
+use Rattle.record_points.specs.declared.points.RecordPoint.{RecordPoint}
+use Rattle.record_points.specs.Words.{IsWholeNumber, IsPoint}
+use Rattle.record_points.proofs.OnePoint.{number_once, point_once}
+use Rattle.command_words.specs.Names.{word_of, IsListName}
+use Rattle.command_words.proofs.Naming.{verb_once}
+use Rattle.command_words.proofs.SameRates.{asked_rate_once}
+
+list_not : (name : List ℕ) (f g : Form) → IsInput None name f → IsInput None name g → f ≡ g
+list_not name form.Objects form.Objects p q = refl
+list_not name form.Objects form.List p q = absurd (p q)
+list_not name form.Objects form.Json p q = absurd q
+list_not name form.List form.Objects p q = absurd (q p)
+list_not name form.List form.List p q = refl
+list_not name form.List form.Json p q = absurd q
+list_not name form.Json g p q = absurd p
+
+-- the first byte of a word
+abbrev first : List ℕ → ℕ
+first word = get_or word 0 0
+
+-- a file is read as at most one form
+pub input_once : (from : Option (List ℕ)) (name : List ℕ) (f g : Form) → IsInput from name f
+    → IsInput from name g → f ≡ g
+input_once None name f g p q = list_not name f g p q
+input_once (Some word) name form.Objects form.Objects p q = refl
+input_once (Some word) name form.Objects form.List p q =
+    absurd (omega (arith, ap first p, ap first q))
+input_once (Some word) name form.Objects form.Json p q = absurd q
+input_once (Some word) name form.List form.Objects p q =
+    absurd (omega (arith, ap first p, ap first q))
+input_once (Some word) name form.List form.List p q = refl
+input_once (Some word) name form.List form.Json p q = absurd q
+input_once (Some word) name form.Json g p q = absurd p
+
+default_once : (target : Option (List ℕ)) (f g : Form) → IsDefault target f → IsDefault target g
+    → f ≡ g
+default_once None form.Objects form.Objects p q = refl
+default_once None form.Objects form.List p q = absurd q
+default_once None form.Objects form.Json p q = absurd q
+default_once None form.List g p q = absurd p
+default_once None form.Json g p q = absurd p
+default_once (Some t) form.Objects form.Objects p q = refl
+default_once (Some t) form.Objects form.List p q = absurd (p q)
+default_once (Some t) form.Objects form.Json p q = absurd q
+default_once (Some t) form.List form.Objects p q = absurd (q p)
+default_once (Some t) form.List form.List p q = refl
+default_once (Some t) form.List form.Json p q = absurd q
+default_once (Some t) form.Json g p q = absurd p
+
+word_once : (word : List ℕ) (target : Option (List ℕ)) (f g : Form) → IsOutput (Some word) target f
+    → IsOutput (Some word) target g → f ≡ g
+word_once word target form.Objects form.Objects p q = refl
+word_once word target form.Objects form.List p q = absurd (omega (arith, ap first p, ap first q))
+word_once word target form.Objects form.Json p q = absurd (omega (arith, ap first p, ap first q))
+word_once word target form.List form.Objects p q = absurd (omega (arith, ap first p, ap first q))
+word_once word target form.List form.List p q = refl
+word_once word target form.List form.Json p q = absurd (omega (arith, ap first p, ap first q))
+word_once word target form.Json form.Objects p q = absurd (omega (arith, ap first p, ap first q))
+word_once word target form.Json form.List p q = absurd (omega (arith, ap first p, ap first q))
+word_once word target form.Json form.Json p q = refl
+
+-- at most one form is written
+pub output_once : (to target : Option (List ℕ)) (f g : Form) → IsOutput to target f
+    → IsOutput to target g → f ≡ g
+output_once None target f g p q = default_once target f g p q
+output_once (Some word) target f g p q = word_once word target f g p q
+
+-- what is asked with these values
+pub asked_with : (command : Command) (called name : List ℕ) (input output : Form) (rate : Rate)
+    (given : Given) → given.file ≡ Some name → IsInput given.from name input
+    → IsOutput given.to given.target output → IsRate given.rate rate
+    → IsConversion command called given
+    → IsAskedOf command input output rate given.drop given.wide × (called ≡ name)
+asked_with command called name input output rate given file reads writes is a =
+    let same : called ≡ name = let e = sym a.file ∙ file in cc in
+    let read : a.input ≡ input = input_once given.from name a.input input
+    (subst (λ n. IsInput given.from n a.input) same a.reads) reads in
+    let wrote : a.output ≡ output =
+    output_once given.to given.target a.output output a.writes writes in
+    let once = asked_rate_once given.rate a.rate rate a.is_rate is in (
+      subst (λ i. IsAskedOf command i output rate given.drop given.wide) read
+          (subst (λ o. IsAskedOf command a.input o rate given.drop given.wide) wrote
+          (subst (λ r. IsAskedOf command a.input a.output r given.drop given.wide) once a.means)),
+      same,
+    )
+
+-- the characters of a name, where there is one
+abbrev pub name_of : Option (Bor (List ℕ)) → Option (List ℕ)
+name_of name = option_map (λ s. s.now) name
+
+-- what is asked for by what is given
+abbrev pub AsksOf : Verb → Given → Option Request → Type 0
+AsksOf verb given result = MatchOption result
+    ((command : Command) (name : List ℕ) (others : OtherNames) (target : Option (List ℕ))
+    → IsRequest verb command name others target given → ⊥)
+    (λ request. IsRequest verb request.command request.name.now (other_names request.others)
+    (name_of request.target) given)
+
+first_words : (a b : List ℕ) (more others : List (List ℕ)) → a ∷ more ≡ b ∷ others → a ≡ b
+first_words a b more others e = cc
+
+other_words : (a b : List ℕ) (more others : List (List ℕ)) → a ∷ more ≡ b ∷ others → more ≡ others
+other_words a b more others e = cc
+
+-- words that begin with the word of a command are of that command alone, and the words behind it
+-- are the same
+pub record SameWords (verb other : Verb) (behind rest : List (List ℕ)) : Type 0 where
+  pub verbs : verb ≡ other
+  pub words : behind ≡ rest
+
+same_words : (words behind rest : List (List ℕ)) (verb other : Verb)
+    → words ≡ word_of verb ∷ behind → words ≡ word_of other ∷ rest
+    → SameWords verb other behind rest
+same_words words behind rest verb other w v =
+    let both = sym w ∙ v in record {
+      verbs = verb_once verb other (first_words (word_of verb) (word_of other) behind rest both);
+      words = other_words (word_of verb) (word_of other) behind rest both;
+    }
+
+-- such words give the same
+same_given : (verb other : Verb) (behind rest : List (List ℕ)) (given found : Given)
+    → SameWords verb other behind rest → Gives verb behind given → Gives other rest found
+    → given ≡ found
+same_given verb other behind rest given found same g h =
+    let both = ap₂ (λ v ws. given_in (matches_of (reader_of v) ws)) same.verbs same.words in
+    g.is ∙ both ∙ sym h.is
+
+-- where the words behind a command's own word have no match, nothing is asked for
+pub unmatched : (words behind : List (List ℕ)) (verb : Verb) (fault : WordsFault)
+    → words ≡ word_of verb ∷ behind → GivesNothing verb behind fault → NoRequest words fault
+unmatched words behind verb Usage w none = λ command name others target ask.
+    let same = same_words words behind ask.behind verb ask.verb w ask.words_are in
+    none (ap₂ (λ v ws. fault_of (reader_of v) ws) same.verbs same.words ∙ ask.gives.taken)
+unmatched words behind verb Memory w none = tt
+
+-- what the words behind a command's own word give is what the words ask for
+pub request_asks : (words behind : List (List ℕ)) (verb : Verb) (given : Given)
+    (result : Option Request) → words ≡ word_of verb ∷ behind → Gives verb behind given
+    → AsksOf verb given result → MatchOption result (AskNothing words)
+    (λ request. Ask words request.command request.name.now (other_names request.others)
+    (name_of request.target))
+request_asks words behind verb given None w g m = λ command name others target ask.
+    let same = same_words words ask.behind behind ask.verb verb ask.words_are w in
+    let given_same =
+    same_given ask.verb verb ask.behind behind ask.given given same ask.gives g in
+    m command name others target
+    (subst (λ v. IsRequest v command name others target given) same.verbs
+    (subst (IsRequest ask.verb command name others target) given_same ask.is))
+request_asks words behind verb given (Some request) w g m = record {
+  verb = verb;
+  behind = behind;
+  words_are = w;
+  given = given;
+  gives = g;
+  is = m;
+}
+
+-- the command for what is read and what is written
+abbrev asked_for : Form → Form → Rate → Bool → Bool → Option Command
+asked_for form.List form.List rate drop wide = Some (ListToList rate drop wide)
+asked_for form.List form.Objects rate drop wide = Some (ListToObjects rate)
+asked_for form.Objects form.List rate drop wide = Some (TimelineToList drop wide)
+asked_for form.Objects form.Objects rate drop wide = Some ToObjects
+asked_for form.Objects form.Json rate drop wide = Some ToJson
+asked_for input output rate drop wide = None
+
+asked_is : (command : Command) (input output : Form) (rate : Rate) (drop wide : Bool)
+    → IsAskedOf command input output rate drop wide
+    → asked_for input output rate drop wide ≡ Some command
+asked_is (ListToList r f w) form.Objects output rate drop wide p = absurd p
+asked_is (ListToList r f w) form.List form.Objects rate drop wide p = absurd p
+asked_is (ListToList r f w) form.List form.List rate drop wide p =
+    let e = p.0 in let h = p.1 in let k = p.2 in cc
+asked_is (ListToList r f w) form.List form.Json rate drop wide p = absurd p
+asked_is (ListToList r f w) form.Json output rate drop wide p = absurd p
+asked_is (ListToObjects r) form.Objects output rate drop wide p = absurd p
+asked_is (ListToObjects r) form.List form.Objects rate drop wide p = let e = p in cc
+asked_is (ListToObjects r) form.List form.List rate drop wide p = absurd p
+asked_is (ListToObjects r) form.List form.Json rate drop wide p = absurd p
+asked_is (ListToObjects r) form.Json output rate drop wide p = absurd p
+asked_is (TimelineToList f w) form.Objects form.Objects rate drop wide p = absurd p
+asked_is (TimelineToList f w) form.Objects form.List rate drop wide p =
+    let e = p.0 in let h = p.1 in cc
+asked_is (TimelineToList f w) form.Objects form.Json rate drop wide p = absurd p
+asked_is (TimelineToList f w) form.List output rate drop wide p = absurd p
+asked_is (TimelineToList f w) form.Json output rate drop wide p = absurd p
+asked_is ToObjects form.Objects form.Objects rate drop wide p = refl
+asked_is ToObjects form.Objects form.List rate drop wide p = absurd p
+asked_is ToObjects form.Objects form.Json rate drop wide p = absurd p
+asked_is ToObjects form.List output rate drop wide p = absurd p
+asked_is ToObjects form.Json output rate drop wide p = absurd p
+asked_is ToJson form.Objects form.Objects rate drop wide p = absurd p
+asked_is ToJson form.Objects form.List rate drop wide p = absurd p
+asked_is ToJson form.Objects form.Json rate drop wide p = refl
+asked_is ToJson form.List output rate drop wide p = absurd p
+asked_is ToJson form.Json output rate drop wide p = absurd p
+asked_is (Frames asked) input output rate drop wide p = absurd p
+asked_is (ListFrames r asked) input output rate drop wide p = absurd p
+asked_is Edit input output rate drop wide p = absurd p
+asked_is (ListEdit r) input output rate drop wide p = absurd p
+
+-- one file, one output and one rate make at most one command
+asked_once : (c d : Command) (input output : Form) (rate : Rate) (drop wide : Bool)
+    → IsAskedOf c input output rate drop wide → IsAskedOf d input output rate drop wide → c ≡ d
+asked_once c d input output rate drop wide p q = let e : Some c ≡ Some d =
+    sym (asked_is c input output rate drop wide p) ∙ asked_is d input output rate drop wide q in cc
+
+convert_once : (c d : Command) (a b : List ℕ) (given : Given) → IsConversion c a given
+    → IsConversion d b given → (c ≡ d) × (a ≡ b)
+convert_once c d a b given p q =
+    let h = asked_with d b a p.input p.output p.rate given p.file p.reads p.writes p.is_rate q in
+    (asked_once c d p.input p.output p.rate given.drop given.wide p.means h.0, sym h.1)
+
+-- an option asks for at most one value
+value_once : {A : Type 0} (Is : List ℕ → A → Type 0)
+    → ((word : List ℕ) (x y : A) → Is word x → Is word y → x ≡ y)
+    → (given : Option (List ℕ)) (x y : Option A) → IsValue Is given x
+    → IsValue Is given y → x ≡ y
+value_once Is once None None None p q = refl
+value_once Is once None None (Some y) p q = absurd q
+value_once Is once None (Some x) y p q = absurd p
+value_once Is once (Some word) None y p q = absurd p
+value_once Is once (Some word) (Some x) None p q = absurd q
+value_once Is once (Some word) (Some x) (Some y) p q = ap Some (once word x y p q)
+
+pub count_once : (word : List ℕ) (m n : ℕ) → IsCount word m → IsCount word n → m ≡ n
+count_once word m n p q = number_once word m n p.0 q.0
+
+-- a number beyond the limits of a count is none
+pub no_count : (word : List ℕ) (n : ℕ) → IsWholeNumber word n → ((1 ≤ n) × (n ≤ 1000000) → ⊥)
+    → (m : ℕ) → IsCount word m → ⊥
+no_count word n w past m count = let same =
+    number_once word m n count.0 w in past (omega (arith, count.1), omega (arith, count.2))
+
+frames_of : Option ℕ → Option RecordPoint → Option ℕ → FramesAsked
+frames_of child start count = record { child = child; start = start; count = count }
+
+-- options ask for one listing of frames
+listing_once : (given : Given) (a b : FramesAsked) → AreFrames given a → AreFrames given b → a ≡ b
+unfolding frames_of
+listing_once given a b p q =
+    let child = value_once IsWholeNumber number_once given.child a.child b.child p.child q.child in
+    let start = value_once IsPoint point_once given.start a.start b.start p.start q.start in
+    let count = value_once IsCount count_once given.count a.count b.count p.count q.count in
+    ap (λ x. frames_of x a.start a.count) child ∙ ap (λ x. frames_of b.child x a.count) start
+    ∙ ap (frames_of b.child b.start) count
+
+-- a file and what is asked of it make one listing
+one_listing : (c d : Command) (name : List ℕ) (rate : Rate) (frames : FramesAsked)
+    → IsListing c name rate frames → IsListing d name rate frames → c ≡ d
+one_listing (Frames x) (Frames y) name rate frames p q = ap Frames (p.1 ∙ sym q.1)
+one_listing (Frames x) (ListFrames r y) name rate frames p q = absurd (p.0 q.0)
+one_listing (ListFrames r x) (Frames y) name rate frames p q = absurd (q.0 p.0)
+one_listing (ListFrames r x) (ListFrames s y) name rate frames p q =
+    ap (λ z. ListFrames z x) (p.1 ∙ sym q.1) ∙ ap (ListFrames s) (p.2 ∙ sym q.2)
+one_listing (Frames x) (ListToList r f w) name rate frames p q = absurd q
+one_listing (Frames x) (ListToObjects r) name rate frames p q = absurd q
+one_listing (Frames x) (TimelineToList f w) name rate frames p q = absurd q
+one_listing (Frames x) ToObjects name rate frames p q = absurd q
+one_listing (Frames x) ToJson name rate frames p q = absurd q
+one_listing (ListFrames r x) (ListToList s f w) name rate frames p q = absurd q
+one_listing (ListFrames r x) (ListToObjects s) name rate frames p q = absurd q
+one_listing (ListFrames r x) (TimelineToList f w) name rate frames p q = absurd q
+one_listing (ListFrames r x) ToObjects name rate frames p q = absurd q
+one_listing (ListFrames r x) ToJson name rate frames p q = absurd q
+one_listing (Frames x) Edit name rate frames p q = absurd q
+one_listing (Frames x) (ListEdit s) name rate frames p q = absurd q
+one_listing (ListFrames r x) Edit name rate frames p q = absurd q
+one_listing (ListFrames r x) (ListEdit s) name rate frames p q = absurd q
+one_listing (ListToList r f w) d name rate frames p q = absurd p
+one_listing (ListToObjects r) d name rate frames p q = absurd p
+one_listing (TimelineToList f w) d name rate frames p q = absurd p
+one_listing ToObjects d name rate frames p q = absurd p
+one_listing ToJson d name rate frames p q = absurd p
+one_listing Edit d name rate frames p q = absurd p
+one_listing (ListEdit r) d name rate frames p q = absurd p
+
+-- what is listed of the file of that name
+listed_with : (command : Command) (called name : List ℕ) (rate : Rate) (frames : FramesAsked)
+    (given : Given) → given.file ≡ Some name → AreFrames given frames → IsRate given.rate rate
+    → IsFrameList command called given → IsListing command name rate frames × (called ≡ name)
+listed_with command called name rate frames given file are is a =
+    let same : called ≡ name = let e = sym a.file ∙ file in cc in
+    let listed = listing_once given a.frames frames a.are are in
+    let once = asked_rate_once given.rate a.rate rate a.is_rate is in (
+      subst (λ n. IsListing command n rate frames) same
+          (subst (λ r. IsListing command called r frames) once
+          (subst (λ f. IsListing command called a.rate f) listed a.means)),
+      same,
+    )
+
+frames_once : (c d : Command) (a b : List ℕ) (given : Given) → IsFrameList c a given
+    → IsFrameList d b given → (c ≡ d) × (a ≡ b)
+frames_once c d a b given p q =
+    let h = listed_with d b a p.rate p.frames given p.file p.are p.is_rate q in
+    (one_listing c d a p.rate p.frames p.means h.0, sym h.1)
+
+-- the edit of a file of that name at this rate
+editing : Command → List ℕ → Rate → Option Rate → Type 0
+editing command name rate None = (IsListName name → ⊥) × (command ≡ Edit)
+editing command name rate (Some asked) =
+    IsListName name × (asked ≡ rate) × (command ≡ ListEdit asked)
+
+editing_is : (command : Command) (name : List ℕ) (rate : Rate) → IsEditing command name rate
+    → (asked : Option Rate) × editing command name rate asked
+unfolding editing
+editing_is Edit name rate p = (None, (p, refl))
+editing_is (ListEdit r) name rate p = (Some r, (p.0, p.1, refl))
+editing_is (ListToList r f w) name rate p = absurd p
+editing_is (ListToObjects r) name rate p = absurd p
+editing_is (TimelineToList f w) name rate p = absurd p
+editing_is ToObjects name rate p = absurd p
+editing_is ToJson name rate p = absurd p
+editing_is (Frames x) name rate p = absurd p
+editing_is (ListFrames r x) name rate p = absurd p
+
+editing_once : (c d : Command) (name : List ℕ) (rate : Rate) (a b : Option Rate)
+    → editing c name rate a → editing d name rate b → c ≡ d
+unfolding editing
+editing_once c d name rate None None p q = p.1 ∙ sym q.1
+editing_once c d name rate None (Some s) p q = absurd (p.0 q.0)
+editing_once c d name rate (Some r) None p q = absurd (q.0 p.0)
+editing_once c d name rate (Some r) (Some s) p q =
+    p.2 ∙ ap ListEdit (p.1 ∙ sym q.1) ∙ sym q.2
+
+-- a file and a rate make one edit
+one_editing : (c d : Command) (name : List ℕ) (rate : Rate) → IsEditing c name rate
+    → IsEditing d name rate → c ≡ d
+one_editing c d name rate p q =
+    let one = editing_is c name rate p in
+    let other = editing_is d name rate q in
+    editing_once c d name rate one.0 other.0 one.1 other.1
+
+-- what is edited of the file of that name
+edited_with : (command : Command) (called name : List ℕ) (rate : Rate) (given : Given)
+    → given.file ≡ Some name → IsRate given.rate rate → IsEdit command called given
+    → IsEditing command name rate × (called ≡ name)
+edited_with command called name rate given file is a =
+    let same : called ≡ name = let e = sym a.file ∙ file in cc in
+    let once = asked_rate_once given.rate a.rate rate a.is_rate is in (
+      subst (λ n. IsEditing command n rate) same
+          (subst (λ r. IsEditing command called r) once a.means),
+      same,
+    )
+
+edit_once : (c d : Command) (a b : List ℕ) (given : Given) → IsEdit c a given
+    → IsEdit d b given → (c ≡ d) × (a ≡ b)
+edit_once c d a b given p q =
+    let h = edited_with d b a p.rate given p.file p.is_rate q in
+    (one_editing c d a p.rate p.means h.0, sym h.1)
+
+by_once : (verb : Verb) (c d : Command) (a b : List ℕ) (given : Given) → IsAskedBy verb c a given
+    → IsAskedBy verb d b given → (c ≡ d) × (a ≡ b)
+by_once verbs.Convert c d a b given p q = convert_once c d a b given p q
+by_once verbs.Frames c d a b given p q = frames_once c d a b given p q
+by_once verbs.Edit c d a b given p q = edit_once c d a b given p q
+
+-- a command reads at most one media list
+media_once : (c : Command) (named m n : Option (List ℕ)) → IsMedia c named m → IsMedia c named n
+    → m ≡ n
+media_once (ListToList r f w) named m n p q = p.1 ∙ sym q.1
+media_once (ListToObjects r) named m n p q = p ∙ sym q
+media_once (TimelineToList f w) named m n p q = p ∙ sym q
+media_once ToObjects named m n p q = p ∙ sym q
+media_once ToJson named m n p q = p ∙ sym q
+media_once (Frames asked) named m n p q = p ∙ sym q
+media_once (ListFrames r asked) named m n p q = p ∙ sym q
+media_once Edit named m n p q = p ∙ sym q
+media_once (ListEdit r) named m n p q = p ∙ sym q
+
+-- a command reads at most one script
+script_once : (c : Command) (named m n : Option (List ℕ)) → IsScript c named m
+    → IsScript c named n → m ≡ n
+script_once (ListToList r f w) named m n p q = p ∙ sym q
+script_once (ListToObjects r) named m n p q = p ∙ sym q
+script_once (TimelineToList f w) named m n p q = p ∙ sym q
+script_once ToObjects named m n p q = p ∙ sym q
+script_once ToJson named m n p q = p ∙ sym q
+script_once (Frames asked) named m n p q = p ∙ sym q
+script_once (ListFrames r asked) named m n p q = p ∙ sym q
+script_once Edit named m n p q = p ∙ sym q
+script_once (ListEdit r) named m n p q = p ∙ sym q
+
+names_of : Option (List ℕ) → Option (List ℕ) → OtherNames
+names_of script media = record { script = script; media = media }
+
+others_once : (c : Command) (given : Given) (m n : OtherNames) → IsScript c given.script m.script
+    → IsMedia c given.media m.media → IsScript c given.script n.script
+    → IsMedia c given.media n.media → m ≡ n
+unfolding names_of
+others_once c given m n p q r s =
+    ap (λ x. names_of x m.media) (script_once c given.script m.script n.script p r)
+    ∙ ap (names_of n.script) (media_once c given.media m.media n.media q s)
+
+-- the media list of a request is one of the command that is asked for
+media_in : (verb : Verb) (c d : Command) (a b : List ℕ) (o : OtherNames) (t : Option (List ℕ))
+    (given : Given) → IsAskedBy verb c a given → IsRequest verb d b o t given
+    → IsMedia c given.media o.media
+media_in verb c d a b o t given is r =
+    subst (λ x. IsMedia x given.media o.media) (sym (by_once verb c d a b given is r.asked).0)
+    r.media_is
+
+-- where the command can't have the media list that is named, nothing is asked for
+pub without_media : (verb : Verb) (c : Command) (a : List ℕ) (given : Given)
+    → IsAskedBy verb c a given → ((m : Option (List ℕ)) → IsMedia c given.media m → ⊥)
+    → (d : Command) (b : List ℕ) (o : OtherNames) (t : Option (List ℕ))
+    → IsRequest verb d b o t given → ⊥
+without_media verb c a given is none d b o t r =
+    none o.media (media_in verb c d a b o t given is r)
+
+-- the other files of a request are those of the command that is asked for
+others_in : (verb : Verb) (c d : Command) (a b : List ℕ) (m n : OtherNames) (t : Option (List ℕ))
+    (given : Given) → IsAskedBy verb c a given → IsScript c given.script m.script
+    → IsMedia c given.media m.media → IsRequest verb d b n t given → m ≡ n
+others_in verb c d a b m n t given is script media r =
+    let same = (by_once verb c d a b given is r.asked).0 in
+    others_once c given m n script media
+    (subst (λ x. IsScript x given.script n.script) (sym same) r.script_is)
+    (media_in verb c d a b n t given is r)
+
+-- where the standard input would be read twice, nothing is asked for
+pub read_twice : (verb : Verb) (c : Command) (a : List ℕ) (m : OtherNames) (given : Given)
+    → IsAskedBy verb c a given → IsScript c given.script m.script
+    → IsMedia c given.media m.media → (ReadsOnce a m → ⊥)
+    → (d : Command) (b : List ℕ) (n : OtherNames) (t : Option (List ℕ))
+    → IsRequest verb d b n t given → ⊥
+read_twice verb c a m given is script media twice d b n t r =
+    let name = (by_once verb c d a b given is r.asked).1 in
+    let others = others_in verb c d a b m n t given is script media r in
+    twice (subst (λ x. ReadsOnce x m) (sym name) (subst (ReadsOnce b) (sym others) r.once))
+
+request_once : (verb : Verb) (c d : Command) (a b : List ℕ) (m n : OtherNames)
+    (s t : Option (List ℕ)) (given : Given) → IsRequest verb c a m s given
+    → IsRequest verb d b n t given → (c ≡ d) × (a ≡ b) × (m ≡ n) × (s ≡ t)
+request_once verb c d a b m n s t given p q =
+    let same = by_once verb c d a b given p.asked q.asked in (
+      same.0,
+      same.1,
+      others_in verb c d a b m n t given p.asked p.script_is p.media_is q,
+      sym p.target_is
+          ∙ q.target_is,
+    )
+
+-- words ask for at most one command on at most one file
+pub ask_once : (words : List (List ℕ)) (c d : Command) (a b : List ℕ) (m n : OtherNames)
+    (s t : Option (List ℕ)) → Ask words c a m s → Ask words d b n t
+    → (c ≡ d) × (a ≡ b) × (m ≡ n) × (s ≡ t)
+ask_once words c d a b m n s t p q =
+    let same = same_words words p.behind q.behind p.verb q.verb p.words_are q.words_are in
+    let given = same_given p.verb q.verb p.behind q.behind p.given q.given same p.gives q.gives in
+    request_once q.verb c d a b m n s t q.given
+    (subst (λ v. IsRequest v c a m s q.given) same.verbs
+    (subst (IsRequest p.verb c a m s) given p.is)) q.is

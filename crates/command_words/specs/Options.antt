@@ -1,0 +1,57 @@
+-- The options and the file of each command, as one simple command of `clap`.
+use Rattle.std.specs.Prelude.{ℕ, List, [], ◌∷◌, ◌++◌, Some, codes, true}
+use Rattle.clap.specs.Words.{App, Rule, new_app, new_rule, with_rule}
+use Rattle.clap.specs.declared.builder.action.ArgAction.TheVariants.{Set, SetTrue}
+use Rattle.command_words.specs.Names.{word_of}
+use Rattle.command_words.specs.declared.names.Verb.{Verb}
+use Rattle.command_words.specs.declared.names.Verb.TheVariants.{Convert, Frames, Edit}
+
+-- the option `--NAME`, which takes a value
+abbrev pub valued : List ℕ → Rule
+valued name = record (new_rule name) { long = Some name; action = Some Set }
+
+-- the flag `--NAME`, which takes none
+abbrev pub flag : List ℕ → Rule
+flag name = record (new_rule name) { long = Some name; action = Some SetTrue }
+
+-- an option that is `-LETTER` too
+abbrev pub lettered : ℕ → Rule → Rule
+lettered letter rule = record rule { short = Some letter }
+
+-- the name of the output: `--output` or `-o`
+abbrev pub output : Rule
+output = lettered 111 (valued (codes "output"))
+
+-- an option that has to be given
+abbrev pub needed : Rule → Rule
+needed rule = record rule { required = true }
+
+-- the one file, which has to be named
+abbrev pub file : Rule
+file = record (new_rule (codes "file")) { action = Some Set; required = true }
+
+-- the options of one command alone
+abbrev pub own_options : Verb → List Rule
+own_options Convert =
+    valued (codes "from") ∷ valued (codes "to") ∷ flag (codes "drop") ∷ flag (codes "wide") ∷ []
+own_options Frames =
+    valued (codes "child") ∷ valued (codes "start") ∷ valued (codes "count") ∷ []
+own_options Edit = needed (valued (codes "script")) ∷ []
+
+-- the options and the file of each command that takes lists
+abbrev pub list_arguments : List Rule
+list_arguments = valued (codes "rate") ∷ valued (codes "media") ∷ output ∷ file ∷ []
+
+-- a command with more options, each in its turn
+abbrev pub with_rules : App → List Rule → App
+with_rules app [] = app
+with_rules app (rule ∷ rules) = with_rules (with_rule app rule) rules
+
+-- a command of words that don't begin with its name
+abbrev pub unnamed : App → App
+unnamed app = record app { top = record app.top { no_binary_name = true } }
+
+-- the command of `clap` that reads the words behind a command's own word
+abbrev pub reader_of : Verb → App
+reader_of verb =
+    with_rules (unnamed (new_app (word_of verb))) (own_options verb ++ list_arguments)

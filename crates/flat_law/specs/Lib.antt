@@ -1,0 +1,1 @@
+-- Laws of flat timelines; their words stand in `flat`.

@@ -1,0 +1,6 @@
+-- Words of the calls on flat timelines: no public clause cites them.
+pub mod Straighten
+pub mod Sought
+pub mod Uncut
+pub mod Ends
+pub mod Passed

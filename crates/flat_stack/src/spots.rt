@@ -1,0 +1,48 @@
+//! Places at which something is wrong.
+
+ghost use Rattle.std.specs.Prelude.{◌≡◌, IfOk};
+ghost use Rattle.flat_stack.specs.Sought.{IsNear, IsSaid, spot_place};
+
+use flat::{Cause, FlatFault};
+use otio_model::Place;
+use std::alloc::{AllocError, Global};
+
+/// What is wrong, and at which root child or child of one.
+#[derive(Clone, Copy)]
+pub(crate) struct Spot {
+    pub(crate) cause: Cause,
+    pub(crate) track: usize,
+    /// The child of the root child; `None` for the root child itself.
+    pub(crate) child: Option<usize>,
+}
+
+/// The place of a spot.
+fn place_of(alloc: Global, spot: Spot) -> Result<Place, AllocError>
+    requires { IsNear spot }
+    ensures { IfOk result (λ place. place ≡ spot_place spot) }
+{
+    let mut place = Place::new(alloc);
+    place.push(spot.track as u32)?;
+    match spot.child {
+        Some(child) => {
+            place.push(child as u32)?;
+            Ok(place)
+        }
+        None => Ok(place),
+    }
+}
+
+/// The fault that tells of a spot, or want of memory.
+pub(crate) fn fault_of(alloc: Global, spot: Spot) -> FlatFault
+    requires { IsNear spot }
+    ensures { IsSaid spot result }
+{
+    match place_of(alloc, spot) {
+        Ok(place) => match spot.cause {
+            Cause::Nested => FlatFault::Nested(place),
+            Cause::Crossing => FlatFault::Transition(place),
+            Cause::Phase => FlatFault::Phase(place),
+        },
+        Err(_) => FlatFault::Memory,
+    }
+}
