@@ -4,7 +4,7 @@
     bench/edits.py [--runs R] [--clips N,N,..] [--commands N,N,..]
 
 A row for each kind of command, 10 000 of it on a track of 79 000 clips, and one of all kinds mixed, with and without a dissolve at each
-fourth cut; then how the time of a command grows with the clips of the track (790, 7900, 79 000) and with the commands (100, 1000, 10 000).
+fourth cut; those that keep the number of items on a track of 99 990; then how the time of a command grows with the clips of the track (790, 7900, 79 000) and with the commands (100, 1000, 10 000).
 Beside each stands a script of one command: the reading, judging and writing alone.
 
 Output goes to /dev/null. Times are processor times (user and system), the least of R runs (3), the two scripts in turn. The program is OTIO of
@@ -49,6 +49,9 @@ LINES = {
     'roll': lambda at, index, draw: f'roll 0 {at + LENGTH} 1 0',
 }
 STEPS = ('undo', 'redo')
+# these keep the number of items, but for one slice before the steps
+KEEPING = ('slip', 'slide', 'roll', 'undo and redo')
+NEAR_LIMIT = 99_990
 
 
 def script_of(kind, clips, count):
@@ -101,6 +104,14 @@ def by_kind(folder, otio, clips, commands, runs):
             print(f'| {kind} | {told} | {one:.0f} | {many:.0f} | {cost:.1f} | {ratio(many, one)} |', flush=True)
 
 
+def near_limit(folder, otio, commands, runs):
+    print(f'\n{commands} commands on a track of {NEAR_LIMIT} clips:\n\n| commands | ms, one | ms, all | us a command |\n|---|---|---|---|')
+    write(folder, 'cut.otio', cut(NEAR_LIMIT, False))
+    for kind in KEEPING:
+        one, many, cost = measured(folder, otio, kind, NEAR_LIMIT, commands, runs)
+        print(f'| {kind} | {one:.0f} | {many:.0f} | {cost:.1f} |', flush=True)
+
+
 def growth(folder, otio, sizes, counts, runs):
     print('\nCommands of all kinds:\n\n| clips | commands | ms, one | ms, all | us a command |\n|---|---|---|---|---|')
     for clips, commands in [(size, counts[-1]) for size in sizes] + [(sizes[-1], count) for count in counts[:-1]]:
@@ -124,6 +135,7 @@ def main():
     with tempfile.TemporaryDirectory() as folder:
         write(folder, 'media.txt', MEDIA)
         by_kind(folder, otio, asked.clips[-1], asked.commands[-1], asked.runs)
+        near_limit(folder, otio, asked.commands[-1], asked.runs)
         growth(folder, otio, asked.clips, asked.commands, asked.runs)
 
 

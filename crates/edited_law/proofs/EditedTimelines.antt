@@ -1,0 +1,199 @@
+-- A writable timeline is writable after an accepted edit.
+use Rattle.std.proofs.Common.{◌≡◌, refl, sym, ap, subst, ◌∙◌, Bool, true, false, ℕ, ◌+◌, ◌≤◌}
+use Rattle.std.proofs.Common.{List, [], ◌∷◌, ◌++◌, Option, Some, None, append-nil, not, ◌&&◌, ◌*ℤ◌}
+use Rattle.std.proofs.Common.{pos, ℤ, drop, length, arith}
+use Rattle.std.specs.Prelude.{IsSomeAnd, int_lt, is_none, option_and_then, slice_get}
+use Rattle.otio_model.specs.declared.compositions.ItemOf.{ItemOf}
+use Rattle.otio_model.specs.declared.compositions.ItemOf.TheVariants.{Track}
+use Rattle.otio_model.specs.declared.compositions.Listed.{Listed}
+use Rattle.otio_model.specs.declared.compositions.StackOf.{StackOf}
+use Rattle.otio_model.specs.declared.compositions.TrackOf.{TrackOf}
+use Rattle.otio_model.specs.declared.editing.Edit.{Edit}
+use Rattle.otio_model.specs.declared.editing.EditFault.{EditFault}
+use Rattle.otio_model.specs.declared.editing.EditFault.TheVariants as F
+use Rattle.otio_model.specs.declared.patches.Patch.{Patch}
+use Rattle.otio_model.specs.declared.roots.Object.{Timeline as ObjectOfTimeline, out-Object}
+use Rattle.otio_model.specs.declared.roots.Object.TheOpen.{Object-F}
+use Rattle.otio_model.specs.declared.roots.Object.TheViews.{roll-Object}
+use Rattle.otio_model.specs.declared.timelines.Timeline.{Timeline}
+use Rattle.otio_model.specs.Edits.{IsTrack, list_at, replaced}
+use Rattle.otio_model.specs.Misplaced.{side_by_side}
+use Rattle.otio_model.specs.Patches.{IsFit, applied, with_list}
+use Rattle.otio_model.specs.Trees.{children_of, item_at, items_of}
+use Rattle.coord.specs.Soundness.{IsSound}
+use Rattle.cuts.specs.Children.{Child, all_made}
+use Rattle.cuts.specs.Cuts.{olds}
+use Rattle.edits.specs.After.{at_of, frame_of, list_of, place_of, rate_of, with_items}
+use Rattle.edits.specs.Edges.{Held, held_at}
+use Rattle.edits.specs.Edits.{edited}
+use Rattle.edits.specs.Refusals.{IsAfter, asks_item, first_fault, has_no_neighbour, is_empty}
+use Rattle.edits.specs.Refusals.{is_filled_item, is_phased, is_wrong_speed, list_fault, pin_fault}
+use Rattle.edits.specs.Refusals.{place_fault, test}
+use Rattle.depths.specs.Editable.{HasEditItem}
+use Rattle.depths.proofs.AnyDepth.{made}
+use Rattle.depths.proofs.Depth.{leads}
+use Rattle.depths.proofs.Premises.{premises}
+use Rattle.edits_sound.proofs.Apart.{Apart, apart_items, items_apart}
+use Rattle.edits_sound.proofs.ApartEdits.{edited_apart}
+use Rattle.edits_sound.proofs.MadeParts.{made_apart, made_none, made_parts}
+use Rattle.edits_sound.proofs.Places.{children_at}
+use Rattle.object_law.specs.Writable as W
+use Rattle.object_law.specs.Writable.{AreItems, IsItem, IsTimeline}
+use Rattle.schema_rows.specs.Stands.{Stands}
+use Rattle.schema_write.specs.Objects.{json_of}
+use Rattle.object_law.proofs.Writables.{object_given}
+use Rattle.object_law.proofs.PatchedTimelines.{item_in, patched_is_writable}
+use Rattle.edited_law.specs.Items.{HasWritableItem}
+use Rattle.edited_law.proofs.WritableChildren.{AreWritable, AreWritableChildren, all_items}
+use Rattle.edited_law.proofs.WritableChildren.{each_item}
+use Rattle.edited_law.proofs.WritableEdits.{edited_are}
+
+-- ---- the old list
+
+stack_items : (s : StackOf Listed) → W.IsStack s → AreItems (items_of s.children)
+stack_items s (W.stack_of _ o effects markers none items) = items
+
+track_items : (t : TrackOf Listed) → W.IsTrack t → AreItems (items_of t.children)
+track_items t (W.track_of _ o effects markers apart items) = items
+
+children_are : (x : ItemOf Listed) (l : Listed) → IsItem x → children_of x ≡ Some l
+    → AreItems (items_of l)
+children_are x l (W.clip _ c e h) f =
+    absurd (let g : None ≡ Some l = sym (ap children_of e) ∙ f in cc)
+children_are x l (W.gap _ g e h) f =
+    absurd (let k : None ≡ Some l = sym (ap children_of e) ∙ f in cc)
+children_are x l (W.transition _ t e h) f =
+    absurd (let g : None ≡ Some l = sym (ap children_of e) ∙ f in cc)
+children_are x l (W.stack _ s e h) f =
+    let g : Some s.children ≡ Some l = sym (ap children_of e) ∙ f in
+    let same : s.children ≡ l = cc in
+    subst (λ k. AreItems (items_of k)) same (stack_items s h)
+children_are x l (W.track _ t e h) f =
+    let g : Some t.children ≡ Some l = sym (ap children_of e) ∙ f in
+    let same : t.children ≡ l = cc in
+    subst (λ k. AreItems (items_of k)) same (track_items t h)
+
+-- whatever list a place leads to has writable items
+abbrev LeadsToItems : List ℕ → Type 0
+LeadsToItems place = (l found : Listed) → AreItems (items_of l) → list_at place l ≡ Some found
+    → AreItems (items_of found)
+
+in_children : (place : List ℕ) (x : ItemOf Listed) (found : Listed) (o : Option Listed)
+    → children_of x ≡ o → IsItem x → LeadsToItems place
+    → option_and_then (list_at place) o ≡ Some found → AreItems (items_of found)
+in_children place x found None e h by f = absurd (cc f)
+in_children place x found (Some l) e h by f = by l found (children_are x l h e) f
+
+at_index : (place : List ℕ) (items : List (ItemOf Listed)) (i : ℕ) (found : Listed)
+    (o : Option (ItemOf Listed)) → slice_get items i ≡ o → AreItems items → LeadsToItems place
+    → option_and_then (λ x. option_and_then (list_at place) (children_of x)) o ≡ Some found
+    → AreItems (items_of found)
+at_index place items i found None e h by f = absurd (cc f)
+at_index place items i found (Some x) e h by f =
+    in_children place x found (children_of x) refl (item_in items i x h e) by f
+
+list_in : (place : List ℕ) → LeadsToItems place
+list_in [] = λ l found h e. let same : l ≡ found = cc e in
+    subst (λ (k : Listed). AreItems (items_of k)) same h
+list_in (i ∷ place) = λ l found h e.
+    at_index place (items_of l) i found (slice_get (items_of l) i) refl h (list_in place) e
+
+-- ---- what the tests leave
+
+rest_of : (b : Bool) (fault : EditFault) (o : Option EditFault) → test b fault o ≡ None
+    → (b ≡ false) × (o ≡ None)
+rest_of true fault o e = absurd (cc e)
+rest_of false fault o e = (refl, e)
+
+later : (o p : Option EditFault) → first_fault o p ≡ None → p ≡ None
+later None p e = e
+later (Some fault) p e = absurd (cc e)
+
+-- an edit that fits doesn't pass the greatest speed
+right_speed : (t : Timeline) (e : Edit) (f : ℤ) (l : List (ItemOf Listed)) (h : Option Held)
+    → list_fault t e f l h ≡ None → is_wrong_speed e h ≡ false
+right_speed t e f l h k =
+    let o7 : Option EditFault = test (not (is_phased f e l)) F.Phase (pin_fault t e) in
+    let o6 : Option EditFault = test (is_wrong_speed e h) F.Speed o7 in
+    let o5 : Option EditFault = test (has_no_neighbour e h) F.NoNeighbour o6 in
+    let o4 : Option EditFault = test (is_empty e) F.Empty o5 in
+    let o3 : Option EditFault = test (is_filled_item e h) F.NotGap o4 in
+    let o2 : Option EditFault = test (asks_item e && is_none h) F.NoItem o3 in
+    let a = rest_of (int_lt (at_of e) (pos 0)) F.Negative o2 k in
+    let b = rest_of (asks_item e && is_none h) F.NoItem o3 a.1 in
+    let c = rest_of (is_filled_item e h) F.NotGap o4 b.1 in
+    let d = rest_of (is_empty e) F.Empty o5 c.1 in
+    let g = rest_of (has_no_neighbour e h) F.NoNeighbour o6 d.1 in
+    (rest_of (is_wrong_speed e h) F.Speed o7 g.1).0
+
+-- ---- the new list
+
+made_are : (t : Timeline) (l : List Child) (m : List (ItemOf Listed))
+    → all_made (rate_of t) l ≡ Some m → AreWritableChildren l → AreWritable m
+made_are t [] m e k = subst AreWritable (made_none (rate_of t) m e) tt
+made_are t (c ∷ l) m e k =
+    let d = made_parts (rate_of t) c l m e in
+    subst AreWritable d.all
+    (k.0 (rate_of t) d.first d.first_is, made_are t l d.others d.others_are k.1)
+
+past : {A : Type 0} (l : List A) → drop (length l) l ≡ []
+past [] = refl
+past (x ∷ l) = past l
+
+-- all children are replaced
+all_replaced : {A : Type 0} (m l : List A) → m ≡ replaced 0 (length l) m l
+all_replaced m l =
+    let z : 0 + length l ≡ length l = omega arith in
+    sym (append-nil m) ∙ ap (λ k. m ++ k) (sym (ap (λ n. drop n l) z ∙ past l))
+
+-- ---- the new timeline
+
+pub stays_writable : (t : Timeline) (e : Edit) (new : Timeline) → IsSound t → IsTimeline t
+    → HasEditItem e → HasWritableItem e → IsAfter t e new → IsTimeline new
+stays_writable t e new s h i v a =
+    let p = leads t e a.early in
+    let d = made t e new a.made in
+    let there : item_at (place_of e) t.tracks.children ≡ Some (Track p.track) =
+    ap (λ q. item_at q t.tracks.children) p.place ∙ p.there in
+    let l = p.track.children in
+    let found : list_at (place_of e) t.tracks.children ≡ Some l =
+    children_at (place_of e) t.tracks.children l (Track p.track) there refl in
+    let same : list_of t e ≡ items_of l =
+    ap (λ (o : Option Listed). elim o [ None ↦ [] | Some k ↦ items_of k ]) found in
+    let old : AreWritable (list_of t e) = subst AreWritable (sym same)
+    (each_item (items_of l) (list_in (place_of e) t.tracks.children l
+    (stack_items t.tracks h.1) found)) in
+    let w = right_speed t e (frame_of t) (list_of t e)
+    (held_at (list_of t e) (at_of e *ℤ frame_of t))
+    (later (place_fault (place_of e) t) _ a.early) in
+    let items = made_are t (edited (frame_of t) e (list_of t e)) d.items d.are
+    (edited_are (frame_of t) e (list_of t e) old v w) in
+    let calm : Apart false (olds (list_of t e)) = apart_items (list_of t e)
+    (ap side_by_side same ∙ s.calm.items (place_of e) (Track p.track) there) in
+    let apart = items_apart false d.items
+    (made_apart false (rate_of t) (edited (frame_of t) e (list_of t e)) d.items d.are
+    (edited_apart (frame_of t) e (list_of t e) calm (premises t e s i).suits)) in
+    let q : Patch = record
+    { place = place_of e; at = 0; count = length (items_of l); put = d.items } in
+    let fit : IsFit q t = record {
+      track = subst (λ o. IsSomeAnd o IsTrack) (sym there) tt;
+      within = subst (λ o. IsSomeAnd o (λ k. 0 + length (items_of l) ≤ length (items_of k)))
+          (sym found) (omega arith);
+    } in
+    let all = all_replaced d.items (items_of l) in
+    let gives : applied q t ≡ new =
+    ap (λ (o : Option Listed). elim o [ None ↦ t | Some k ↦ with_list q k t ]) found
+    ∙ ap (with_items t e) (sym all) ∙ d.give in
+    subst IsTimeline gives
+    (patched_is_writable q t l fit found h (all_items d.items items)
+    (ap side_by_side (sym all) ∙ apart))
+
+timeline_out : (t : Timeline) → out-Object (ObjectOfTimeline t) ≡ Object-F.Timeline t
+unfolding roll-Object denote.Hole.Carrier.roll out-Object denote.Hole.Carrier.out
+timeline_out t = refl
+
+-- what is written of a writable timeline stands for it
+pub stands_again : (t : Timeline) → IsTimeline t
+    → Stands (json_of (ObjectOfTimeline t)) (ObjectOfTimeline t)
+stands_again t h =
+    object_given (ObjectOfTimeline t) (W.timeline (ObjectOfTimeline t) t (timeline_out t) h)

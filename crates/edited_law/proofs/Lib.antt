@@ -1,0 +1,4 @@
+pub mod EditedTimelines
+pub mod WritableChildren
+pub mod WritableEdits
+pub mod WritableScripts
