@@ -1,0 +1,4 @@
+pub mod TrackLemmas
+pub mod RunLemmas
+pub mod LayerLemmas
+pub mod LongestLemmas

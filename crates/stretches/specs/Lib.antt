@@ -1,0 +1,2 @@
+-- Words of the stretches of a flat track.
+pub mod Runs
