@@ -101,8 +101,8 @@ pub fn rows_are_worked()
     ensures { AreWorked }
 {}
 
-/// Law: where nothing refuses sound timelines, they can be flattened, cut to a window and joined: no
-/// time that this needs is out of range.
+/// Law: where nothing refuses sound timelines, they can be flattened, cut to a window and joined:
+/// no time that this needs is out of range.
 pub fn flat_calls_are_made()
     ensures flat { (t : Timeline) (kind : List ℕ) (keep : Bool) (l : List Piece) → IsSound t →
         IsFree (Blocks kind (roots t)) → has_kind kind (roots t) ≡ true →

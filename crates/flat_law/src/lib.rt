@@ -1,5 +1,5 @@
-//! What flat timelines show, and that they are there: laws of the definitions that `flat` has. Their
-//! functions do nothing.
+//! What flat timelines show, and that they are there: laws of the definitions that `flat` has.
+//! Their functions do nothing.
 #![tactic(auto)]
 
 mod laws;

@@ -213,10 +213,10 @@ fn cut_to(
 /// The timeline from record frame `a` up to, not including, `b`: its tracks without the transitions
 /// that meet an end, cut there, and with `a` as its start. A track that ends before `b` stays as
 /// short. [`FlatFault::Range`] comes exactly where `a` isn't below `b`, lies before the timeline's
-/// start, or one of the two lies beyond a million seconds. Else the fault is that of the first place
-/// in document order: [`FlatFault::Nested`] for a root child that is no track or has a source_range
-/// or effects, or [`FlatFault::Phase`] for an item that can't be cut on a whole tick of its media.
-/// [`FlatFault::Memory`] comes where memory runs out.
+/// start, or one of the two lies beyond a million seconds. Else the fault is that of the first
+/// place in document order: [`FlatFault::Nested`] for a root child that is no track or has a
+/// source_range or effects, or [`FlatFault::Phase`] for an item that can't be cut on a whole tick
+/// of its media. [`FlatFault::Memory`] comes where memory runs out.
 pub fn window(alloc: Global, timeline: Timeline, a: i128, b: i128) -> Result<Timeline, FlatFault>
     requires few { count timeline.tracks.children < 2 ^ 32 }
     requires sound { IsSound timeline }

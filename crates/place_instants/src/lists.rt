@@ -141,8 +141,8 @@ fn in_holder(children: &Children, held: Seat, index: usize, at: i128) -> Option<
     None
 }
 
-/// The instant that an instant of a track reaches in its child of an index; `None` exactly where the
-/// track doesn't ask that child.
+/// The instant that an instant of a track reaches in its child of an index; `None` exactly where
+/// the track doesn't ask that child.
 pub(crate) fn in_track(children: &Children, index: usize, at: i128) -> Option<i128>
     requires few { count children.now < 2 ^ 32 }
     requires sound { AreFaultless children.now }
