@@ -1,5 +1,5 @@
 -- What words give, and what it asks for.
-use Rattle.std.proofs.Common.{◌≡◌, ℕ, Bool, List, ◌∷◌, Option, Some, None, MatchOption, refl, sym, ◌∙◌, ap, ap₂, subst, get_or, ◌≤◌, arith}
+use Rattle.std.proofs.Common.{◌≡◌, ℕ, Bool, List, [], ◌∷◌, Option, Some, None, MatchOption, refl, inl, inr, sym, ◌∙◌, ap, ap₂, subst, get_or, ◌≤◌, arith}
 use Rattle.command_words.specs.declared.requests.Request.{Request}
 use denote.Ref.{Bor}
 use Rattle.std.specs.Option.{option_map}
@@ -7,13 +7,14 @@ use Rattle.tick_time.specs.declared.rates.Rate.{Rate}
 use Rattle.clap.specs.Words.{fault_of, matches_of}
 use Rattle.command_words.specs.Given.{Given, Gives, GivesNothing, given_in}
 use Rattle.command_words.specs.Options.{reader_of}
-use Rattle.command_words.specs.Asked.{IsRate, IsInput, IsDefault, IsOutput, IsAskedOf, IsConversion, IsValue, IsCount, AreFrames, IsListing, IsFrameList, IsEditing, IsEdit, IsAskedBy, IsMedia, IsScript, OtherNames, other_names, ReadsOnce, IsRequest, Ask, AskNothing, NoRequest}
+use Rattle.command_words.specs.Asked.{IsByNames, IsCat, IsStat, IsTool, IsRate, IsInput, IsDefault, IsOutput, IsAskedOf, IsConversion, IsCount, AreFrames, IsListing, IsFrameList, IsEditing, IsEdit, IsAskedBy, IsMedia, IsScript, OtherNames, other_names, ReadsOnce, IsRequest, Ask, AskNothing, NoRequest}
 use Rattle.command_words.specs.declared.conversions.Form.{Form}
 use Rattle.command_words.specs.declared.conversions.Form.TheVariants as form
 use Rattle.command_words.specs.declared.faults.WordsFault.{WordsFault}
 use Rattle.command_words.specs.declared.faults.WordsFault.TheVariants.{Usage, Memory}
 use Rattle.command_words.specs.declared.requests.Command.{Command}
 use Rattle.command_words.specs.declared.requests.Command.TheVariants.{ListToList, ListToObjects, TimelineToList, ToObjects, ToJson, Frames, ListFrames, Edit, ListEdit}
+use Rattle.command_words.specs.declared.requests.Command.TheVariants.{Cat, ListCat, Stat, ListStat, Tool, ListTool}
 use Rattle.command_words.specs.declared.requests.FramesAsked.{FramesAsked}
 use Rattle.command_words.specs.declared.names.Verb.{Verb}
 use Rattle.command_words.specs.declared.names.Verb.TheVariants as verbs
@@ -23,6 +24,7 @@ use Rattle.record_points.proofs.OnePoint.{number_once, point_once}
 use Rattle.command_words.specs.Names.{word_of, IsListName}
 use Rattle.command_words.proofs.Naming.{verb_once}
 use Rattle.command_words.proofs.SameRates.{asked_rate_once}
+use Rattle.command_words.proofs.SameTools.{tools_once, value_once}
 
 list_not : (name : List ℕ) (f g : Form) → IsInput None name f → IsInput None name g → f ≡ g
 list_not name form.Objects form.Objects p q = refl
@@ -215,6 +217,12 @@ asked_is ToJson form.List output rate drop wide p = absurd p
 asked_is ToJson form.Json output rate drop wide p = absurd p
 asked_is (Frames asked) input output rate drop wide p = absurd p
 asked_is (ListFrames r asked) input output rate drop wide p = absurd p
+asked_is Cat input output rate drop wide p = absurd p
+asked_is (ListCat r) input output rate drop wide p = absurd p
+asked_is Stat input output rate drop wide p = absurd p
+asked_is (ListStat r) input output rate drop wide p = absurd p
+asked_is (Tool t) input output rate drop wide p = absurd p
+asked_is (ListTool r t) input output rate drop wide p = absurd p
 asked_is Edit input output rate drop wide p = absurd p
 asked_is (ListEdit r) input output rate drop wide p = absurd p
 
@@ -229,18 +237,6 @@ convert_once : (c d : Command) (a b : List ℕ) (given : Given) → IsConversion
 convert_once c d a b given p q =
     let h = asked_with d b a p.input p.output p.rate given p.file p.reads p.writes p.is_rate q in
     (asked_once c d p.input p.output p.rate given.drop given.wide p.means h.0, sym h.1)
-
--- an option asks for at most one value
-value_once : {A : Type 0} (Is : List ℕ → A → Type 0)
-    → ((word : List ℕ) (x y : A) → Is word x → Is word y → x ≡ y)
-    → (given : Option (List ℕ)) (x y : Option A) → IsValue Is given x
-    → IsValue Is given y → x ≡ y
-value_once Is once None None None p q = refl
-value_once Is once None None (Some y) p q = absurd q
-value_once Is once None (Some x) y p q = absurd p
-value_once Is once (Some word) None y p q = absurd p
-value_once Is once (Some word) (Some x) None p q = absurd q
-value_once Is once (Some word) (Some x) (Some y) p q = ap Some (once word x y p q)
 
 pub count_once : (word : List ℕ) (m n : ℕ) → IsCount word m → IsCount word n → m ≡ n
 count_once word m n p q = number_once word m n p.0 q.0
@@ -286,6 +282,24 @@ one_listing (Frames x) Edit name rate frames p q = absurd q
 one_listing (Frames x) (ListEdit s) name rate frames p q = absurd q
 one_listing (ListFrames r x) Edit name rate frames p q = absurd q
 one_listing (ListFrames r x) (ListEdit s) name rate frames p q = absurd q
+one_listing (Frames x) Cat name rate frames p q = absurd q
+one_listing (Frames x) (ListCat s) name rate frames p q = absurd q
+one_listing (Frames x) Stat name rate frames p q = absurd q
+one_listing (Frames x) (ListStat s) name rate frames p q = absurd q
+one_listing (Frames x) (Tool t) name rate frames p q = absurd q
+one_listing (Frames x) (ListTool s t) name rate frames p q = absurd q
+one_listing (ListFrames r x) Cat name rate frames p q = absurd q
+one_listing (ListFrames r x) (ListCat s) name rate frames p q = absurd q
+one_listing (ListFrames r x) Stat name rate frames p q = absurd q
+one_listing (ListFrames r x) (ListStat s) name rate frames p q = absurd q
+one_listing (ListFrames r x) (Tool t) name rate frames p q = absurd q
+one_listing (ListFrames r x) (ListTool s t) name rate frames p q = absurd q
+one_listing Cat d name rate frames p q = absurd p
+one_listing (ListCat r) d name rate frames p q = absurd p
+one_listing Stat d name rate frames p q = absurd p
+one_listing (ListStat r) d name rate frames p q = absurd p
+one_listing (Tool t) d name rate frames p q = absurd p
+one_listing (ListTool r t) d name rate frames p q = absurd p
 one_listing (ListToList r f w) d name rate frames p q = absurd p
 one_listing (ListToObjects r) d name rate frames p q = absurd p
 one_listing (TimelineToList f w) d name rate frames p q = absurd p
@@ -325,6 +339,12 @@ editing_is : (command : Command) (name : List ℕ) (rate : Rate) → IsEditing c
 unfolding editing
 editing_is Edit name rate p = (None, (p, refl))
 editing_is (ListEdit r) name rate p = (Some r, (p.0, p.1, refl))
+editing_is Cat name rate p = absurd p
+editing_is (ListCat r) name rate p = absurd p
+editing_is Stat name rate p = absurd p
+editing_is (ListStat r) name rate p = absurd p
+editing_is (Tool t) name rate p = absurd p
+editing_is (ListTool r t) name rate p = absurd p
 editing_is (ListToList r f w) name rate p = absurd p
 editing_is (ListToObjects r) name rate p = absurd p
 editing_is (TimelineToList f w) name rate p = absurd p
@@ -368,9 +388,60 @@ edit_once c d a b given p q =
     let h = edited_with d b a p.rate given p.file p.is_rate q in
     (one_editing c d a p.rate p.means h.0, sym h.1)
 
+-- names and a rate make one command
+by_names_once : (timelines : Command) (lists : Rate → Command) (c d : Command)
+    (names : List (List ℕ)) (rate : Rate) → IsByNames timelines lists c names rate
+    → IsByNames timelines lists d names rate → c ≡ d
+by_names_once timelines lists c d names rate (inl p) (inl q) = p.1 ∙ sym q.1
+by_names_once timelines lists c d names rate (inl p) (inr q) = absurd (p.0 q.0)
+by_names_once timelines lists c d names rate (inr p) (inl q) = absurd (q.0 p.0)
+by_names_once timelines lists c d names rate (inr p) (inr q) = p.1 ∙ sym q.1
+
+-- the same, where the name and the rate are equal
+by_same_names : (timelines : Command) (lists : Rate → Command) (c d : Command) (a b : List ℕ)
+    (more : List (List ℕ)) (r s : Rate) → a ≡ b → r ≡ s
+    → IsByNames timelines lists c (a ∷ more) r → IsByNames timelines lists d (b ∷ more) s → c ≡ d
+by_same_names timelines lists c d a b more r s name rate p q =
+    by_names_once timelines lists c d (b ∷ more) s
+    (subst (λ n. IsByNames timelines lists c (n ∷ more) s) name
+    (subst (IsByNames timelines lists c (a ∷ more)) rate p)) q
+
+one_file : (a b : List ℕ) (given : Given) → given.file ≡ Some a → given.file ≡ Some b → a ≡ b
+one_file a b given p q = let e = sym p ∙ q in cc
+
+cat_once : (c d : Command) (a b : List ℕ) (given : Given) → IsCat c a given → IsCat d b given
+    → (c ≡ d) × (a ≡ b)
+cat_once c d a b given p q =
+    let name = one_file a b given p.file q.file in
+    let rate = asked_rate_once given.rate p.rate q.rate p.is_rate q.is_rate in
+    (by_same_names Cat ListCat c d a b given.more p.rate q.rate name rate p.means q.means, name)
+
+stat_once : (c d : Command) (a b : List ℕ) (given : Given) → IsStat c a given → IsStat d b given
+    → (c ≡ d) × (a ≡ b)
+stat_once c d a b given p q =
+    let name = one_file a b given p.file q.file in
+    let rate = asked_rate_once given.rate p.rate q.rate p.is_rate q.is_rate in
+    (by_same_names Stat ListStat c d a b [] p.rate q.rate name rate p.means q.means, name)
+
+tool_once : (c d : Command) (a b : List ℕ) (given : Given) → IsTool c a given → IsTool d b given
+    → (c ≡ d) × (a ≡ b)
+tool_once c d a b given p q =
+    let name = one_file a b given p.file q.file in
+    let rate = asked_rate_once given.rate p.rate q.rate p.is_rate q.is_rate in
+    let tool = tools_once given p.tool q.tool p.are q.are in
+    let means =
+    subst (λ t. IsByNames (Tool t) (λ r. ListTool r t) c (a ∷ given.more) p.rate) tool p.means in (
+      by_same_names (Tool q.tool) (λ r. ListTool r q.tool) c d a b given.more p.rate q.rate name
+          rate means q.means,
+      name,
+    )
+
 by_once : (verb : Verb) (c d : Command) (a b : List ℕ) (given : Given) → IsAskedBy verb c a given
     → IsAskedBy verb d b given → (c ≡ d) × (a ≡ b)
 by_once verbs.Convert c d a b given p q = convert_once c d a b given p q
+by_once verbs.Cat c d a b given p q = cat_once c d a b given p q
+by_once verbs.Stat c d a b given p q = stat_once c d a b given p q
+by_once verbs.Tool c d a b given p q = tool_once c d a b given p q
 by_once verbs.Frames c d a b given p q = frames_once c d a b given p q
 by_once verbs.Edit c d a b given p q = edit_once c d a b given p q
 
@@ -382,6 +453,12 @@ media_once (ListToObjects r) named m n p q = p ∙ sym q
 media_once (TimelineToList f w) named m n p q = p ∙ sym q
 media_once ToObjects named m n p q = p ∙ sym q
 media_once ToJson named m n p q = p ∙ sym q
+media_once Cat named m n p q = p ∙ sym q
+media_once (ListCat r) named m n p q = p ∙ sym q
+media_once Stat named m n p q = p ∙ sym q
+media_once (ListStat r) named m n p q = p ∙ sym q
+media_once (Tool asked) named m n p q = p ∙ sym q
+media_once (ListTool r asked) named m n p q = p ∙ sym q
 media_once (Frames asked) named m n p q = p ∙ sym q
 media_once (ListFrames r asked) named m n p q = p ∙ sym q
 media_once Edit named m n p q = p ∙ sym q
@@ -395,21 +472,28 @@ script_once (ListToObjects r) named m n p q = p ∙ sym q
 script_once (TimelineToList f w) named m n p q = p ∙ sym q
 script_once ToObjects named m n p q = p ∙ sym q
 script_once ToJson named m n p q = p ∙ sym q
+script_once Cat named m n p q = p ∙ sym q
+script_once (ListCat r) named m n p q = p ∙ sym q
+script_once Stat named m n p q = p ∙ sym q
+script_once (ListStat r) named m n p q = p ∙ sym q
+script_once (Tool asked) named m n p q = p ∙ sym q
+script_once (ListTool r asked) named m n p q = p ∙ sym q
 script_once (Frames asked) named m n p q = p ∙ sym q
 script_once (ListFrames r asked) named m n p q = p ∙ sym q
 script_once Edit named m n p q = p ∙ sym q
 script_once (ListEdit r) named m n p q = p ∙ sym q
 
-names_of : Option (List ℕ) → Option (List ℕ) → OtherNames
-names_of script media = record { script = script; media = media }
+names_of : List (List ℕ) → Option (List ℕ) → Option (List ℕ) → OtherNames
+names_of more script media = record { more = more; script = script; media = media }
 
-others_once : (c : Command) (given : Given) (m n : OtherNames) → IsScript c given.script m.script
-    → IsMedia c given.media m.media → IsScript c given.script n.script
-    → IsMedia c given.media n.media → m ≡ n
+others_once : (c : Command) (given : Given) (m n : OtherNames) → m.more ≡ given.more
+    → IsScript c given.script m.script → IsMedia c given.media m.media → n.more ≡ given.more
+    → IsScript c given.script n.script → IsMedia c given.media n.media → m ≡ n
 unfolding names_of
-others_once c given m n p q r s =
-    ap (λ x. names_of x m.media) (script_once c given.script m.script n.script p r)
-    ∙ ap (names_of n.script) (media_once c given.media m.media n.media q s)
+others_once c given m n f p q g r s =
+    ap (λ x. names_of x m.script m.media) (f ∙ sym g)
+    ∙ ap (λ x. names_of n.more x m.media) (script_once c given.script m.script n.script p r)
+    ∙ ap (names_of n.more n.script) (media_once c given.media m.media n.media q s)
 
 -- the media list of a request is one of the command that is asked for
 media_in : (verb : Verb) (c d : Command) (a b : List ℕ) (o : OtherNames) (t : Option (List ℕ))
@@ -429,23 +513,24 @@ without_media verb c a given is none d b o t r =
 
 -- the other files of a request are those of the command that is asked for
 others_in : (verb : Verb) (c d : Command) (a b : List ℕ) (m n : OtherNames) (t : Option (List ℕ))
-    (given : Given) → IsAskedBy verb c a given → IsScript c given.script m.script
-    → IsMedia c given.media m.media → IsRequest verb d b n t given → m ≡ n
-others_in verb c d a b m n t given is script media r =
+    (given : Given) → IsAskedBy verb c a given → m.more ≡ given.more
+    → IsScript c given.script m.script → IsMedia c given.media m.media
+    → IsRequest verb d b n t given → m ≡ n
+others_in verb c d a b m n t given is more script media r =
     let same = (by_once verb c d a b given is r.asked).0 in
-    others_once c given m n script media
+    others_once c given m n more script media r.more_are
     (subst (λ x. IsScript x given.script n.script) (sym same) r.script_is)
     (media_in verb c d a b n t given is r)
 
 -- where the standard input would be read twice, nothing is asked for
 pub read_twice : (verb : Verb) (c : Command) (a : List ℕ) (m : OtherNames) (given : Given)
-    → IsAskedBy verb c a given → IsScript c given.script m.script
+    → IsAskedBy verb c a given → m.more ≡ given.more → IsScript c given.script m.script
     → IsMedia c given.media m.media → (ReadsOnce a m → ⊥)
     → (d : Command) (b : List ℕ) (n : OtherNames) (t : Option (List ℕ))
     → IsRequest verb d b n t given → ⊥
-read_twice verb c a m given is script media twice d b n t r =
+read_twice verb c a m given is more script media twice d b n t r =
     let name = (by_once verb c d a b given is r.asked).1 in
-    let others = others_in verb c d a b m n t given is script media r in
+    let others = others_in verb c d a b m n t given is more script media r in
     twice (subst (λ x. ReadsOnce x m) (sym name) (subst (ReadsOnce b) (sym others) r.once))
 
 request_once : (verb : Verb) (c d : Command) (a b : List ℕ) (m n : OtherNames)
@@ -455,7 +540,7 @@ request_once verb c d a b m n s t given p q =
     let same = by_once verb c d a b given p.asked q.asked in (
       same.0,
       same.1,
-      others_in verb c d a b m n t given p.asked p.script_is p.media_is q,
+      others_in verb c d a b m n t given p.asked p.more_are p.script_is p.media_is q,
       sym p.target_is
           ∙ q.target_is,
     )

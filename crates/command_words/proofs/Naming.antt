@@ -1,12 +1,15 @@
 -- The words of commands.
-use Rattle.std.proofs.Common.{◌≡◌, ℕ, Bool, true, false, List, [], ◌∷◌, Option, Some, None, refl, sym, ◌∙◌, ap, subst, bytes_eq, if◌then◌else◌}
+use Rattle.std.proofs.Common.{◌≡◌, ℕ, Bool, true, false, List, [], ◌∷◌, Option, Some, refl, sym, ◌∙◌, ap, subst, bytes_eq, if◌then◌else◌}
 use Rattle.std.proofs.lemmas.Slice.Eq.{bytes_eq-Decides}
 use Rattle.command_words.specs.Names.{meaning, word_of, verb_words}
 use Rattle.command_words.specs.declared.names.Verb.{Verb}
-use Rattle.command_words.specs.declared.names.Verb.TheVariants.{Convert, Frames, Edit}
+use Rattle.command_words.specs.declared.names.Verb.TheVariants.{Convert, Cat, Stat, Tool, Frames, Edit}
 
 word_is : (verb : Verb) → meaning (word_of verb) verb_words ≡ Some verb
 word_is Convert = refl
+word_is Cat = refl
+word_is Stat = refl
+word_is Tool = refl
 word_is Frames = refl
 word_is Edit = refl
 
@@ -22,14 +25,20 @@ by_row true word row rest x P same here others e = let k : row.1 ≡ x =
     cc in subst P k (here ((bytes_eq-Decides word row.0).0 same))
 by_row false word row rest x P other here others e = others e
 
+-- each row of a table of words has the word of its command
+abbrev AreWords : List (List ℕ × Verb) → Type 0
+AreWords [] = Unit {0}
+AreWords (row ∷ rows) = (row.0 ≡ word_of row.1) × AreWords rows
+
+by_table : (word : List ℕ) (verb : Verb) (rows : List (List ℕ × Verb)) → AreWords rows
+    → meaning word rows ≡ Some verb → word ≡ word_of verb
+by_table word verb [] are e = absurd (let h = e in cc)
+by_table word verb (row ∷ rows) are e =
+    by_row (bytes_eq word row.0) word row (meaning word rows) verb (λ v. word ≡ word_of v) refl
+    (λ h. h ∙ are.0) (λ f. by_table word verb rows are.1 f) e
+
 -- a word that stands for a command is the word of that command
 pub verb_word : (word : List ℕ) (verb : Verb) → meaning word verb_words ≡ Some verb
     → word ≡ word_of verb
 verb_word word verb e =
-    let P : Verb → Type 0 = λ v. word ≡ word_of v in
-    by_row (bytes_eq word (word_of Convert)) word (word_of Convert, Convert)
-    (meaning word ((word_of Frames, Frames) ∷ (word_of Edit, Edit) ∷ [])) verb P refl (λ h. h)
-    (λ f. by_row (bytes_eq word (word_of Frames)) word (word_of Frames, Frames)
-    (meaning word ((word_of Edit, Edit) ∷ [])) verb P refl (λ h. h)
-    (λ g. by_row (bytes_eq word (word_of Edit)) word (word_of Edit, Edit) None verb P refl
-    (λ h. h) (λ i. absurd (let h = i in cc)) g) f) e
+    by_table word verb verb_words (refl, (refl, (refl, (refl, (refl, (refl, tt)))))) e

@@ -13,7 +13,7 @@ use Rattle.command_words.specs.Options.{lettered, needed, reader_of, unnamed}
 use Rattle.command_words.specs.declared.faults.WordsFault.{WordsFault}
 use Rattle.command_words.specs.declared.faults.WordsFault.TheVariants.{Usage, Memory}
 use Rattle.command_words.specs.declared.names.Verb.{Verb}
-use Rattle.command_words.specs.declared.names.Verb.TheVariants.{Convert, Frames, Edit}
+use Rattle.command_words.specs.declared.names.Verb.TheVariants.{Convert, Cat, Stat, Tool, Frames, Edit}
 
 -- a command whose words don't begin with its name
 pub unnamed_app : (old new : Command)
@@ -33,11 +33,17 @@ needed_rule old new e = ap rule_of e
 -- each command is one of which `clap` publishes the meaning
 pub readers_are_free : (verb : Verb) → is_simple_and_free (reader_of verb) ≡ true
 readers_are_free Convert = refl
+readers_are_free Cat = refl
+readers_are_free Stat = refl
+readers_are_free Tool = refl
 readers_are_free Frames = refl
 readers_are_free Edit = refl
 
 pub readers_are_simple : (verb : Verb) → is_simple (reader_of verb) ≡ true
 readers_are_simple Convert = refl
+readers_are_simple Cat = refl
+readers_are_simple Stat = refl
+readers_are_simple Tool = refl
 readers_are_simple Frames = refl
 readers_are_simple Edit = refl
 

@@ -1,19 +1,22 @@
 -- What a command line asks for.
-use Rattle.std.specs.Prelude.{◌≡◌, ℕ, ◌≤◌, pos, Bool, List, ◌∷◌, Option, Some, None, IsSome, codes}
+use Rattle.std.specs.Prelude.{◌≡◌, ◌⊎◌, ℕ, ◌<◌, ◌≤◌, pos, Bool, List, [], ◌∷◌, ◌++◌, Option, Some, None, IsSome, bytes_eq, codes, count_by, length, map}
 use Rattle.std.specs.Option.{option_map}
 use Rattle.tick_time.specs.declared.rates.Rate.{Rate}
 use Rattle.rate_words.specs.RateWords.{IsRateWord}
 use Rattle.record_points.specs.Words.{IsWholeNumber, IsPoint}
-use Rattle.command_words.specs.Names.{IsListName, word_of}
-use Rattle.command_words.specs.Given.{Given, Gives}
+use Rattle.command_words.specs.Names.{HasList, IsListName, word_of}
+use Rattle.command_words.specs.Given.{Given, Gives, IsValue}
+use Rattle.command_words.specs.Tools.{AreTools}
 use Rattle.command_words.specs.declared.conversions.Form.{Form}
 use Rattle.command_words.specs.declared.conversions.Form.TheVariants as form
 use Rattle.command_words.specs.declared.faults.WordsFault.{WordsFault}
 use Rattle.command_words.specs.declared.faults.WordsFault.TheVariants.{Usage, Memory}
 use Rattle.command_words.specs.declared.requests.Command.{Command}
 use Rattle.command_words.specs.declared.requests.Command.TheVariants.{ListToList, ListToObjects, TimelineToList, ToObjects, ToJson, Frames, ListFrames, Edit, ListEdit}
+use Rattle.command_words.specs.declared.requests.Command.TheVariants.{Cat, ListCat, Stat, ListStat, Tool, ListTool}
 use Rattle.command_words.specs.declared.requests.FramesAsked.{FramesAsked}
 use Rattle.command_words.specs.declared.requests.Others.{Others}
+use Rattle.command_words.specs.declared.tools.ToolAsked.{ToolAsked}
 use Rattle.command_words.specs.declared.names.Verb.{Verb}
 use Rattle.command_words.specs.declared.names.Verb.TheVariants as verbs
 
@@ -74,13 +77,6 @@ pub record IsConversion (command : Command) (name : List ℕ) (given : Given) : 
   pub is_rate : IsRate given.rate rate
   pub means : IsAskedOf command input output rate given.drop given.wide
 
--- what an option asks for by its value; nothing where it isn't given
-abbrev pub IsValue : {A : Type 0} → (List ℕ → A → Type 0) → Option (List ℕ) → Option A → Type 0
-IsValue Is None None = Unit {0}
-IsValue Is None (Some value) = ⊥
-IsValue Is (Some word) None = ⊥
-IsValue Is (Some word) (Some value) = Is word value
-
 -- a count of record frames, from 1 to a million
 abbrev pub IsCount : List ℕ → ℕ → Type 0
 IsCount word n = IsWholeNumber word n × (1 ≤ n) × (n ≤ 1000000)
@@ -123,9 +119,47 @@ pub record IsEdit (command : Command) (name : List ℕ) (given : Given) : Type 0
   pub is_rate : IsRate given.rate rate
   pub means : IsEditing command name rate
 
--- what the options and the file of a command ask for
+-- The command: this one on timelines alone, or that one at this rate where a list is among the
+-- files.
+abbrev pub IsByNames : Command → (Rate → Command) → Command → List (List ℕ) → Rate → Type 0
+IsByNames timelines lists command names rate =
+    ((HasList names → ⊥) × (command ≡ timelines)) ⊎ (HasList names × (command ≡ lists rate))
+
+-- at most 10 000 files are named: one, and these
+abbrev pub AreFew : List (List ℕ) → Type 0
+AreFew more = length more < 10000
+
+-- what the options and the files of `cat` ask for
+pub record IsCat (command : Command) (name : List ℕ) (given : Given) : Type 0 where
+  pub file : given.file ≡ Some name
+  pub few : AreFew given.more
+  pub rate : Rate
+  pub is_rate : IsRate given.rate rate
+  pub means : IsByNames Cat ListCat command (name ∷ given.more) rate
+
+-- what the options and the file of `stat` ask for
+pub record IsStat (command : Command) (name : List ℕ) (given : Given) : Type 0 where
+  pub file : given.file ≡ Some name
+  pub rate : Rate
+  pub is_rate : IsRate given.rate rate
+  pub means : IsByNames Stat ListStat command (name ∷ []) rate
+
+-- what the options and the files of `tool` ask for
+pub record IsTool (command : Command) (name : List ℕ) (given : Given) : Type 0 where
+  pub file : given.file ≡ Some name
+  pub few : AreFew given.more
+  pub tool : ToolAsked
+  pub are : AreTools given tool
+  pub rate : Rate
+  pub is_rate : IsRate given.rate rate
+  pub means : IsByNames (Tool tool) (λ r. ListTool r tool) command (name ∷ given.more) rate
+
+-- what the options and the files of a command ask for
 abbrev pub IsAskedBy : Verb → Command → List ℕ → Given → Type 0
 IsAskedBy verbs.Convert command name given = IsConversion command name given
+IsAskedBy verbs.Cat command name given = IsCat command name given
+IsAskedBy verbs.Stat command name given = IsStat command name given
+IsAskedBy verbs.Tool command name given = IsTool command name given
 IsAskedBy verbs.Frames command name given = IsFrameList command name given
 IsAskedBy verbs.Edit command name given = IsEdit command name given
 
@@ -138,6 +172,12 @@ IsMedia (ListToObjects rate) named media = media ≡ named
 IsMedia (TimelineToList drop wide) named media = media ≡ named
 IsMedia ToObjects named media = media ≡ None
 IsMedia ToJson named media = media ≡ None
+IsMedia Cat named media = media ≡ None
+IsMedia (ListCat rate) named media = media ≡ named
+IsMedia Stat named media = media ≡ None
+IsMedia (ListStat rate) named media = media ≡ named
+IsMedia (Tool asked) named media = media ≡ None
+IsMedia (ListTool rate asked) named media = media ≡ named
 IsMedia (Frames asked) named media = media ≡ None
 IsMedia (ListFrames rate asked) named media = media ≡ named
 IsMedia Edit named media = media ≡ named
@@ -151,11 +191,13 @@ IsScript command named script = script ≡ None
 
 -- the names of the files that are read behind the first, where there are any
 pub record OtherNames : Type 0 where
+  pub more : List (List ℕ)
   pub script : Option (List ℕ)
   pub media : Option (List ℕ)
 
 abbrev pub other_names : Others → OtherNames
 other_names others = record {
+  more = map (λ s. s.now) others.more.items;
   script = option_map (λ s. s.now) others.script;
   media = option_map (λ s. s.now) others.media;
 }
@@ -164,11 +206,21 @@ other_names others = record {
 abbrev pub standard_input : List ℕ
 standard_input = codes "-"
 
+abbrev pub is_standard : List ℕ → Bool
+is_standard name = bytes_eq name standard_input
+
+-- the name, where there is one
+abbrev pub as_list : Option (List ℕ) → List (List ℕ)
+as_list None = []
+as_list (Some name) = name ∷ []
+
+-- the names of the files that are read: the first, those behind it, the script and the media list
+abbrev pub names_read : List ℕ → OtherNames → List (List ℕ)
+names_read name others = (name ∷ others.more) ++ (as_list others.script ++ as_list others.media)
+
 -- the standard input is read at most once
-pub record ReadsOnce (name : List ℕ) (others : OtherNames) : Type 0 where
-  pub script : name ≡ standard_input → others.script ≡ Some standard_input → ⊥
-  pub media : name ≡ standard_input → others.media ≡ Some standard_input → ⊥
-  pub both : others.script ≡ Some standard_input → others.media ≡ Some standard_input → ⊥
+abbrev pub ReadsOnce : List ℕ → OtherNames → Type 0
+ReadsOnce name others = count_by is_standard (names_read name others) ≤ 1
 
 -- What is given asks for this command on the file of this name, with this script and media list
 -- where they are read, and with the output into the file of the target's name, or to the standard
@@ -176,6 +228,7 @@ pub record ReadsOnce (name : List ℕ) (others : OtherNames) : Type 0 where
 pub record IsRequest (verb : Verb) (command : Command) (name : List ℕ) (others : OtherNames)
     (target : Option (List ℕ)) (given : Given) : Type 0 where
   pub asked : IsAskedBy verb command name given
+  pub more_are : others.more ≡ given.more
   pub script_is : IsScript command given.script others.script
   pub media_is : IsMedia command given.media others.media
   pub once : ReadsOnce name others

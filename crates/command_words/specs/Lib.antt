@@ -1,4 +1,5 @@
 pub mod Names
 pub mod Options
 pub mod Given
+pub mod Tools
 pub mod Asked

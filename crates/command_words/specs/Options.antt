@@ -1,10 +1,11 @@
--- The options and the file of each command, as one simple command of `clap`.
+-- The options and the files of each command, as one simple command of `clap`.
 use Rattle.std.specs.Prelude.{ℕ, List, [], ◌∷◌, ◌++◌, Some, codes, true}
+use Rattle.clap.specs.Lexer.{usize_max}
 use Rattle.clap.specs.Words.{App, Rule, new_app, new_rule, with_rule}
-use Rattle.clap.specs.declared.builder.action.ArgAction.TheVariants.{Set, SetTrue}
+use Rattle.clap.specs.declared.builder.action.ArgAction.TheVariants.{Append, Set, SetTrue}
 use Rattle.command_words.specs.Names.{word_of}
 use Rattle.command_words.specs.declared.names.Verb.{Verb}
-use Rattle.command_words.specs.declared.names.Verb.TheVariants.{Convert, Frames, Edit}
+use Rattle.command_words.specs.declared.names.Verb.TheVariants.{Convert, Cat, Stat, Tool, Frames, Edit}
 
 -- the option `--NAME`, which takes a value
 abbrev pub valued : List ℕ → Rule
@@ -30,17 +31,44 @@ needed rule = record rule { required = true }
 abbrev pub file : Rule
 file = record (new_rule (codes "file")) { action = Some Set; required = true }
 
+-- one file or more
+abbrev pub files : Rule
+files = record (new_rule (codes "file")) {
+  action = Some Append;
+  range = Some (record { start_inclusive = 1; end_inclusive = usize_max });
+  required = true;
+}
+
+-- the flags of `tool`
+abbrev pub tool_flags : List Rule
+tool_flags = flag (codes "list-tracks") ∷ flag (codes "list-clips") ∷ flag (codes "list-media")
+    ∷ flag (codes "stats") ∷ flag (codes "video-only") ∷ flag (codes "audio-only")
+    ∷ flag (codes "keep-flattened-tracks") ∷ flag (codes "remove-transitions")
+    ∷ flag (codes "concat") ∷ flag (codes "stack") ∷ []
+
 -- the options of one command alone
 abbrev pub own_options : Verb → List Rule
 own_options Convert =
     valued (codes "from") ∷ valued (codes "to") ∷ flag (codes "drop") ∷ flag (codes "wide") ∷ []
+own_options Cat = []
+own_options Stat = []
+own_options Tool = valued (codes "trim") ∷ valued (codes "flatten") ∷ tool_flags
 own_options Frames =
     valued (codes "child") ∷ valued (codes "start") ∷ valued (codes "count") ∷ []
 own_options Edit = needed (valued (codes "script")) ∷ []
 
--- the options and the file of each command that takes lists
-abbrev pub list_arguments : List Rule
-list_arguments = valued (codes "rate") ∷ valued (codes "media") ∷ output ∷ file ∷ []
+-- the options of each command that takes lists
+abbrev pub list_options : List Rule
+list_options = valued (codes "rate") ∷ valued (codes "media") ∷ output ∷ []
+
+-- the files of a command
+abbrev pub files_of : Verb → Rule
+files_of Convert = file
+files_of Cat = files
+files_of Stat = file
+files_of Tool = files
+files_of Frames = file
+files_of Edit = file
 
 -- a command with more options, each in its turn
 abbrev pub with_rules : App → List Rule → App
@@ -53,5 +81,5 @@ unnamed app = record app { top = record app.top { no_binary_name = true } }
 
 -- the command of `clap` that reads the words behind a command's own word
 abbrev pub reader_of : Verb → App
-reader_of verb =
-    with_rules (unnamed (new_app (word_of verb))) (own_options verb ++ list_arguments)
+reader_of verb = with_rules (unnamed (new_app (word_of verb)))
+    (own_options verb ++ list_options ++ files_of verb ∷ [])

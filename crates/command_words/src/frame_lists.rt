@@ -2,8 +2,8 @@
 ghost use Rattle.std.specs.Prelude.{◌≡◌, ℕ, List, Option, MatchOption};
 ghost use Rattle.std.specs.Option.{option_map};
 ghost use Rattle.record_points.specs.Words.{IsWholeNumber, IsPoint};
-ghost use Rattle.command_words.specs.Asked.{AreFrames, IsCount, IsFrameList, IsListing, IsValue};
-ghost use Rattle.command_words.specs.Given.{given_by};
+ghost use Rattle.command_words.specs.Asked.{AreFrames, IsCount, IsFrameList, IsListing};
+ghost use Rattle.command_words.specs.Given.{IsValue, given_by};
 
 use crate::lines::Line;
 use crate::names::is_list_name;

@@ -1,8 +1,9 @@
 //! The words of a command line of `otio`: what they ask for.
 //!
-//! The first word is the command, `convert`, `frames` or `edit`. The words behind it are read by
-//! one simple command of `clap`, with the meaning that `clap` publishes for such commands; what it
-//! has no match for, and a value or a combination that the command doesn't allow, asks for nothing.
+//! The first word is the command: `convert`, `cat`, `stat`, `tool`, `frames` or `edit`. The words
+//! behind it are read by one simple command of `clap`, with the meaning that `clap` publishes for
+//! such commands; what it has no match for, and a value or a combination that the command doesn't
+//! allow, asks for nothing.
 #![tactic(auto)]
 
 mod conversions;
@@ -14,8 +15,12 @@ mod names;
 mod options;
 mod rates;
 mod requests;
+mod several;
 #[cfg(test)]
 mod tests;
+mod tools;
 
 pub use faults::WordsFault;
+pub use names::is_list_name;
 pub use requests::{Command, FramesAsked, Others, Request, one_request, request_of};
+pub use tools::{Flattening, Joining, ToolAsked, TrackKind, Window};

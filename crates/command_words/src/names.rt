@@ -1,6 +1,6 @@
 // The words of commands, and the names of files.
 ghost use Rattle.std.specs.Prelude.{◌≡◌, ◌↔◌, [], ◌∷◌, length, map, string_bytes, IsTrue, MatchOption, bytes_eq};
-ghost use Rattle.command_words.specs.Names.{meaning, verb_words, IsListName};
+ghost use Rattle.command_words.specs.Names.{meaning, verb_words, HasList, IsListName};
 
 use text_lines::strip_back;
 
@@ -9,6 +9,12 @@ use text_lines::strip_back;
 pub enum Verb {
     /// `convert`.
     Convert,
+    /// `cat`.
+    Cat,
+    /// `stat`.
+    Stat,
+    /// `tool`.
+    Tool,
     /// `frames`.
     Frames,
     /// `edit`.
@@ -33,6 +39,15 @@ pub fn verb_of(word: &str) -> Option<Verb>
     if is_word(word, "convert") {
         return Some(Verb::Convert);
     }
+    if is_word(word, "cat") {
+        return Some(Verb::Cat);
+    }
+    if is_word(word, "stat") {
+        return Some(Verb::Stat);
+    }
+    if is_word(word, "tool") {
+        return Some(Verb::Tool);
+    }
     if is_word(word, "frames") {
         return Some(Verb::Frames);
     }
@@ -54,4 +69,16 @@ pub fn is_list_name(name: &str) -> bool
     ensures { IsTrue result ↔ IsListName name.now }
 {
     strip_back(name.as_bytes(), b".edl").is_some()
+}
+
+/// Whether one of some names ends with `.edl`.
+pub fn has_list(names: &[&str]) -> bool
+    ensures { IsTrue result ↔ HasList (map (λ n. n.now) names.now) }
+{
+    for &name in names {
+        if is_list_name(name) {
+            return true;
+        }
+    }
+    false
 }

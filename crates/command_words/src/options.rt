@@ -1,7 +1,7 @@
 // The options and the file of each command, as one simple command of `clap`.
 ghost use Rattle.std.specs.Prelude.{◌≡◌, false, IfOk};
 ghost use Rattle.clap.specs.Words.{app_of, rule_of};
-ghost use Rattle.command_words.specs.Options.{valued as valued_rule, flag as flag_rule, output as output_rule, needed, file as file_rule, list_arguments, own_options, reader_of as reader, unnamed, with_rules};
+ghost use Rattle.command_words.specs.Options.{valued as valued_rule, flag as flag_rule, file as file_rule, files as files_rule, list_options, tool_flags, reader_of as reader, with_rules};
 ghost use Rattle.command_words.specs.Names.{word_of};
 
 use crate::names::Verb;
@@ -14,6 +14,9 @@ pub fn reader_of<'a>(alloc: Global, verb: Verb) -> Result<Command<'a>, AllocErro
 {
     match verb {
         Verb::Convert => convert_reader(alloc),
+        Verb::Cat => cat_reader(alloc),
+        Verb::Stat => stat_reader(alloc),
+        Verb::Tool => tool_reader(alloc),
         Verb::Frames => frames_reader(alloc),
         Verb::Edit => edit_reader(alloc),
     }
@@ -29,7 +32,52 @@ fn convert_reader<'a>(alloc: Global) -> Result<Command<'a>, AllocError>
         .arg(valued(alloc, "to"))?
         .arg(flag(alloc, "drop"))?
         .arg(flag(alloc, "wide"))?;
-    with_list_arguments(alloc, command)
+    with_list_options(alloc, command)?.arg(file(alloc))
+}
+
+// The command that reads the words of `cat`.
+fn cat_reader<'a>(alloc: Global) -> Result<Command<'a>, AllocError>
+    ensures { IfOk result (λ command. app_of command ≡ reader Verb.Cat) }
+{
+    let command = Command::new(alloc, "cat").no_binary_name(true);
+    with_list_options(alloc, command)?.arg(files(alloc))
+}
+
+// The command that reads the words of `stat`.
+fn stat_reader<'a>(alloc: Global) -> Result<Command<'a>, AllocError>
+    ensures { IfOk result (λ command. app_of command ≡ reader Verb.Stat) }
+{
+    let command = Command::new(alloc, "stat").no_binary_name(true);
+    with_list_options(alloc, command)?.arg(file(alloc))
+}
+
+// The command that reads the words of `tool`.
+fn tool_reader<'a>(alloc: Global) -> Result<Command<'a>, AllocError>
+    ensures { IfOk result (λ command. app_of command ≡ reader Verb.Tool) }
+{
+    let command = Command::new(alloc, "tool")
+        .no_binary_name(true)
+        .arg(valued(alloc, "trim"))?
+        .arg(valued(alloc, "flatten"))?;
+    let flagged = with_tool_flags(alloc, command)?;
+    with_list_options(alloc, flagged)?.arg(files(alloc))
+}
+
+// A command with the flags of `tool`.
+fn with_tool_flags<'a>(alloc: Global, command: Command<'a>) -> Result<Command<'a>, AllocError>
+    ensures { IfOk result (λ more. app_of more ≡ with_rules (app_of command.entry) tool_flags) }
+{
+    command
+        .arg(flag(alloc, "list-tracks"))?
+        .arg(flag(alloc, "list-clips"))?
+        .arg(flag(alloc, "list-media"))?
+        .arg(flag(alloc, "stats"))?
+        .arg(flag(alloc, "video-only"))?
+        .arg(flag(alloc, "audio-only"))?
+        .arg(flag(alloc, "keep-flattened-tracks"))?
+        .arg(flag(alloc, "remove-transitions"))?
+        .arg(flag(alloc, "concat"))?
+        .arg(flag(alloc, "stack"))
 }
 
 // The command that reads the words of `frames`.
@@ -41,7 +89,7 @@ fn frames_reader<'a>(alloc: Global) -> Result<Command<'a>, AllocError>
         .arg(valued(alloc, "child"))?
         .arg(valued(alloc, "start"))?
         .arg(valued(alloc, "count"))?;
-    with_list_arguments(alloc, command)
+    with_list_options(alloc, command)?.arg(file(alloc))
 }
 
 // The command that reads the words of `edit`.
@@ -51,18 +99,17 @@ fn edit_reader<'a>(alloc: Global) -> Result<Command<'a>, AllocError>
     let command = Command::new(alloc, "edit")
         .no_binary_name(true)
         .arg(valued(alloc, "script").required(true))?;
-    with_list_arguments(alloc, command)
+    with_list_options(alloc, command)?.arg(file(alloc))
 }
 
-// A command with the options and the file of each command that takes lists.
-fn with_list_arguments<'a>(alloc: Global, command: Command<'a>) -> Result<Command<'a>, AllocError>
-    ensures { IfOk result (λ more. app_of more ≡ with_rules (app_of command.entry) list_arguments) }
+// A command with the options of each command that takes lists.
+fn with_list_options<'a>(alloc: Global, command: Command<'a>) -> Result<Command<'a>, AllocError>
+    ensures { IfOk result (λ more. app_of more ≡ with_rules (app_of command.entry) list_options) }
 {
     command
         .arg(valued(alloc, "rate"))?
         .arg(valued(alloc, "media"))?
-        .arg(valued(alloc, "output").short('o'))?
-        .arg(file(alloc))
+        .arg(valued(alloc, "output").short('o'))
 }
 
 // The option `--NAME`, which takes a value.
@@ -89,4 +136,15 @@ fn file<'a>(alloc: Global) -> Arg<'a>
     Arg::new(alloc, "file")
         .required(true)
         .action(ArgAction::Set)
+}
+
+// One file or more.
+fn files<'a>(alloc: Global) -> Arg<'a>
+    ensures rule { rule_of result ≡ files_rule }
+    ensures local { result.global ≡ false }
+{
+    Arg::new(alloc, "file")
+        .required(true)
+        .action(ArgAction::Append)
+        .num_args(1..)
 }

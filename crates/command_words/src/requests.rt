@@ -1,7 +1,7 @@
 // What a command line asks for.
-ghost use Rattle.std.specs.Prelude.{◌≡◌, ◌↔◌, ℕ, List, Option, Some, map, string_bytes, IsTrue, MatchOption, MatchResult};
+ghost use Rattle.std.specs.Prelude.{◌≡◌, ◌↔◌, ◌≤◌, ℕ, List, Option, count_by, map, string_bytes, IsTrue, MatchOption, MatchResult};
 ghost use Rattle.std.specs.Option.{option_map};
-ghost use Rattle.command_words.specs.Asked.{Ask, IsAskedBy, IsMedia, IsRequest, IsScript, NoRequest, OtherNames, ReadsOnce, other_names, standard_input};
+ghost use Rattle.command_words.specs.Asked.{Ask, IsAskedBy, IsMedia, IsRequest, IsScript, NoRequest, OtherNames, ReadsOnce, other_names, as_list, is_standard as is_standard_name};
 ghost use Rattle.command_words.specs.Given.{given_by};
 
 use crate::conversions::conversion_of;
@@ -10,9 +10,10 @@ use crate::faults::WordsFault;
 use crate::frame_lists::frame_list_of;
 use crate::lines::{Line, line_of};
 use crate::names::{Verb, first_word, verb_of};
+use crate::several::{cat_of, stat_of, tool_of};
+use crate::tools::ToolAsked;
 use record_points::RecordPoint;
 use std::alloc::Global;
-use text_lines::is_text;
 use tick_time::Rate;
 
 /// What is to be done with a file.
@@ -43,6 +44,29 @@ pub enum Command {
     ToObjects,
     /// A JSON text is written in its layout.
     ToJson,
+    /// Timelines are joined one after another, and the outcome is written as by `ToObjects`.
+    Cat,
+    /// The same where lists are among the files, which are conformed first.
+    ListCat {
+        /// The rate of the lists, in frames a second.
+        rate: Rate,
+    },
+    /// The items of a timeline are counted.
+    Stat,
+    /// The same of the timeline that a list conforms to.
+    ListStat {
+        /// The rate of the list, in frames a second.
+        rate: Rate,
+    },
+    /// Timelines are joined, changed and listed.
+    Tool(ToolAsked),
+    /// The same where lists are among the files, which are conformed first.
+    ListTool {
+        /// The rate of the lists, in frames a second.
+        rate: Rate,
+        /// What is done and listed.
+        tool: ToolAsked,
+    },
     /// What a timeline shows is listed, a row for each record frame.
     Frames(FramesAsked),
     /// What the timeline shows that a list conforms to is listed.
@@ -74,8 +98,10 @@ pub struct FramesAsked {
 }
 
 /// The names of the files that are read behind the first. `-` is the standard input.
-#[derive(Clone, Copy)]
+#[derive(Drop)]
 pub struct Others<'a> {
+    /// The names of the other files of a command that takes several; empty for other commands.
+    pub more: Vec<&'a str>,
     /// The name of the script of an edit; none for other commands.
     pub script: Option<&'a str>,
     /// The name of the media list that lists are conformed with, that a script's clips are taken
@@ -85,11 +111,11 @@ pub struct Others<'a> {
 }
 
 /// What a command line asks for. The standard input is read at most once.
-#[derive(Clone, Copy)]
+#[derive(Drop)]
 pub struct Request<'a> {
     /// What is to be done.
     pub command: Command,
-    /// The name of the file; `-` is the standard input.
+    /// The name of the file, or of the first of several; `-` is the standard input.
     pub name: &'a str,
     /// The names of the files that are read behind it.
     pub others: Others<'a>,
@@ -97,8 +123,8 @@ pub struct Request<'a> {
     pub target: Option<&'a str>,
 }
 
-/// What the words behind the program's name ask for: `Usage` exactly where they ask for nothing, but
-/// that want of memory may come at any words.
+/// What the words behind the program's name ask for. Words that ask for nothing get `Usage`, and no
+/// others do; want of memory may come at any words.
 pub fn request_of(alloc: Global, words: &[String]) -> Result<Request<'_>, WordsFault>
     ensures { let said = map (λ w. string_bytes w) words.now in MatchResult result
         (λ request. Ask said request.command request.name.now (other_names request.others)
@@ -111,7 +137,7 @@ pub fn request_of(alloc: Global, words: &[String]) -> Result<Request<'_>, WordsF
         return Err(WordsFault::Usage);
     };
     match line_of(alloc, verb, behind) {
-        Ok(line) => match request_in(verb, &line) {
+        Ok(line) => match request_in(verb, line) {
             Some(request) => Ok(request),
             None => Err(WordsFault::Usage),
         },
@@ -120,33 +146,38 @@ pub fn request_of(alloc: Global, words: &[String]) -> Result<Request<'_>, WordsF
 }
 
 // What is asked for by what a line gives.
-fn request_in<'a>(verb: Verb, line: &Line<'a>) -> Option<Request<'a>>
-    ensures { let given = given_by line.now in MatchOption result
+fn request_in<'a>(verb: Verb, line: Line<'a>) -> Option<Request<'a>>
+    ensures { let given = given_by line.entry in MatchOption result
         ((command : Command) (name : List ℕ) (others : OtherNames) (target : Option (List ℕ)) →
         IsRequest verb command name others target given → ⊥)
         (λ request. IsRequest verb request.command request.name.now (other_names request.others)
         (option_map (λ s. s.now) request.target) given) }
 {
-    let Some((command, name)) = command_in(verb, line) else {
+    let Some((command, name)) = command_in(verb, &line) else {
         return None;
     };
     let Some(media) = media_of(command, line.media) else {
         return None;
     };
     let script = script_of(command, line.script);
-    let others = Others { script, media };
-    if !is_read_once(name, others) {
+    let target = line.target;
+    let others = Others {
+        more: line.more,
+        script,
+        media,
+    };
+    if !is_read_once(name, &others) {
         return None;
     }
     Some(Request {
         command,
         name,
         others,
-        target: line.target,
+        target,
     })
 }
 
-// The command that the options and the file of a line ask for, and the file's name.
+// The command that the options and the files of a line ask for, and the first file's name.
 fn command_in<'a>(verb: Verb, line: &Line<'a>) -> Option<(Command, &'a str)>
     ensures { let given = given_by line.now in MatchOption result
         ((command : Command) (name : List ℕ) → IsAskedBy verb command name given → ⊥)
@@ -154,6 +185,9 @@ fn command_in<'a>(verb: Verb, line: &Line<'a>) -> Option<(Command, &'a str)>
 {
     match verb {
         Verb::Convert => conversion_of(line),
+        Verb::Cat => cat_of(line),
+        Verb::Stat => stat_of(line),
+        Verb::Tool => tool_of(line),
         Verb::Frames => frame_list_of(line),
         Verb::Edit => edit_of(line),
     }
@@ -173,7 +207,10 @@ fn media_of<'a>(command: Command, named: Option<&'a str>) -> Option<Option<&'a s
         Command::ListToObjects { .. } | Command::ListFrames { .. } => Some(named),
         Command::TimelineToList { .. } => Some(named),
         Command::Edit | Command::ListEdit { .. } => Some(named),
+        Command::ListCat { .. } | Command::ListStat { .. } => Some(named),
+        Command::ListTool { .. } => Some(named),
         Command::ToObjects | Command::ToJson | Command::Frames(_) => Some(None),
+        Command::Cat | Command::Stat | Command::Tool(_) => Some(None),
     }
 }
 
@@ -187,37 +224,47 @@ fn script_of<'a>(command: Command, named: Option<&'a str>) -> Option<&'a str>
         Command::ListToList { .. } | Command::ListToObjects { .. } => None,
         Command::TimelineToList { .. } | Command::ToObjects | Command::ToJson => None,
         Command::Frames(_) | Command::ListFrames { .. } => None,
+        Command::Cat | Command::Stat | Command::Tool(_) => None,
+        Command::ListCat { .. } | Command::ListStat { .. } => None,
+        Command::ListTool { .. } => None,
     }
 }
 
 // Whether the standard input is read at most once.
-fn is_read_once(name: &str, others: Others<'_>) -> bool
-    ensures { IsTrue result ↔ ReadsOnce name.now (other_names others.entry) }
+fn is_read_once(name: &str, others: &Others<'_>) -> bool
+    ensures { IsTrue result ↔ ReadsOnce name.now (other_names others.now) }
 {
-    let script = is_standard_other(others.script);
-    let media = is_standard_other(others.media);
-    if is_standard(name) {
-        !script && !media
-    } else {
-        !script || !media
+    let behind = standard_count(others.more.as_slice()).min(2);
+    let single = one_standard(Some(name))
+        + one_standard(others.script)
+        + one_standard(others.media);
+    behind + single <= 1
+}
+
+// How many of some files are the standard input.
+fn standard_count(names: &[&str]) -> usize
+    ensures { result ≡ count_by (λ n. is_standard_name n.now) names.now }
+{
+    names.iter().filter(|&&name| is_standard(name)).count()
+}
+
+// How many of one file that may be read are the standard input.
+fn one_standard(name: Option<&str>) -> usize
+    ensures count { let named = option_map (λ s. s.now) name.entry in
+        result ≡ count_by is_standard_name (as_list named) }
+    ensures most { result ≤ 1 }
+{
+    match name {
+        Some(name) => { if is_standard(name) { 1 } else { 0 } }
+        None => 0,
     }
 }
 
 // Whether a name is that of the standard input.
 fn is_standard(name: &str) -> bool
-    ensures { IsTrue result ↔ (name.now ≡ standard_input) }
+    ensures { result ≡ is_standard_name name.now }
 {
-    is_text(name.as_bytes(), b"-")
-}
-
-// Whether a file that may be read is the standard input.
-fn is_standard_other(name: Option<&str>) -> bool
-    ensures { IsTrue result ↔ (option_map (λ s. s.now) name.entry ≡ Some standard_input) }
-{
-    match name {
-        Some(name) => is_standard(name),
-        None => false,
-    }
+    name == "-"
 }
 
 /// Law: words ask for at most one command on at most one file, with at most one script, one media

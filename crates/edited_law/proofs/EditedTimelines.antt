@@ -6,22 +6,16 @@ use Rattle.std.specs.Prelude.{IsSomeAnd, int_lt, is_none, option_and_then, slice
 use Rattle.otio_model.specs.declared.compositions.ItemOf.{ItemOf}
 use Rattle.otio_model.specs.declared.compositions.ItemOf.TheVariants.{Track}
 use Rattle.otio_model.specs.declared.compositions.Listed.{Listed}
-use Rattle.otio_model.specs.declared.compositions.StackOf.{StackOf}
-use Rattle.otio_model.specs.declared.compositions.TrackOf.{TrackOf}
 use Rattle.otio_model.specs.declared.editing.Edit.{Edit}
 use Rattle.otio_model.specs.declared.editing.EditFault.{EditFault}
 use Rattle.otio_model.specs.declared.editing.EditFault.TheVariants as F
 use Rattle.otio_model.specs.declared.patches.Patch.{Patch}
-use Rattle.otio_model.specs.declared.roots.Object.{Timeline as ObjectOfTimeline, out-Object}
-use Rattle.otio_model.specs.declared.roots.Object.TheOpen.{Object-F}
-use Rattle.otio_model.specs.declared.roots.Object.TheViews.{roll-Object}
 use Rattle.otio_model.specs.declared.timelines.Timeline.{Timeline}
 use Rattle.otio_model.specs.Edits.{IsTrack, list_at, replaced}
 use Rattle.otio_model.specs.Misplaced.{side_by_side}
 use Rattle.otio_model.specs.Patches.{IsFit, applied, with_list}
 use Rattle.otio_model.specs.Trees.{children_of, item_at, items_of}
 use Rattle.coord.specs.Soundness.{IsSound}
-use Rattle.cuts.specs.Children.{Child, all_made}
 use Rattle.cuts.specs.Cuts.{olds}
 use Rattle.edits.specs.After.{at_of, frame_of, list_of, place_of, rate_of, with_items}
 use Rattle.edits.specs.Edges.{Held, held_at}
@@ -35,43 +29,18 @@ use Rattle.depths.proofs.Depth.{leads}
 use Rattle.depths.proofs.Premises.{premises}
 use Rattle.edits_sound.proofs.Apart.{Apart, apart_items, items_apart}
 use Rattle.edits_sound.proofs.ApartEdits.{edited_apart}
-use Rattle.edits_sound.proofs.MadeParts.{made_apart, made_none, made_parts}
+use Rattle.edits_sound.proofs.MadeParts.{made_apart}
 use Rattle.edits_sound.proofs.Places.{children_at}
-use Rattle.object_law.specs.Writable as W
 use Rattle.object_law.specs.Writable.{AreItems, IsItem, IsTimeline}
-use Rattle.schema_rows.specs.Stands.{Stands}
-use Rattle.schema_write.specs.Objects.{json_of}
-use Rattle.object_law.proofs.Writables.{object_given}
 use Rattle.object_law.proofs.PatchedTimelines.{item_in, patched_is_writable}
+use Rattle.writable_law.proofs.CalmTimelines.{children_are, stack_items}
+use Rattle.writable_law.proofs.MadeChildren.{made_are}
 use Rattle.edited_law.specs.Items.{HasWritableItem}
-use Rattle.edited_law.proofs.WritableChildren.{AreWritable, AreWritableChildren, all_items}
-use Rattle.edited_law.proofs.WritableChildren.{each_item}
+use Rattle.writable_law.proofs.WritableChildren.{AreWritable, all_items}
+use Rattle.writable_law.proofs.WritableChildren.{each_item}
 use Rattle.edited_law.proofs.WritableEdits.{edited_are}
 
 -- ---- the old list
-
-stack_items : (s : StackOf Listed) → W.IsStack s → AreItems (items_of s.children)
-stack_items s (W.stack_of _ o effects markers none items) = items
-
-track_items : (t : TrackOf Listed) → W.IsTrack t → AreItems (items_of t.children)
-track_items t (W.track_of _ o effects markers apart items) = items
-
-children_are : (x : ItemOf Listed) (l : Listed) → IsItem x → children_of x ≡ Some l
-    → AreItems (items_of l)
-children_are x l (W.clip _ c e h) f =
-    absurd (let g : None ≡ Some l = sym (ap children_of e) ∙ f in cc)
-children_are x l (W.gap _ g e h) f =
-    absurd (let k : None ≡ Some l = sym (ap children_of e) ∙ f in cc)
-children_are x l (W.transition _ t e h) f =
-    absurd (let g : None ≡ Some l = sym (ap children_of e) ∙ f in cc)
-children_are x l (W.stack _ s e h) f =
-    let g : Some s.children ≡ Some l = sym (ap children_of e) ∙ f in
-    let same : s.children ≡ l = cc in
-    subst (λ k. AreItems (items_of k)) same (stack_items s h)
-children_are x l (W.track _ t e h) f =
-    let g : Some t.children ≡ Some l = sym (ap children_of e) ∙ f in
-    let same : t.children ≡ l = cc in
-    subst (λ k. AreItems (items_of k)) same (track_items t h)
 
 -- whatever list a place leads to has writable items
 abbrev LeadsToItems : List ℕ → Type 0
@@ -128,14 +97,6 @@ right_speed t e f l h k =
 
 -- ---- the new list
 
-made_are : (t : Timeline) (l : List Child) (m : List (ItemOf Listed))
-    → all_made (rate_of t) l ≡ Some m → AreWritableChildren l → AreWritable m
-made_are t [] m e k = subst AreWritable (made_none (rate_of t) m e) tt
-made_are t (c ∷ l) m e k =
-    let d = made_parts (rate_of t) c l m e in
-    subst AreWritable d.all
-    (k.0 (rate_of t) d.first d.first_is, made_are t l d.others d.others_are k.1)
-
 past : {A : Type 0} (l : List A) → drop (length l) l ≡ []
 past [] = refl
 past (x ∷ l) = past l
@@ -166,7 +127,7 @@ stays_writable t e new s h i v a =
     let w = right_speed t e (frame_of t) (list_of t e)
     (held_at (list_of t e) (at_of e *ℤ frame_of t))
     (later (place_fault (place_of e) t) _ a.early) in
-    let items = made_are t (edited (frame_of t) e (list_of t e)) d.items d.are
+    let items = made_are (rate_of t) (edited (frame_of t) e (list_of t e)) d.items d.are
     (edited_are (frame_of t) e (list_of t e) old v w) in
     let calm : Apart false (olds (list_of t e)) = apart_items (list_of t e)
     (ap side_by_side same ∙ s.calm.items (place_of e) (Track p.track) there) in
@@ -187,13 +148,3 @@ stays_writable t e new s h i v a =
     subst IsTimeline gives
     (patched_is_writable q t l fit found h (all_items d.items items)
     (ap side_by_side (sym all) ∙ apart))
-
-timeline_out : (t : Timeline) → out-Object (ObjectOfTimeline t) ≡ Object-F.Timeline t
-unfolding roll-Object denote.Hole.Carrier.roll out-Object denote.Hole.Carrier.out
-timeline_out t = refl
-
--- what is written of a writable timeline stands for it
-pub stands_again : (t : Timeline) → IsTimeline t
-    → Stands (json_of (ObjectOfTimeline t)) (ObjectOfTimeline t)
-stands_again t h =
-    object_given (ObjectOfTimeline t) (W.timeline (ObjectOfTimeline t) t (timeline_out t) h)

@@ -1,4 +1,3 @@
 pub mod EditedTimelines
-pub mod WritableChildren
 pub mod WritableEdits
 pub mod WritableScripts

@@ -13,11 +13,9 @@ use Rattle.otio_model.specs.declared.editing.RemoveMode.{RemoveMode}
 use Rattle.otio_model.specs.declared.editing.RemoveMode.TheVariants as R
 use Rattle.otio_model.specs.Lengths.{trimmed_start}
 use Rattle.otio_model.specs.Trees.{is_transition}
-use Rattle.coord.specs.Sights.{overlap_of}
 use Rattle.coord.specs.Speeds.{media_at, speed_of}
-use Rattle.cuts.specs.Splices.{is_stripped}
 use Rattle.cuts.specs.Children.{Child, Old, ticks}
-use Rattle.cuts.specs.Cuts.{strip, olds, front, back, put_between}
+use Rattle.cuts.specs.Cuts.{strip, olds, front, put_between}
 use Rattle.edits.specs.After.{at_of}
 use Rattle.edits.specs.Edges.{Held, Moves, first_changed, first_item, gap_of, grown, held_at}
 use Rattle.edits.specs.Edges.{is_gap, is_gap_at, is_zero, item_zone, last_changed, last_item}
@@ -31,25 +29,11 @@ use Rattle.edits_law.proofs.Accepted.{found}
 use Rattle.edits_law.proofs.Parted.{lt_yes, le_yes}
 use Rattle.edits_sound.proofs.Apart.{le_not, lt_not}
 use Rattle.object_law.specs.Writable.{IsItem}
+use Rattle.writable_law.proofs.MadeChildren.{all_olds, back_is, join, stripped}
 use Rattle.edited_law.specs.Items.{HasWritableItem}
-use Rattle.edited_law.proofs.WritableChildren.{AreWritable, AreWritableChildren, IsWritableChild}
-use Rattle.edited_law.proofs.WritableChildren.{fit_writable, gap_writable, old_writable}
-use Rattle.edited_law.proofs.WritableChildren.{ranged_writable}
-
-join : (l m : List Child) → AreWritableChildren l → AreWritableChildren m
-    → AreWritableChildren (l ++ m)
-join [] m a b = b
-join (c ∷ l) m a b = (a.0, join l m a.1 b)
-
-all_olds : (l : List (ItemOf Listed)) → AreWritable l → AreWritableChildren (olds l)
-all_olds [] r = tt
-all_olds (x ∷ l) r = (old_writable x r.0, all_olds l r.1)
-
-stripped : (l : List (ItemOf Listed)) (a b : ℤ) → AreWritable l → AreWritable (strip l a b)
-stripped [] a b r = tt
-stripped (x ∷ l) a b r = cases (is_stripped a b (overlap_of x))
-    (λ s. rw s (stripped l a b r.1))
-    (λ s. rw s (r.0, stripped l (a -ℤ ticks x) (b -ℤ ticks x) r.1))
+use Rattle.writable_law.proofs.WritableChildren.{AreWritable, AreWritableChildren, IsWritableChild}
+use Rattle.writable_law.proofs.WritableChildren.{fit_writable, gap_writable, old_writable}
+use Rattle.writable_law.proofs.WritableChildren.{ranged_writable}
 
 front_is : (l : List (ItemOf Listed)) (t : ℤ) → AreWritable l → AreWritableChildren (front l t)
 front_is [] t r = cases (int_lt (pos 0) t) (λ s. rw s (gap_writable t, tt)) (λ s. rw s tt)
@@ -60,18 +44,6 @@ front_is (x ∷ l) t r = by_lt_z (pos 0) t
     (λ k. let f = le_yes (ticks x) t k in
     rw (e, f) (old_writable x r.0, front_is l (t -ℤ ticks x) r.1)))
     (λ h. let e = lt_not (pos 0) t h in rw e tt)
-
-back_is : (l : List (ItemOf Listed)) (t : ℤ) → AreWritable l → AreWritableChildren (back l t)
-back_is [] t r = tt
-back_is (x ∷ l) t r = by_lt_z (pos 0) t
-    (λ h. let e = lt_yes (pos 0) t h in by_lt_z t (ticks x)
-    (λ k. let f = le_not (ticks x) t k in
-    rw (e, f) (
-      ranged_writable x (media_at (trimmed_start x) (speed_of x) t) (ticks x -ℤ t) r.0,
-      all_olds l r.1,
-    ))
-    (λ k. let f = le_yes (ticks x) t k in rw (e, f) (back_is l (t -ℤ ticks x) r.1)))
-    (λ h. let e = lt_not (pos 0) t h in rw e (old_writable x r.0, all_olds l r.1))
 
 between : (l : List (ItemOf Listed)) (a b c d : ℤ) (n : List Child) → AreWritable l
     → AreWritableChildren n → AreWritableChildren (put_between (strip l a b) c n d)

@@ -29,7 +29,7 @@ use Rattle.object_law.specs.Writable as W
 use Rattle.object_law.specs.Writable.{IsItem, IsTimeline}
 use Rattle.edited_law.specs.Items.{HasWritableItem}
 use Rattle.edited_law.proofs.EditedTimelines.{stays_writable}
-use Rattle.edited_law.proofs.WritableChildren.{gap_writable}
+use Rattle.writable_law.proofs.WritableChildren.{gap_writable}
 
 -- ---- what commands put in
 

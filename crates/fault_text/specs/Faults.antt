@@ -23,6 +23,8 @@ use Rattle.otio_model.specs.declared.editing.EditFault.{EditFault}
 use Rattle.otio_model.specs.declared.editing.EditFault.TheVariants as edit
 use Rattle.undo_log.specs.declared.faults.UndoFault.{UndoFault}
 use Rattle.undo_log.specs.declared.faults.UndoFault.TheVariants as undo
+use Rattle.flat.specs.declared.faults.FlatFault.{FlatFault}
+use Rattle.flat.specs.declared.faults.FlatFault.TheVariants as flat
 use Rattle.fault_text.specs.Reasons.{refusal, number_text, item_text, field_text, line_at_text}
 
 -- bytes that are no JSON text
@@ -106,6 +108,10 @@ conform_fault_text (conform.Outside line) =
 conform_fault_text conform.Items = refusal (codes "Q4") (codes "Items") []
 conform_fault_text conform.Memory = []
 
+-- an object, or timelines one after another or above each other, of too many items
+abbrev pub items_text : List ℕ
+items_text = refusal (codes "G1") (codes "Items") []
+
 -- a value that stands for no object
 abbrev pub fault_text : SchemaFault → List ℕ
 fault_text (schema.NotObject place) = refusal (codes "S1") (codes "NotObject") (item_text place)
@@ -117,7 +123,7 @@ fault_text (schema.Field place member) =
 fault_text (schema.Rate place) = refusal (codes "S5") (codes "Rate") (item_text place)
 fault_text (schema.Range place) = refusal (codes "S6") (codes "Range") (item_text place)
 fault_text (schema.Transitions place) = refusal (codes "S7") (codes "Transitions") (item_text place)
-fault_text schema.Items = refusal (codes "G1") (codes "Items") []
+fault_text schema.Items = items_text
 fault_text schema.Memory = []
 
 -- a timeline that isn't sound
@@ -173,3 +179,12 @@ not_timeline_text = refusal (codes "G3") (codes "NotTimeline") []
 -- a record point that is no label at the record rate
 abbrev pub range_text : List ℕ
 range_text = refusal (codes "X4") (codes "Range") []
+
+-- a timeline that isn't flattened, cut to a window or joined
+abbrev pub flat_fault_text : FlatFault → List ℕ
+flat_fault_text (flat.Nested place) = refusal (codes "X1") (codes "Nested") (item_text place)
+flat_fault_text (flat.Transition place) =
+    refusal (codes "X2") (codes "Transition") (item_text place)
+flat_fault_text (flat.Phase place) = refusal (codes "X3") (codes "Phase") (item_text place)
+flat_fault_text flat.Range = range_text
+flat_fault_text flat.Memory = []

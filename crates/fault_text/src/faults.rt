@@ -3,12 +3,13 @@
 ghost use Rattle.std.specs.Prelude.{◌≡◌, ◌≢◌, [], MatchOption};
 ghost use Rattle.fault_text.specs.Reasons.{reason_text, refusal, number_text, item_text, field_text, line_at_text};
 ghost use Rattle.fault_text.specs.Faults.{script_fault_text, far_command_text, unlisted_text, edit_fault_text, undo_fault_text};
-ghost use Rattle.fault_text.specs.Faults.{json_fault_text, list_fault_text, media_fault_text, conform_fault_text, fault_text, coord_fault_text, not_carried_text, why_text, no_timecode_text, events_text, reel_text, day_text, not_timeline_text, range_text};
+ghost use Rattle.fault_text.specs.Faults.{json_fault_text, list_fault_text, media_fault_text, conform_fault_text, fault_text, coord_fault_text, not_carried_text, why_text, no_timecode_text, events_text, reel_text, day_text, not_timeline_text, range_text, flat_fault_text, items_text};
 
 use crate::reasons::{Detail, Reason};
 use coord::CoordFault;
 use edl_frames::{ConformFault, NotCarried, Why};
 use edl_text::EdlFault;
+use flat::FlatFault;
 use json_text::JsonFault;
 use media_list::MediaFault;
 use otio_model::{EditFault, Place};
@@ -159,7 +160,7 @@ pub fn schema_reason(fault: SchemaFault) -> Option<Reason>
         SchemaFault::Rate(place) => Some(item_reason("S5", "Rate", place)),
         SchemaFault::Range(place) => Some(item_reason("S6", "Range", place)),
         SchemaFault::Transitions(place) => Some(item_reason("S7", "Transitions", place)),
-        SchemaFault::Items => Some(bare_reason("G1", "Items")),
+        SchemaFault::Items => Some(items_reason()),
         SchemaFault::Memory => None,
     }
 }
@@ -250,6 +251,29 @@ pub fn not_timeline_reason() -> Reason
     ensures { reason_text result ≡ not_timeline_text }
 {
     bare_reason("G3", "NotTimeline")
+}
+
+/// Timelines one after another or above each other have too many items.
+pub fn items_reason() -> Reason
+    ensures { reason_text result ≡ items_text }
+{
+    bare_reason("G1", "Items")
+}
+
+/// What is told of a timeline that isn't flattened, cut to a window or joined, with the place of the
+/// child, but for a window out of range; `None` exactly for want of memory.
+pub fn flat_reason(fault: FlatFault) -> Option<Reason>
+    ensures { MatchOption result (fault ≡ FlatFault.Memory)
+        (λ reason. (fault ≢ FlatFault.Memory)
+        × (reason_text reason ≡ flat_fault_text fault)) }
+{
+    match fault {
+        FlatFault::Nested(place) => Some(item_reason("X1", "Nested", place)),
+        FlatFault::Transition(place) => Some(item_reason("X2", "Transition", place)),
+        FlatFault::Phase(place) => Some(item_reason("X3", "Phase", place)),
+        FlatFault::Range => Some(range_reason()),
+        FlatFault::Memory => None,
+    }
 }
 
 /// A record point is no label at the record rate.

@@ -10,9 +10,9 @@ mod reasons;
 
 pub use faults::{
     conform_reason, coord_reason, day_reason, edit_reason, events_reason, far_command_reason,
-    json_reason, list_reason, media_reason, no_timecode_reason, not_carried_reason,
-    not_timeline_reason, range_reason, reel_reason, schema_reason, script_reason, undo_reason,
-    unlisted_reason,
+    flat_reason, items_reason, json_reason, list_reason, media_reason, no_timecode_reason,
+    not_carried_reason, not_timeline_reason, range_reason, reel_reason, schema_reason,
+    script_reason, undo_reason, unlisted_reason,
 };
 pub use reasons::{Detail, Reason, put_reason};
 

@@ -35,7 +35,7 @@ use Rattle.flat_law.proofs.Fit.{measured, plain_sum}
 use Rattle.flat_law.proofs.Givers.{bare_of}
 use Rattle.flat_stack.specs.Uncut.{is_cut, AreCutTo}
 use Rattle.flat_stack.specs.Passed.{back_of, one_passed, both_lists, passed, IsPut, IsBetween}
-use Rattle.flat_stack.proofs.WindowFaults.{added_next}
+use Rattle.flat_roots.proofs.RootLemmas.{added_next}
 
 -- ---- tests
 

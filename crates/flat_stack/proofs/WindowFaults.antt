@@ -1,16 +1,10 @@
 -- What is wrong with root children that are cut at two instants, found child by child.
-use mathlib.Core.Path.{Path}
-use Rattle.std.proofs.Common.{◌≡◌, refl, sym, subst, ap, ◌∙◌, ◌⊎◌, inl, inr, ℕ, zero, suc, ◌+◌, ◌<◌, ◌≤◌, ◌^◌, ℤ, pos, ◌+ℤ◌, ◌-ℤ◌, ◌≤ℤ◌, ◌&&◌, Bool, true, false, Option, Some, None, List, [], ◌∷◌, length, take, arith}
-use Rattle.std.specs.Prelude.{slice_get, slice_index_or, option_and_then}
+use Rattle.std.proofs.Common.{◌≡◌, refl, sym, subst, ap, ◌∙◌, ◌⊎◌, inl, inr, ℕ, ◌+◌, ◌<◌, ◌≤◌, ℤ, pos, ◌+ℤ◌, ◌-ℤ◌, ◌≤ℤ◌, ◌&&◌, Bool, true, false, Some, List, [], ◌∷◌, length, take, arith}
+use Rattle.std.specs.Prelude.{slice_get}
 use Rattle.std.proofs.lemmas.Int.{ints}
 use Rattle.otio_model.specs.declared.compositions.ItemOf.{ItemOf}
-use Rattle.otio_model.specs.declared.compositions.ItemOf.TheVariants.{Clip, Gap, Transition, Stack, Track}
 use Rattle.otio_model.specs.declared.compositions.Listed.{Listed}
-use Rattle.otio_model.specs.Counts.{count, count_of}
-use Rattle.otio_model.specs.Trees.{items_of, children_of, below}
-use Rattle.otio_model.proofs.LengthLimits.{few_enough}
-use Rattle.coord.specs.Soundness.{Precedes, AreFaultless, IsFaultlessItem}
-use Rattle.coord.proofs.Members.{got_below, child_few}
+use Rattle.coord.proofs.Members.{got_below}
 use Rattle.cuts.specs.Children.{ticks}
 use Rattle.edits.specs.Edges.{added}
 use Rattle.flat.specs.declared.faults.Cause.{Cause}
@@ -20,55 +14,14 @@ use Rattle.flat.specs.Roots.{is_plain, items_in}
 use Rattle.flat.specs.Pieces.{cuts_at}
 use Rattle.flat.specs.Windowed.{WindowBlocks}
 use Rattle.flat.specs.Windowed as W
-use Rattle.pieces.specs.Short.{AreCuttable}
 use Rattle.flat_law.proofs.Stretches.{same_some}
-use Rattle.flat_stack.specs.Sought.{Under, StartsBelow, IsFreeTo, inner_place}
+use Rattle.flat_roots.specs.Sought.{Under, StartsBelow, IsFreeTo}
 use Rattle.flat_stack.specs.Uncut.{is_cut, AreCutTo, IsUncut, IsPassed}
-use Rattle.flat_stack.proofs.FirstLemmas.{first_under, free_all, below_or}
-
--- ---- places
-
-head_is : (k j : ℕ) (p q : List ℕ) → k ∷ p ≡ j ∷ q → k ≡ j
-head_is k j p q e = ap (λ l. slice_index_or l 0 0) e
-
-next_is : (k j i n : ℕ) (p q : List ℕ) → k ∷ i ∷ p ≡ j ∷ n ∷ q → i ≡ n
-next_is k j i n p q e = ap (λ l. slice_index_or l 1 0) e
-
-one_two : (k j i : ℕ) → Path (List ℕ) (k ∷ []) (j ∷ i ∷ []) → ⊥
-one_two k j i e = let g : 1 ≡ 2 = ap length e in omega (arith, g)
-
-two_one : (k j i : ℕ) (p : List ℕ) → Path (List ℕ) (k ∷ i ∷ p) (j ∷ []) → ⊥
-two_one k j i p e = let g : suc (suc (length p)) ≡ 1 = ap length e in omega (arith, g)
-
-none_one : (k : ℕ) (p : List ℕ) → Path (List ℕ) [] (k ∷ p) → ⊥
-none_one k p e = let g : 0 ≡ suc (length p) = ap length e in omega (arith, g)
-
-none_before : (p : List ℕ) → Precedes p [] → ⊥
-none_before [] h = h
-none_before (i ∷ p) h = h
-
-true_false : (b : Bool) → b ≡ true → b ≡ false → ⊥
-true_false b e f = cc (sym e ∙ f)
+use Rattle.flat_roots.proofs.FirstLemmas.{first_under, free_all, below_or}
+use Rattle.flat_roots.proofs.PlaceLemmas.{head_is, next_is, one_two, two_one, none_one, none_before}
+use Rattle.flat_roots.proofs.RootLemmas.{true_false, added_next}
 
 -- ---- a root child
-
-pub plain_items : (x : ItemOf Listed) (c : Listed) → is_plain x ≡ true → children_of x ≡ Some c
-    → items_in x ≡ items_of c
-plain_items (Clip y) c e f = absurd (cc e)
-plain_items (Gap y) c e f = absurd (cc e)
-plain_items (Transition y) c e f = absurd (cc e)
-plain_items (Stack y) c e f = absurd (cc e)
-plain_items (Track y) c e f = ap items_of (same_listed y.children c f)
-  where
-    same_listed : (a b : Listed) → Some a ≡ Some b → a ≡ b
-    same_listed a b g = cc g
-
-pub plain_some : (x : ItemOf Listed) → is_plain x ≡ true → children_of x ≡ None → ⊥
-plain_some (Clip y) e f = cc e
-plain_some (Gap y) e f = cc e
-plain_some (Transition y) e f = cc e
-plain_some (Stack y) e f = cc e
-plain_some (Track y) e f = cc f
 
 pub not_plain_first : (l : List (ItemOf Listed)) (a b : ℤ) (k : ℕ) (x : ItemOf Listed)
     → slice_get l k ≡ Some x → is_plain x ≡ false
@@ -170,19 +123,6 @@ passed_first l a b = record {
   high = omega (arith, ints);
 }
 
-added_more : (l : List (ItemOf Listed)) (i : ℕ) (x : ItemOf Listed) → slice_get l i ≡ Some x
-    → added (take (suc i) l) ≡ added (take i l) +ℤ ticks x
-added_more [] zero x e = absurd (cc e)
-added_more [] (suc i) x e = absurd (cc e)
-added_more (y ∷ l) zero x e =
-    ap (λ z. ticks z +ℤ pos 0) (same_some y x e) ∙ (let k : ticks x +ℤ pos 0 ≡ pos 0 +ℤ ticks x = omega (arith, ints) in k)
-added_more (y ∷ l) (suc i) x e = let h = added_more l i x e in omega (arith, ints, h)
-
-pub added_next : (l : List (ItemOf Listed)) (i : ℕ) (x : ItemOf Listed) → slice_get l i ≡ Some x
-    → added (take (i + 1) l) ≡ added (take i l) +ℤ ticks x
-added_next l i x e =
-    ap (λ n. added (take n l)) (let k : i + 1 ≡ suc i = omega arith in k) ∙ added_more l i x e
-
 at_start : (l : List (ItemOf Listed)) (a b at : ℤ) (i : ℕ) (x : ItemOf Listed)
     → at ≡ added (take i l) → (cuts_at x (a -ℤ at) && cuts_at x (b -ℤ at)) ≡ is_cut l a b i x
 at_start l a b at i x e = ap (λ z. cuts_at x (a -ℤ z) && cuts_at x (b -ℤ z)) e
@@ -219,59 +159,6 @@ found_uncut l a b at i x c p e f g = record {
 pub all_cut : (l : List (ItemOf Listed)) (a b at : ℤ) (i : ℕ) → IsPassed l a b i at → length l ≤ i
     → AreCutTo l a b (length l)
 all_cut l a b at i p h = λ j y less m. p.cut j y (omega (arith, h, less)) m
-
--- ---- what is known of root children
-
-inner_few : (x : ItemOf Listed) (c : Listed) → children_of x ≡ Some c → count_of x < 2 ^ 32
-    → count c < 2 ^ 32
-inner_few (Clip y) c e h = absurd (cc e)
-inner_few (Gap y) c e h = absurd (cc e)
-inner_few (Transition y) c e h = absurd (cc e)
-inner_few (Stack y) c e h =
-    let f : count y.children ≡ count c = ap count (same_listed y.children c e) in omega (arith, h, f)
-  where
-    same_listed : (a b : Listed) → Some a ≡ Some b → a ≡ b
-    same_listed a b g = cc g
-inner_few (Track y) c e h =
-    let f : count y.children ≡ count c = ap count (same_listed y.children c e) in omega (arith, h, f)
-  where
-    same_listed : (a b : Listed) → Some a ≡ Some b → a ≡ b
-    same_listed a b g = cc g
-
-pub inner_short : (x : ItemOf Listed) (c : Listed) → children_of x ≡ Some c → count_of x < 2 ^ 32
-    → length (items_of c) < 2 ^ 32
-inner_short x c e h = let k = few_enough c (inner_few x c e h) in omega (arith, k)
-
-pub inner_cuttable : (x : ItemOf Listed) (c : Listed) → children_of x ≡ Some c → IsFaultlessItem x
-    → count_of x < 2 ^ 32 → AreCuttable (items_of c)
-inner_cuttable x c e s h i y f = record {
-  few = child_few c i y f (inner_few x c e h);
-  sound = s (i ∷ []) y
-      (ap (option_and_then (λ l. option_and_then (below []) (slice_get (items_of l) i))) e
-      ∙ ap (option_and_then (below [])) f);
-}
-
-pub root_faultless : (l : Listed) (i : ℕ) (x : ItemOf Listed) → AreFaultless l
-    → slice_get (items_of l) i ≡ Some x → IsFaultlessItem x
-root_faultless l i x s e p y f = s (i ∷ p) y (ap (option_and_then (below p)) e ∙ f)
-
-starts_later : (n m : ℕ) (place : List ℕ) → n ≤ m → StartsBelow n place → StartsBelow m place
-starts_later n m [] h s = tt
-starts_later n m (i ∷ place) h s = omega (arith, h, s)
-
-pub roots_free : (l : List (ItemOf Listed)) (a b : ℤ) (n : ℕ) → length l ≤ n
-    → IsFreeTo (WindowBlocks l a b) n → IsFree (WindowBlocks l a b)
-roots_free l a b n h free =
-    free_all (WindowBlocks l a b) n free
-    (λ place c k. starts_later (length l) n place h (roots_low l a b place c k))
-
-pub root_first : (l : List (ItemOf Listed)) (a b : ℤ) (k j : ℕ) (child : Option ℕ) (c : Cause)
-    → j ≡ k → IsFreeTo (WindowBlocks l a b) k
-    → IsFirst (Under (WindowBlocks l a b) k) (inner_place child) c
-    → IsFirst (WindowBlocks l a b) (j ∷ inner_place child) c
-root_first l a b k j child c e free f =
-    subst (λ z. IsFirst (WindowBlocks l a b) (z ∷ inner_place child) c) (sym e)
-    (first_under (WindowBlocks l a b) k (inner_place child) c free f)
 
 -- two tests, one after the other
 pub both_tests : (r f a b : Bool) → f ≡ a → f ≡ true → r ≡ b → r ≡ (a && b)

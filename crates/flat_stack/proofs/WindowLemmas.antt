@@ -16,9 +16,9 @@ use Rattle.flat.specs.Blocked.{IsFree, IsFirst}
 use Rattle.flat.specs.Roots.{roots}
 use Rattle.flat.specs.Windowed.{from_start, window_tracks, WindowBlocks}
 use Rattle.flat.specs.Answers.{WindowNames, Windows}
-use Rattle.flat_stack.specs.declared.spots.Spot.{Spot}
+use Rattle.flat_roots.specs.declared.spots.Spot.{Spot}
 use Rattle.flat_stack.specs.Ends.{IsZone, IsCutTo}
-use Rattle.flat_stack.specs.Sought.{IsSaid, spot_place}
+use Rattle.flat_roots.specs.Sought.{IsSaid, spot_place}
 
 pub cut_is : (t : Timeline) (start : Time) (from to : ℤ) (r : Rate) (l : List (ItemOf Listed))
     (c : Listed) → r ≡ rate_of t → window_tracks r from to (roots t) ≡ Some l → c ≡ listed l

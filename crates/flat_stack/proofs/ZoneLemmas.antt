@@ -9,28 +9,19 @@ use Rattle.tick_time.specs.declared.rates.Rate.{Rate}
 use Rattle.tick_time.specs.declared.times.Time.{Time}
 use Rattle.tick_time.specs.Rates.{frame}
 use Rattle.tick_time.specs.Times.{IsInRange, IsWhole}
-use Rattle.tick_time.proofs.SameValues.{same_rate}
 use Rattle.tick_time.proofs.Wholes.{units_of, count-product}
 use Rattle.tick_time.proofs.Units.{unit_positive}
 use Rattle.otio_model.specs.declared.timelines.Timeline.{Timeline}
-use Rattle.coord.specs.Looks.{FrameRate}
 use Rattle.coord.specs.Keys.{frame_rate}
-use Rattle.coord.specs.Programs.{record_rate, start_frame, frame_ticks, first_clip}
+use Rattle.coord.specs.Programs.{start_frame, frame_ticks, first_clip}
 use Rattle.coord.specs.Soundness.{StartsOnFrame}
 use Rattle.cuts.specs.Finest.{in_range, rate_24}
 use Rattle.cuts_law.proofs.Pieces.{sum-times}
 use Rattle.edits.specs.After.{clip_rate, rate_of, frame_of}
-use Rattle.edits.proofs.RecordRates.{rate_is}
 use Rattle.flat.specs.Windowed.{from_start, is_window}
 use Rattle.edits_law.proofs.Accepted.{times_low}
 use Rattle.flat_law.proofs.Windowed.{frame_low}
 use Rattle.flat_stack.specs.Ends.{first_ticks, IsZone}
-
-by_frames : (a b : Rate) → frame_rate a ≡ frame_rate b → a ≡ b
-by_frames a b e = same_rate a b (ap (λ (r : FrameRate). r.num) e) (ap (λ (r : FrameRate). r.den) e)
-
-pub flat_rate_is : (t : Timeline) (a : Rate) → frame_rate a ≡ record_rate t → a ≡ rate_of t
-flat_rate_is t a e = by_frames a (rate_of t) (e ∙ sym (rate_is t))
 
 -- ---- a timeline that starts on a frame
 

@@ -4,3 +4,7 @@ pub mod Sought
 pub mod Uncut
 pub mod Ends
 pub mod Passed
+pub mod Placed
+pub mod Misfits
+pub mod Parts
+pub mod Refused

@@ -4,15 +4,19 @@
 //! Instants and lengths are counted in ticks, those of a track from its start.
 #![tactic(auto)]
 
-mod copying;
 mod cutting;
+mod flat_faults;
+mod flat_tracks;
+mod flattening;
 mod piling;
+mod refusals;
 mod spots;
 mod straightening;
 mod window_faults;
 mod windowing;
 mod zones;
 
+pub use flattening::flatten;
 pub use piling::pile;
 pub use straightening::without_transitions;
 pub use windowing::window;

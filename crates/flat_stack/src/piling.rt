@@ -4,7 +4,7 @@ ghost use Rattle.std.specs.Prelude.{◌≡◌, ◌≢◌, [], ◌∷◌, IfOk, L
 ghost use Rattle.otio_model.specs.declared.timelines.Timeline.{Timeline as AnyTimeline};
 ghost use Rattle.flat.specs.Piled.{IsPiled};
 
-use crate::copying::{copy_behind, copy_with};
+use flat_copies::{copy_behind, copy_with};
 use otio_model::{Item, Timeline};
 use std::alloc::{AllocError, Global};
 

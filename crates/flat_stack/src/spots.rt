@@ -1,48 +1,48 @@
-//! Places at which something is wrong.
+//! Which of two places at which something is wrong stands before the other.
 
-ghost use Rattle.std.specs.Prelude.{◌≡◌, IfOk};
-ghost use Rattle.flat_stack.specs.Sought.{IsNear, IsSaid, spot_place};
+ghost use Rattle.std.specs.Prelude.{◌≡◌};
+ghost use Rattle.flat_stack.specs.Sought as sought;
 
-use flat::{Cause, FlatFault};
-use otio_model::Place;
-use std::alloc::{AllocError, Global};
+use flat_roots::Spot;
 
-/// What is wrong, and at which root child or child of one.
-#[derive(Clone, Copy)]
-pub(crate) struct Spot {
-    pub(crate) cause: Cause,
-    pub(crate) track: usize,
-    /// The child of the root child; `None` for the root child itself.
-    pub(crate) child: Option<usize>,
-}
-
-/// The place of a spot.
-fn place_of(alloc: Global, spot: Spot) -> Result<Place, AllocError>
-    requires { IsNear spot }
-    ensures { IfOk result (λ place. place ≡ spot_place spot) }
+/// Whether one child of a root child, or itself, stands before another.
+fn child_before(first: Option<usize>, second: Option<usize>) -> bool
+    ensures { result ≡ sought.child_before first second }
 {
-    let mut place = Place::new(alloc);
-    place.push(spot.track as u32)?;
-    match spot.child {
-        Some(child) => {
-            place.push(child as u32)?;
-            Ok(place)
-        }
-        None => Ok(place),
+    match second {
+        Some(second) => match first {
+            Some(first) => first < second,
+            None => true,
+        },
+        None => false,
     }
 }
 
-/// The fault that tells of a spot, or want of memory.
-pub(crate) fn fault_of(alloc: Global, spot: Spot) -> FlatFault
-    requires { IsNear spot }
-    ensures { IsSaid spot result }
+/// Whether one spot stands before another in document order.
+fn is_before(first: Spot, second: Spot) -> bool
+    ensures { result ≡ sought.is_before first second }
 {
-    match place_of(alloc, spot) {
-        Ok(place) => match spot.cause {
-            Cause::Nested => FlatFault::Nested(place),
-            Cause::Crossing => FlatFault::Transition(place),
-            Cause::Phase => FlatFault::Phase(place),
-        },
-        Err(_) => FlatFault::Memory,
+    if first.track < second.track {
+        return true;
+    }
+    first.track == second.track && child_before(first.child, second.child)
+}
+
+/// The earlier of two spots, where there are any.
+pub(crate) fn earlier(first: Option<Spot>, second: Option<Spot>) -> Option<Spot>
+    ensures { result ≡ sought.earlier first second }
+{
+    let one = match first {
+        Some(one) => one,
+        None => return second,
+    };
+    match second {
+        Some(two) => {
+            if is_before(one, two) {
+                return Some(one);
+            }
+            Some(two)
+        }
+        None => Some(one),
     }
 }

@@ -6,7 +6,7 @@ ghost use Rattle.flat.specs.Straight.{IsStraight};
 ghost use Rattle.flat_law.proofs.Straight.{whole_item};
 ghost use Rattle.flat_stack.specs.Straighten.{straight_children};
 
-use crate::copying::copy_around;
+use flat_copies::copy_around;
 use otio_model::{Children, Item, ItemOf, Items, Timeline, copy_item};
 use std::alloc::{AllocError, Global};
 

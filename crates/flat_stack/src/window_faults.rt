@@ -1,7 +1,7 @@
 //! What is wrong with a timeline that is cut to a window.
 
-ghost use Rattle.std.specs.Prelude.{◌≡◌, ◌&&◌, ◌<◌, ◌^◌, ◌-ℤ◌, ◌≤ℤ◌, IfNone, IfSome, List, Some, length};
-ghost use Rattle.std.specs.Prelude.{pos, slice_get};
+ghost use Rattle.std.specs.Prelude.{◌≡◌, ◌&&◌, ◌<◌, ◌^◌, ◌-ℤ◌, ◌≤ℤ◌, IfNone, IfSome, List, Some};
+ghost use Rattle.std.specs.Prelude.{length, pos, slice_get};
 ghost use Rattle.otio_model.specs.declared.compositions.ItemOf.{ItemOf as AnyItemOf};
 ghost use Rattle.otio_model.specs.declared.compositions.Listed.{Listed};
 ghost use Rattle.otio_model.specs.Counts.{count, count_of};
@@ -12,29 +12,17 @@ ghost use Rattle.flat.specs.Pieces as flat_pieces;
 ghost use Rattle.flat.specs.Roots as roots;
 ghost use Rattle.flat.specs.Windowed.{WindowBlocks};
 ghost use Rattle.pieces.specs.Short.{AreCuttable, IsCuttable};
-ghost use Rattle.flat_stack.specs.Sought.{IsNear, Under, inner_place, spot_place};
+ghost use Rattle.flat_roots.specs.Sought.{IsNear, Under, inner_place, spot_place};
 ghost use Rattle.flat_stack.specs.Uncut.{AreCutTo, IsUncut};
 
 use crate::cutting::cuts_at;
-use crate::spots::Spot;
 use flat::Cause;
+use flat_roots::{Spot, is_plain};
 use otio_model::{Children, Item, ItemOf};
 use pieces::sound_ticks;
 
-/// Whether an item is a track without a source_range and without effects.
-pub(crate) fn is_plain(item: &Item) -> bool
-    ensures { result ≡ roots.is_plain item.now }
-{
-    match item {
-        ItemOf::Track(track) => {
-            track.source_range.is_none() && track.effects.as_slice().is_empty()
-        }
-        _ => false,
-    }
-}
-
 /// Whether an item that starts at an instant can be cut at two others, or needn't be.
-fn is_cut(item: &Item, at: i128, from: i128, to: i128) -> bool
+pub(crate) fn is_cut(item: &Item, at: i128, from: i128, to: i128) -> bool
     requires cuttable { IsCuttable item.now }
     requires low { pos 0 ≤ℤ at }
     requires high { at ≤ℤ pos 100000000000000000000000000000000000000 }

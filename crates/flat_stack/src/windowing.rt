@@ -19,12 +19,12 @@ ghost use Rattle.flat_stack.specs.Passed.{IsPut, passed};
 ghost use Rattle.flat_stack.specs.Uncut.{AreCutTo};
 ghost use Rattle.flat.specs.Pieces as flat_pieces;
 
-use crate::copying::copy_around;
 use crate::cutting::part;
-use crate::spots::fault_of;
 use crate::window_faults::window_fault;
-use crate::zones::{flat_rate, zone_of};
+use crate::zones::zone_of;
 use flat::FlatFault;
+use flat_copies::copy_around;
+use flat_roots::{fault_of, flat_rate};
 use otio_model::{Children, Item, Items, Timeline};
 use pieces::{is_stripped, sound_ticks};
 use std::alloc::{AllocError, Global};

@@ -4,22 +4,14 @@ ghost use Rattle.std.specs.Prelude.{◌≡◌, ◌*ℤ◌, ◌-ℤ◌, ◌≤ℤ
 ghost use Rattle.tick_time.specs.Rates.{frame};
 ghost use Rattle.cuts.specs.Finest.{in_range};
 ghost use Rattle.coord.specs.Soundness.{StartsOnFrame};
-ghost use Rattle.edits.specs.After.{rate_of};
 ghost use Rattle.flat.specs.Windowed.{is_window};
 ghost use Rattle.flat_stack.specs.Ends.{IsZone};
 ghost use Rattle.flat_stack.specs.Ends as zones;
 
-use coord::{record_rate, start_frame};
+use coord::start_frame;
+use flat_roots::flat_rate;
 use otio_model::Timeline;
 use tick_time::{Rate, Time};
-
-/// The record rate of a timeline. It may walk to the first clip.
-#[tactic(auto, using(crate::proofs::ZoneLemmas::flat_rate_is))]
-pub(crate) fn flat_rate(timeline: &Timeline) -> Rate
-    ensures { result ≡ rate_of timeline.now }
-{
-    record_rate(timeline)
-}
 
 /// Where a timeline starts, in ticks.
 fn first_ticks(timeline: &Timeline) -> i128

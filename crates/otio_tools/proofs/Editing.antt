@@ -21,17 +21,19 @@ use Rattle.source_files.specs.declared.faults.Refusal.{Refusal}
 use Rattle.source_files.proofs.Handing.{refused_by}
 use Rattle.command_words.specs.declared.requests.Command.{Command}
 use Rattle.command_words.specs.declared.requests.Command.TheVariants.{ListToList, ListToObjects, TimelineToList, ToObjects, ToJson, Frames, ListFrames, Edit, ListEdit}
+use Rattle.command_words.specs.declared.requests.Command.TheVariants.{Cat, ListCat, Stat, ListStat, Tool, ListTool}
 use Rattle.command_words.specs.Asked.{OtherNames}
-use Rattle.otio_tools.specs.Asked.{EditsTimeline, edit_files, files_of, kind_of, media_source, one_file, read_as, script_source}
+use Rattle.otio_tools.specs.Asked.{EditsTimeline, edit_files, files_alone, kind_of, media_source, one_file, read_as, script_source}
 use Rattle.otio_tools.specs.Answer.{AnswersHeld}
 use Rattle.otio_tools.specs.Conformed.{media_in, Conformed, NotConformed}
 use Rattle.otio_tools.specs.Edited.{IsWorkOn, Faulted, Halted, Edited}
 use Rattle.otio_tools.specs.Forms.{done, refused}
-use Rattle.otio_tools.specs.Plan.{AreEditContents, AreEditParts, IsEditable, IsConformedTo, IsHaltOf, IsOpened, IsUnopened, IsUnsound, IsWorkHeld, media_content}
+use Rattle.otio_tools.specs.Opened.{IsConformedTo, IsOpened, IsUnopened, IsUnsound}
+use Rattle.otio_tools.specs.Plan.{AreEditContents, AreEditParts, IsEditable, IsHaltOf, IsWorkHeld, media_content}
 use Rattle.otio_tools.specs.Written.{timeline_text}
 use Rattle.otio_tools.specs.declared.Desk.{Desk}
 use Rattle.otio_tools.proofs.Formats.{bare_json}
-use Rattle.otio_tools.proofs.OneAnswer.{same_json}
+use Rattle.otio_tools.proofs.OneText.{same_json}
 use Rattle.otio_tools.proofs.Planning.{media_is, media_suits}
 
 -- what is read as a script is one
@@ -93,6 +95,12 @@ editable ToObjects held e s = absurd e
 editable ToJson held e s = absurd e
 editable (Frames asked) held e s = absurd e
 editable (ListFrames rate asked) held e s = absurd e
+editable Stat held e s = absurd e
+editable (ListStat rate) held e s = absurd e
+editable Cat held e s = absurd e
+editable (ListCat rate) held e s = absurd e
+editable (Tool asked) held e s = absurd e
+editable (ListTool rate asked) held e s = absurd e
 
 pub edit_first : (command : Command) (name called : List ℕ) (media : Option (List ℕ))
     (contents more : List Content) (held : Content) → contents ≡ held ∷ more
@@ -114,23 +122,22 @@ edit_parts_are command name called media contents held commands rows e are h = r
 }
 
 -- what was read with a script and without one
-pub with_script : (command : Command) (name : List ℕ) (others : OtherNames) (called : List ℕ)
-    (contents : List Content) → others.script ≡ Some called
-    → EachIs (λ source held. Suits source.kind held) (files_of command name others) contents
+pub with_script : (command : Command) (name : List ℕ) (named media : Option (List ℕ))
+    (called : List ℕ) (contents : List Content) → named ≡ Some called
+    → EachIs (λ source held. Suits source.kind held) (files_alone command name named media) contents
     → EachIs (λ source held. Suits source.kind held)
-    (edit_files command name called others.media) contents
-with_script command name others called contents e h =
+    (edit_files command name called media) contents
+with_script command name named media called contents e h =
     subst (λ s. EachIs (λ source held. Suits source.kind held)
-    (read_as name (kind_of command) ∷ (script_source s ++ media_source others.media)) contents) e h
+    (read_as name (kind_of command) ∷ (script_source s ++ media_source media)) contents) e h
 
-pub without_script : (command : Command) (name : List ℕ) (others : OtherNames)
-    (contents : List Content) → others.script ≡ None
-    → EachIs (λ source held. Suits source.kind held) (files_of command name others) contents
-    → EachIs (λ source held. Suits source.kind held)
-    (one_file command name others.media) contents
-without_script command name others contents e h =
+pub without_script : (command : Command) (name : List ℕ) (named media : Option (List ℕ))
+    (contents : List Content) → named ≡ None
+    → EachIs (λ source held. Suits source.kind held) (files_alone command name named media) contents
+    → EachIs (λ source held. Suits source.kind held) (one_file command name media) contents
+without_script command name named media contents e h =
     subst (λ s. EachIs (λ source held. Suits source.kind held)
-    (read_as name (kind_of command) ∷ (script_source s ++ media_source others.media)) contents) e h
+    (read_as name (kind_of command) ∷ (script_source s ++ media_source media)) contents) e h
 
 -- the text of a timeline doesn't depend on its spare memory
 text_bare : (t : Timeline) → timeline_text t ≡ timeline_text (bare t)
@@ -184,6 +191,18 @@ done_with ToJson file called files held commands more t desk target e s o f w = 
 done_with (Frames asked) file called files held commands more t desk target e s o f w = absurd e
 done_with (ListFrames rate asked) file called files held commands more t desk target e s o f w =
     absurd e
+done_with Stat file called files held commands more t desk target e s o f w =
+    absurd e
+done_with (ListStat rate) file called files held commands more t desk target e s o f w =
+    absurd e
+done_with Cat file called files held commands more t desk target e s o f w =
+    absurd e
+done_with (ListCat rate) file called files held commands more t desk target e s o f w =
+    absurd e
+done_with (Tool asked) file called files held commands more t desk target e s o f w =
+    absurd e
+done_with (ListTool rate asked) file called files held commands more t desk target e s o f w =
+    absurd e
 
 halted_with : (command : Command) (file called : Source) (files : List Source) (held : Content)
     (commands : Vec script.Command) (more : List Content) (timeline : Timeline) (why : List ℕ)
@@ -229,6 +248,18 @@ halted_with ToJson file called files held commands more t why target e s o f w =
 halted_with (Frames asked) file called files held commands more t why target e s o f w = absurd e
 halted_with (ListFrames rate asked) file called files held commands more t why target e s o f w =
     absurd e
+halted_with Stat file called files held commands more t why target e s o f w =
+    absurd e
+halted_with (ListStat rate) file called files held commands more t why target e s o f w =
+    absurd e
+halted_with Cat file called files held commands more t why target e s o f w =
+    absurd e
+halted_with (ListCat rate) file called files held commands more t why target e s o f w =
+    absurd e
+halted_with (Tool asked) file called files held commands more t why target e s o f w =
+    absurd e
+halted_with (ListTool rate asked) file called files held commands more t why target e s o f w =
+    absurd e
 
 unopened_with : (command : Command) (file called : Source) (files : List Source) (held : Content)
     (commands : Vec script.Command) (more : List Content) (why : List ℕ)
@@ -270,6 +301,18 @@ unopened_with ToJson file called files held commands more why target e s u = abs
 unopened_with (Frames asked) file called files held commands more why target e s u = absurd e
 unopened_with (ListFrames rate asked) file called files held commands more why target e s u =
     absurd e
+unopened_with Stat file called files held commands more why target e s u =
+    absurd e
+unopened_with (ListStat rate) file called files held commands more why target e s u =
+    absurd e
+unopened_with Cat file called files held commands more why target e s u =
+    absurd e
+unopened_with (ListCat rate) file called files held commands more why target e s u =
+    absurd e
+unopened_with (Tool asked) file called files held commands more why target e s u =
+    absurd e
+unopened_with (ListTool rate asked) file called files held commands more why target e s u =
+    absurd e
 
 work_with : (command : Command) (held : Content) (commands : Vec script.Command)
     (more : List Content) (timeline : Timeline) (desk : Desk) → EditsTimeline command
@@ -296,6 +339,12 @@ work_with ToObjects held commands more t desk e s o f w = absurd e
 work_with ToJson held commands more t desk e s o f w = absurd e
 work_with (Frames asked) held commands more t desk e s o f w = absurd e
 work_with (ListFrames rate asked) held commands more t desk e s o f w = absurd e
+work_with Stat held commands more t desk e s o f w = absurd e
+work_with (ListStat rate) held commands more t desk e s o f w = absurd e
+work_with Cat held commands more t desk e s o f w = absurd e
+work_with (ListCat rate) held commands more t desk e s o f w = absurd e
+work_with (Tool asked) held commands more t desk e s o f w = absurd e
+work_with (ListTool rate asked) held commands more t desk e s o f w = absurd e
 
 -- ---- the same of what was read, taken apart
 

@@ -24,7 +24,8 @@ use Rattle.otio_tools.specs.Kept.{HoldsRows, SendsFrames, KeepsShown}
 use Rattle.otio_tools.specs.declared.Status.{Status}
 use Rattle.otio_tools.specs.declared.Status.TheVariants.{Done, Usage, Refused, Input, Output, Memory}
 use Rattle.otio_tools.proofs.RunEnds.{asks_once, asks_for}
-use Rattle.otio_tools.proofs.OneAnswer.{first_read, timeline_held, media_held}
+use Rattle.otio_tools.proofs.OneAnswer.{first_read}
+use Rattle.otio_tools.proofs.HeldContents.{timeline_held, media_held}
 use Rattle.otio_tools.proofs.CalmTimelines.{read_is_calm}
 use Rattle.otio_tools.proofs.WrittenLists.{written_keeps}
 

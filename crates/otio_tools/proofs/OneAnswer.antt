@@ -35,6 +35,7 @@ use Rattle.source_files.specs.declared.kinds.Content.TheVariants.{Value, Root, F
 use Rattle.source_files.proofs.Order.{first_once, each_or_first}
 use Rattle.command_words.specs.declared.requests.Command.{Command}
 use Rattle.command_words.specs.declared.requests.Command.TheVariants.{ListToList, ListToObjects, TimelineToList, ToObjects, ToJson, Frames, ListFrames, Edit, ListEdit}
+use Rattle.command_words.specs.declared.requests.Command.TheVariants.{Cat, ListCat, Stat, ListStat, Tool, ListTool}
 use Rattle.command_words.specs.Asked.{OtherNames}
 use Rattle.undo_log.specs.States.{State}
 use Rattle.script_text.specs.declared.commands.Command as script
@@ -50,7 +51,7 @@ use Rattle.edl_frames.specs.Shown.{MediaRows}
 use Rattle.edl_frames_law.proofs.OneTimeline.{one_timeline}
 use Rattle.otio_tools.proofs.OneCarried.{carried_once}
 use Rattle.edl_frames_law.proofs.OneFault.{one_fault as one_conform_fault, no_fault as no_conform_fault}
-use Rattle.otio_tools.specs.Asked.{Asked, Asks, asked_for, files_of, kind_of, media_source, script_source, read_as}
+use Rattle.otio_tools.specs.Asked.{Asked, Asks, asked_alone, asked_for, files_alone, files_of, kind_of, media_source, script_source, read_as, takes_several}
 use Rattle.otio_tools.specs.Edited.{command_fault_text, AnswersEdited, Faulted, Halted, Edited}
 use Rattle.script_law.specs.Shown.{opened}
 use Rattle.otio_tools.specs.Forms.{Answer, done, refused}
@@ -58,12 +59,16 @@ use Rattle.otio_tools.specs.Frames.{AnswersTimeline, Unsound, NoLabel, Listed}
 use Rattle.otio_tools.specs.Events.{AnswersEvents, NoTimecode, TooMany, WideReel, PastDay, Spelled}
 use Rattle.otio_tools.specs.Carried.{AnswersCarried}
 use Rattle.otio_tools.specs.Conformed.{media_in, AnswersConformed, NotConformed, Conformed}
+use Rattle.otio_tools.specs.Tools.{AnswersCounted, Counted, Uncounted, counts_alone}
+use Rattle.otio_tools.proofs.OneText.{same_json, same_listings}
 use Rattle.otio_tools.specs.Written.{object_json, AnswersWritten, timeline_text}
 use Rattle.otio_tools.specs.Answer.{Answers, NoCommand, OnFiles, AnswersHeld, AnswersUnread, Gone, Faulty, AnswersAsked, Unread, Judged}
 use Rattle.otio_tools.specs.Run.{Streams, Ends, Gives, Completes}
 use Rattle.otio_tools.specs.declared.Status.{Status}
 use Rattle.otio_tools.specs.declared.Status.TheVariants.{Done, Usage, Refused, Input, Output, Memory}
 use Rattle.otio_tools.proofs.RunEnds.{asks_once, whole}
+use Rattle.otio_tools.proofs.HeldContents.{gone_or_there, there_once, value_held, object_held, timeline_held, list_held, media_held, script_held}
+use Rattle.otio_tools.proofs.OneSeveral.{cat_once, worked_once}
 use Rattle.otio_tools.proofs.Formats.{reason_once, held_or_refused, object_json_once, bare_json, timeline_bare_once}
 
 -- the timecode of a rate is there or not
@@ -199,13 +204,6 @@ timeline_once asked name target t u a b same (Listed s l p e) (Listed r k q h) =
     e ∙ ap (λ x. done target (listing_text t x)) listing
     ∙ ap (λ (text : List ℕ). done target text) (text_bare t u k same) ∙ sym h
 
-gone_or_there : (bytes : List ℕ) (o : Option (List ℕ)) → o ≡ None → o ≡ Some bytes → ⊥
-gone_or_there bytes None e f = cc
-gone_or_there bytes (Some b) e f = cc
-
-there_once : (a b : List ℕ) (o : Option (List ℕ)) → o ≡ Some a → o ≡ Some b → a ≡ b
-there_once a b o e f = let both : Some a ≡ Some b = sym e ∙ f in cc
-
 -- a file that isn't read has at most one answer
 unread_once : (held : Held) (file : Source) (a b : Answer) → AnswersUnread held file a
     → AnswersUnread held file b → a ≡ b
@@ -244,52 +242,6 @@ first_read held file files [] h = absurd h
 first_read held file files (content ∷ more) h =
     record { content = content; more = more; are = refl; first = h.0; others = h.1 }
 
-value_held : (bytes : List ℕ) (content : Content) → Holds kinds.Json bytes content
-    → (value : Json) × (content ≡ Value value) × IsJson bytes value
-value_held bytes (Value value) h = (value, refl, h)
-value_held bytes (Root object) h = absurd h
-value_held bytes (Film timeline) h = absurd h
-value_held bytes (Events list) h = absurd h
-value_held bytes (Rows rows) h = absurd h
-value_held bytes (Commands commands) h = absurd h
-
-object_held : (bytes : List ℕ) (content : Content) → Holds kinds.Object bytes content
-    → (object : Object) × (content ≡ Root object) × IsObject bytes object
-object_held bytes (Root object) h = (object, refl, h)
-object_held bytes (Value value) h = absurd h
-object_held bytes (Film timeline) h = absurd h
-object_held bytes (Events list) h = absurd h
-object_held bytes (Rows rows) h = absurd h
-object_held bytes (Commands commands) h = absurd h
-
-pub timeline_held : (bytes : List ℕ) (content : Content) → Holds kinds.Timeline bytes content
-    → (timeline : Timeline) × (content ≡ Film timeline) × IsTimeline bytes timeline
-timeline_held bytes (Film timeline) h = (timeline, refl, h)
-timeline_held bytes (Value value) h = absurd h
-timeline_held bytes (Root object) h = absurd h
-timeline_held bytes (Events list) h = absurd h
-timeline_held bytes (Rows rows) h = absurd h
-timeline_held bytes (Commands commands) h = absurd h
-
-list_held : (rate : Rate) (bytes : List ℕ) (content : Content)
-    → Holds (kinds.List rate) bytes content
-    → (list : EventList) × (content ≡ Events list) × IsList rate bytes list
-list_held rate bytes (Events list) h = (list, refl, h)
-list_held rate bytes (Value value) h = absurd h
-list_held rate bytes (Root object) h = absurd h
-list_held rate bytes (Film timeline) h = absurd h
-list_held rate bytes (Rows rows) h = absurd h
-list_held rate bytes (Commands commands) h = absurd h
-
-pub media_held : (bytes : List ℕ) (content : Content) → Holds kinds.Media bytes content
-    → (rows : List MediaRow) × (content ≡ Rows rows) × IsMediaList bytes rows
-media_held bytes (Rows rows) h = (rows, refl, h)
-media_held bytes (Value value) h = absurd h
-media_held bytes (Root object) h = absurd h
-media_held bytes (Film timeline) h = absurd h
-media_held bytes (Events list) h = absurd h
-media_held bytes (Commands commands) h = absurd h
-
 -- a media list that is read is one
 rows_once : (held : Held) (file : Source) (c d : Content) → file.kind ≡ kinds.Media
     → IsRead held file c → IsRead held file d → c ≡ d
@@ -312,16 +264,6 @@ media_once held (Some name) (c ∷ x ∷ m) n p q = absurd p.1
 media_once held (Some name) (c ∷ []) (d ∷ x ∷ n) p q = absurd q.1
 media_once held (Some name) (c ∷ []) (d ∷ []) p q =
     ap (λ x. media_in (x ∷ [])) (rows_once held _ c d refl p.0 q.0)
-
-script_held : (bytes : List ℕ) (content : Content) → Holds kinds.Script bytes content
-    → (commands : Vec script.Command) × (content ≡ Commands commands)
-    × IsScript bytes commands.items
-script_held bytes (Commands commands) h = (commands, refl, h)
-script_held bytes (Rows rows) h = absurd h
-script_held bytes (Value value) h = absurd h
-script_held bytes (Root object) h = absurd h
-script_held bytes (Film timeline) h = absurd h
-script_held bytes (Events list) h = absurd h
 
 -- a script that is read is one
 commands_once : (held : Held) (name : List ℕ) (c d : Content)
@@ -383,16 +325,24 @@ edited_once name called commands media target t u a b same (Edited s r p e) (Edi
     e ∙ ap (λ (x : State). done target (timeline_text x.now))
     (one_state media commands (length commands) (opened t) r o p k) ∙ sym h
 
--- the JSON of objects that are written
-pub same_json : (a b : Object) → json_of a ≡ json_of b → object_json a ≡ object_json b
-unfolding object_json
-same_json a b e = e
-
 -- a timeline that is written has at most one answer, whatever memory it has to spare
 written_once : (target : Option (List ℕ)) (t u : Timeline) (a b : Answer) → bare t ≡ bare u
     → AnswersWritten target t a → AnswersWritten target u b → a ≡ b
 written_once target t u a b same e f =
     e ∙ ap (λ json. done target (layout json)) (same_json _ _ (bare_json t u same)) ∙ sym f
+
+-- a timeline that is counted has at most one answer, whatever memory it has to spare
+counted_once : (name : List ℕ) (target : Option (List ℕ)) (t u : Timeline) (a b : Answer)
+    → bare t ≡ bare u → AnswersCounted name target t a → AnswersCounted name target u b → a ≡ b
+counted_once name target t u a b same (Uncounted f n p e) (Uncounted g m q h) =
+    e ∙ ap (λ fault. refused name (coord_fault_text fault))
+    (same_fault t f g n m p (fault_bare u t g (sym same) q)) ∙ sym h
+counted_once name target t u a b same (Uncounted f n p e) (Counted s h) =
+    absurd (no_fault_of t f (faultless_bare u t (sym same) s) p)
+counted_once name target t u a b same (Counted s e) (Uncounted g m q h) =
+    absurd (no_fault_of u g (faultless_bare t u same s) q)
+counted_once name target t u a b same (Counted s e) (Counted r h) =
+    e ∙ ap (done target) (same_listings t u counts_alone same) ∙ sym h
 
 -- a list that is conformed has at most one answer, where its timeline has
 conformed_once : (name : List ℕ) (list : EventList) (media : MediaRows)
@@ -418,30 +368,35 @@ conformed_as name list other media rows Is answer e f h =
     subst (λ l. AnswersConformed name l media Is answer) e
     (subst (λ r. AnswersConformed name other r Is answer) f h)
 
+-- the names of a script and of a media list
+abbrev names_behind : (script media : Option (List ℕ)) → OtherNames
+names_behind script media = record { more = []; script = script; media = media }
+
 -- what is held as a content that is known
 abbrev Answered : Command → List ℕ → OtherNames → Option (List ℕ) → List Content → Answer
     → Content → Type 0
 Answered command name others target more answer content =
-    AnswersHeld command (files_of command name others) target (content ∷ more) answer
+    AnswersHeld command (files_alone command name others.script others.media) target
+    (content ∷ more) answer
 
 -- a timeline, a script and a media list have at most one answer
 edit_once : (name : List ℕ) (called media target : Option (List ℕ)) (held : Held)
     (t u : Timeline) (m n : List Content) (a b : Answer) → bare t ≡ bare u
     → AreRead held (script_source called ++ media_source media) m
     → AreRead held (script_source called ++ media_source media) n
-    → Answered Edit name (record { script = called; media = media }) target m a (Film t)
-    → Answered Edit name (record { script = called; media = media }) target n b (Film u) → a ≡ b
+    → Answered Edit name (names_behind called media) target m a (Film t)
+    → Answered Edit name (names_behind called media) target n b (Film u) → a ≡ b
 edit_once name None None target held t u m n a b same p q x y = absurd x
 edit_once name None (Some l) target held t u [] n a b same p q x y = absurd x
 edit_once name None (Some l) target held t u (c ∷ m) n a b same p q x y =
     let v = media_held p.0.bytes c p.0.holds in
-    absurd (subst (λ z. Answered Edit name (record { script = None; media = Some l }) target
+    absurd (subst (λ z. Answered Edit name (names_behind None (Some l)) target
     (z ∷ m) a (Film t)) v.1 x)
 edit_once name (Some s) media target held t u [] n a b same p q x y = absurd p
 edit_once name (Some s) media target held t u (c ∷ m) [] a b same p q x y = absurd q
 edit_once name (Some s) media target held t u (c ∷ m) (d ∷ n) a b same p q x y =
     let k = commands_once held s c d p.0 q.0 in
-    let o : OtherNames = record { script = Some s; media = media } in
+    let o : OtherNames = names_behind (Some s) media in
     let first : AnswersEdited name s k.0.items (media_in m) target t a =
     subst (λ z. Answered Edit name o target (z ∷ m) a (Film t)) k.2 x in
     let second : AnswersEdited name s k.1.items (media_in n) target u b =
@@ -456,21 +411,21 @@ list_edit_once : (rate : Rate) (name : List ℕ) (called media target : Option (
     (list : EventList) (m n : List Content) (a b : Answer)
     → AreRead held (script_source called ++ media_source media) m
     → AreRead held (script_source called ++ media_source media) n
-    → Answered (ListEdit rate) name (record { script = called; media = media }) target m a
+    → Answered (ListEdit rate) name (names_behind called media) target m a
     (Events list)
-    → Answered (ListEdit rate) name (record { script = called; media = media }) target n b
+    → Answered (ListEdit rate) name (names_behind called media) target n b
     (Events list) → a ≡ b
 list_edit_once rate name None None target held list m n a b p q x y = absurd x
 list_edit_once rate name None (Some l) target held list [] n a b p q x y = absurd x
 list_edit_once rate name None (Some l) target held list (c ∷ m) n a b p q x y =
     let v = media_held p.0.bytes c p.0.holds in
-    absurd (subst (λ z. Answered (ListEdit rate) name (record { script = None; media = Some l })
+    absurd (subst (λ z. Answered (ListEdit rate) name (names_behind None (Some l))
     target (z ∷ m) a (Events list)) v.1 x)
 list_edit_once rate name (Some s) media target held list [] n a b p q x y = absurd p
 list_edit_once rate name (Some s) media target held list (c ∷ m) [] a b p q x y = absurd q
 list_edit_once rate name (Some s) media target held list (c ∷ m) (d ∷ n) a b p q x y =
     let k = commands_once held s c d p.0 q.0 in
-    let o : OtherNames = record { script = Some s; media = media } in
+    let o : OtherNames = names_behind (Some s) media in
     let rows = media_once held media m n p.1 q.1 in
     let first : AnswersConformed name list (media_in m)
     (AnswersEdited name s k.0.items (media_in m) target) a =
@@ -487,25 +442,27 @@ list_edit_once rate name (Some s) media target held list (c ∷ m) (d ∷ n) a b
 -- what the same bytes hold, with the same media list, has at most one answer
 content_once : (command : Command) (name bytes : List ℕ) (others : OtherNames)
     (target : Option (List ℕ)) (held : Held) (c d : Content) (m n : List Content) (a b : Answer)
-    → Holds (kind_of command) bytes c → Holds (kind_of command) bytes d
+    → takes_several command ≡ false → Holds (kind_of command) bytes c
+    → Holds (kind_of command) bytes d
     → AreRead held (script_source others.script ++ media_source others.media) m
     → AreRead held (script_source others.script ++ media_source others.media) n
     → Answered command name others target m a c → Answered command name others target n b d → a ≡ b
-content_once ToJson name bytes others target held c d m n a b p q r s x y =
+content_once ToJson name bytes others target held c d m n a b alone p q r s x y =
     let v = value_held bytes c p in
     let w = value_held bytes d q in
     let first = subst (Answered ToJson name others target m a) v.1 x in
     let second = subst (Answered ToJson name others target n b) w.1 y in
     first ∙ ap (λ value. done target (layout value)) (text_once bytes v.0 w.0 v.2.text w.2.text)
     ∙ sym second
-content_once ToObjects name bytes others target held c d m n a b p q r s x y =
+content_once ToObjects name bytes others target held c d m n a b alone p q r s x y =
     let v = object_held bytes c p in
     let w = object_held bytes d q in
     let first = subst (Answered ToObjects name others target m a) v.1 x in
     let second = subst (Answered ToObjects name others target n b) w.1 y in
     first ∙ ap (λ json. done target (layout json))
     (same_json v.0 w.0 (object_json_once bytes v.0 w.0 v.2 w.2)) ∙ sym second
-content_once (ListToList rate drop wide) name bytes others target held c d m n a b p q r s x y =
+content_once (ListToList rate drop wide) name bytes others target held c d m n a b alone p q r s x
+    y =
     let v = list_held rate bytes c p in
     let w = list_held rate bytes d q in
     let first = subst (Answered (ListToList rate drop wide) name others target m a) v.1 x in
@@ -513,7 +470,8 @@ content_once (ListToList rate drop wide) name bytes others target held c d m n a
     let same : w.0 ≡ v.0 = one_list rate bytes w.0 v.0 w.2 v.2 in
     events_once name target v.0 (drop || v.0.drop) wide a b first
     (subst (λ (l : EventList). AnswersEvents name target l (drop || l.drop) wide b) same second)
-content_once (TimelineToList drop wide) name bytes others target held c d m n a b p q r s x y =
+content_once (TimelineToList drop wide) name bytes others target held c d m n a b alone p q r s x
+    y =
     let rows = front_once held others.script others.media m n r s in
     let v = timeline_held bytes c p in
     let w = timeline_held bytes d q in
@@ -522,7 +480,7 @@ content_once (TimelineToList drop wide) name bytes others target held c d m n a 
     carried_once drop wide name (media_in m) target v.0 w.0 a b
     (timeline_bare_once bytes v.0 w.0 v.2 w.2) first
     (subst (λ r. AnswersCarried drop wide name r target w.0 b) (sym rows) second)
-content_once (ListToObjects rate) name bytes others target held c d m n a b p q r s x y =
+content_once (ListToObjects rate) name bytes others target held c d m n a b alone p q r s x y =
     let rows = front_once held others.script others.media m n r s in
     let v = list_held rate bytes c p in
     let w = list_held rate bytes d q in
@@ -531,14 +489,14 @@ content_once (ListToObjects rate) name bytes others target held c d m n a b p q 
     conformed_once name v.0 (media_in m) (AnswersWritten target) (written_once target) a b first
     (conformed_as name v.0 w.0 (media_in m) (media_in n) (AnswersWritten target) b
     (one_list rate bytes w.0 v.0 w.2 v.2) (sym rows) second)
-content_once (Frames asked) name bytes others target held c d m n a b p q r s x y =
+content_once (Frames asked) name bytes others target held c d m n a b alone p q r s x y =
     let v = timeline_held bytes c p in
     let w = timeline_held bytes d q in
     let first = subst (Answered (Frames asked) name others target m a) v.1 x in
     let second = subst (Answered (Frames asked) name others target n b) w.1 y in
     timeline_once asked name target v.0 w.0 a b
     (timeline_bare_once bytes v.0 w.0 v.2 w.2) first second
-content_once (ListFrames rate asked) name bytes others target held c d m n a b p q r s x y =
+content_once (ListFrames rate asked) name bytes others target held c d m n a b alone p q r s x y =
     let rows = front_once held others.script others.media m n r s in
     let v = list_held rate bytes c p in
     let w = list_held rate bytes d q in
@@ -548,14 +506,14 @@ content_once (ListFrames rate asked) name bytes others target held c d m n a b p
     (timeline_once asked name target) a b first
     (conformed_as name v.0 w.0 (media_in m) (media_in n) (AnswersTimeline asked name target) b
     (one_list rate bytes w.0 v.0 w.2 v.2) (sym rows) second)
-content_once Edit name bytes others target held c d m n a b p q r s x y =
+content_once Edit name bytes others target held c d m n a b alone p q r s x y =
     let v = timeline_held bytes c p in
     let w = timeline_held bytes d q in
     edit_once name others.script others.media target held v.0 w.0 m n a b
     (timeline_bare_once bytes v.0 w.0 v.2 w.2) r s
     (subst (Answered Edit name others target m a) v.1 x)
     (subst (Answered Edit name others target n b) w.1 y)
-content_once (ListEdit rate) name bytes others target held c d m n a b p q r s x y =
+content_once (ListEdit rate) name bytes others target held c d m n a b alone p q r s x y =
     let v = list_held rate bytes c p in
     let w = list_held rate bytes d q in
     let same : w.0 ≡ v.0 = one_list rate bytes w.0 v.0 w.2 v.2 in
@@ -563,32 +521,106 @@ content_once (ListEdit rate) name bytes others target held c d m n a b p q r s x
     (subst (Answered (ListEdit rate) name others target m a) v.1 x)
     (subst (λ l. Answered (ListEdit rate) name others target n b (Events l)) same
     (subst (Answered (ListEdit rate) name others target n b) w.1 y))
+content_once Stat name bytes others target held c d m n a b alone p q r s x y =
+    let v = timeline_held bytes c p in
+    let w = timeline_held bytes d q in
+    counted_once name target v.0 w.0 a b (timeline_bare_once bytes v.0 w.0 v.2 w.2)
+    (subst (Answered Stat name others target m a) v.1 x)
+    (subst (Answered Stat name others target n b) w.1 y)
+content_once (ListStat rate) name bytes others target held c d m n a b alone p q r s x y =
+    let rows = front_once held others.script others.media m n r s in
+    let v = list_held rate bytes c p in
+    let w = list_held rate bytes d q in
+    let first = subst (Answered (ListStat rate) name others target m a) v.1 x in
+    let second = subst (Answered (ListStat rate) name others target n b) w.1 y in
+    conformed_once name v.0 (media_in m) (AnswersCounted name target)
+    (counted_once name target) a b first
+    (conformed_as name v.0 w.0 (media_in m) (media_in n) (AnswersCounted name target) b
+    (one_list rate bytes w.0 v.0 w.2 v.2) (sym rows) second)
+content_once Cat name bytes others target held c d m n a b alone p q r s x y = absurd (cc alone)
+content_once (ListCat rate) name bytes others target held c d m n a b alone p q r s x y =
+    absurd (cc alone)
+content_once (Tool asked) name bytes others target held c d m n a b alone p q r s x y =
+    absurd (cc alone)
+content_once (ListTool rate asked) name bytes others target held c d m n a b alone p q r s x y =
+    absurd (cc alone)
+
+-- what is asked of these files has at most one answer, where that to what they hold is one
+files_once : (asked : Asked) (held : Held) (a b : Answer)
+    → ((cs ds : List Content) → AreRead held asked.files cs → AreRead held asked.files ds
+    → AnswersHeld asked.command asked.files asked.target cs a
+    → AnswersHeld asked.command asked.files asked.target ds b → a ≡ b)
+    → AnswersAsked asked held a → AnswersAsked asked held b → a ≡ b
+files_once asked held a b once (Unread p) (Unread q) =
+    first_once Source Content Answer (IsRead held) (AnswersUnread held) asked.files a b
+    (unread_once held) (read_or_unread held) p q
+files_once asked held a b once (Unread p) (Judged contents q h) =
+    absurd (each_or_first Source Content Answer (IsRead held) (AnswersUnread held) asked.files
+    contents a (read_or_unread held) q p)
+files_once asked held a b once (Judged contents p h) (Unread q) =
+    absurd (each_or_first Source Content Answer (IsRead held) (AnswersUnread held) asked.files
+    contents b (read_or_unread held) p q)
+files_once asked held a b once (Judged cs p h) (Judged ds q k) = once cs ds p q h k
 
 -- what is asked of one file, with the others, has at most one answer
-one_once : (command : Command) (name : List ℕ) (others : OtherNames) (target : Option (List ℕ))
-    (held : Held) (a b : Answer)
-    → AnswersAsked (asked_for command name others target) held a
-    → AnswersAsked (asked_for command name others target) held b → a ≡ b
-one_once command name others target held a b (Unread p) (Unread q) =
-    first_once Source Content Answer (IsRead held) (AnswersUnread held)
-    (files_of command name others) a b (unread_once held) (read_or_unread held) p q
-one_once command name others target held a b (Unread p) (Judged contents q h) =
-    absurd (each_or_first Source Content Answer (IsRead held) (AnswersUnread held)
-    (files_of command name others) contents a (read_or_unread held) q p)
-one_once command name others target held a b (Judged contents p h) (Unread q) =
-    absurd (each_or_first Source Content Answer (IsRead held) (AnswersUnread held)
-    (files_of command name others) contents b (read_or_unread held) p q)
-one_once command name others target held a b (Judged cs p h) (Judged ds q k) =
+alone_once : (command : Command) (name : List ℕ) (others : OtherNames) (target : Option (List ℕ))
+    (held : Held) (a b : Answer) → takes_several command ≡ false
+    → AnswersAsked (asked_alone command name others target) held a
+    → AnswersAsked (asked_alone command name others target) held b → a ≡ b
+alone_once command name others target held a b alone =
+    files_once (asked_alone command name others target) held a b (λ cs ds p q h k.
+    let files = files_alone command name others.script others.media in
     let file = read_as name (kind_of command) in
     let behind = script_source others.script ++ media_source others.media in
     let v = first_read held file behind cs p in
     let w = first_read held file behind ds q in
     let same = there_once w.first.bytes v.first.bytes (held name) w.first.there v.first.there in
     content_once command name v.first.bytes others target held v.content w.content v.more w.more a b
-    v.first.holds (subst (λ x. Holds (kind_of command) x w.content) same w.first.holds)
-    v.others w.others
-    (subst (λ z. AnswersHeld command (files_of command name others) target z a) v.are h)
-    (subst (λ z. AnswersHeld command (files_of command name others) target z b) w.are k)
+    alone v.first.holds (subst (λ x. Holds (kind_of command) x w.content) same w.first.holds)
+    v.others w.others (subst (λ z. AnswersHeld command files target z a) v.are h)
+    (subst (λ z. AnswersHeld command files target z b) w.are k))
+
+-- what is asked has at most one answer
+one_once : (command : Command) (name : List ℕ) (others : OtherNames) (target : Option (List ℕ))
+    (held : Held) (a b : Answer)
+    → AnswersAsked (asked_for command name others target) held a
+    → AnswersAsked (asked_for command name others target) held b → a ≡ b
+one_once Cat name others target held a b =
+    files_once (asked_for Cat name others target) held a b
+    (λ cs ds p q x y. cat_once held (files_of Cat name others) target cs ds a b p q x y)
+one_once (ListCat rate) name others target held a b =
+    files_once (asked_for (ListCat rate) name others target) held a b
+    (λ cs ds p q x y. cat_once held (files_of (ListCat rate) name others) target cs ds a b p q x y)
+one_once (Tool asked) name others target held a b =
+    files_once (asked_for (Tool asked) name others target) held a b
+    (λ cs ds p q x y. worked_once asked held (files_of (Tool asked) name others) target cs ds a b
+    p q x y)
+one_once (ListTool rate asked) name others target held a b =
+    files_once (asked_for (ListTool rate asked) name others target) held a b
+    (λ cs ds p q x y. worked_once asked held (files_of (ListTool rate asked) name others) target
+    cs ds a b p q x y)
+one_once Stat name others target held a b =
+    alone_once Stat name others target held a b refl
+one_once (ListStat rate) name others target held a b =
+    alone_once (ListStat rate) name others target held a b refl
+one_once (ListToList rate drop wide) name others target held a b =
+    alone_once (ListToList rate drop wide) name others target held a b refl
+one_once (ListToObjects rate) name others target held a b =
+    alone_once (ListToObjects rate) name others target held a b refl
+one_once (TimelineToList drop wide) name others target held a b =
+    alone_once (TimelineToList drop wide) name others target held a b refl
+one_once ToObjects name others target held a b =
+    alone_once ToObjects name others target held a b refl
+one_once ToJson name others target held a b =
+    alone_once ToJson name others target held a b refl
+one_once (Frames asked) name others target held a b =
+    alone_once (Frames asked) name others target held a b refl
+one_once (ListFrames rate asked) name others target held a b =
+    alone_once (ListFrames rate asked) name others target held a b refl
+one_once Edit name others target held a b =
+    alone_once Edit name others target held a b refl
+one_once (ListEdit rate) name others target held a b =
+    alone_once (ListEdit rate) name others target held a b refl
 
 -- what words ask for has at most one answer
 asked_once : (words : List (List ℕ)) (asked : Asked) (held : Held) (a b : Answer) → Asks words asked

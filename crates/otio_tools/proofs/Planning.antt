@@ -47,9 +47,11 @@ use Rattle.otio_model.specs.Counts.{count as count_below}
 use Rattle.otio_tools.specs.Asked.{Asked, one_file, media_source, kind_of}
 use Rattle.otio_tools.specs.Forms.{Answer, done, absent, refused}
 use Rattle.otio_tools.specs.Written.{object_json}
+use Rattle.otio_tools.specs.Tools.{AnswersCounted, Uncounted}
 use Rattle.otio_tools.specs.Answer.{AnswersHeld, AnswersUnread, Gone, Faulty, AnswersAsked, Unread, Judged}
 use Rattle.otio_tools.specs.Run.{FailsUnder}
-use Rattle.otio_tools.specs.Plan.{HasFormedList, Suffices, IsRefusedHeld, PlansHeld, IsStop, Plans, AreContents, IsCarriedBy, IsConformedTo, LeavesWork, media_content, text_planned}
+use Rattle.otio_tools.specs.Opened.{IsConformedTo}
+use Rattle.otio_tools.specs.Plan.{HasFormedList, Suffices, IsRefusedAs, PlansHeld, IsStop, Plans, AreContents, IsCarriedBy, LeavesWork, media_content, text_planned}
 use Rattle.edl_list.specs.declared.list.EventList.{EventList}
 use Rattle.otio_model.specs.declared.timelines.Timeline.{Timeline}
 use Rattle.otio_tools.specs.Conformed.{media_in, AnswersConformed, Conformed, NotConformed}
@@ -57,7 +59,8 @@ use Rattle.otio_tools.specs.declared.planned.Planned.{Planned}
 
 refused_held : (asked : Asked) (called : List ℕ) (contents : List Content) (fault : ReadFault)
     (old new : KnownFiles) → HaveRead asked.files contents old new
-    → IsRefusedHeld asked.command asked.files contents called fault
+    → IsRefusedAs (λ target answer. AnswersHeld asked.command asked.files target contents answer)
+    called fault
     → IsStop asked called fault old new
 refused_held asked called contents Absent old new h p = absurd p
 refused_held asked called contents Failed old new h p = absurd p
@@ -324,3 +327,12 @@ pub left_by : (t : Timeline) (asked media : MediaRows) (drop wide : Bool)
     → IfErr result (IsNotCarried t media drop wide)
 left_by t asked media drop wide result e h =
     subst (λ m. IfErr result (IsNotCarried t m drop wide)) e h
+
+-- how one is refused where it is counted
+pub unsound_counts : (name : List ℕ) (timeline : Timeline) (fault : CoordFault) (refusal : Refusal)
+    → IsFaultOf timeline fault
+    → IsRefused (λ why. (fault ≢ coord.Memory) × (why ≡ coord_fault_text fault)) refusal
+    → Suffices (λ target answer. AnswersCounted name target timeline answer) name (Err refusal)
+unsound_counts name timeline fault (Broken reason) is told =
+    λ target. Uncounted fault told.0 is (ap (refused name) told.1)
+unsound_counts name timeline fault Memory is told = λ target. tt

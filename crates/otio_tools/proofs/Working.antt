@@ -1,5 +1,5 @@
 -- What is left on the desk.
-use Rattle.std.proofs.Common.{◌≡◌, ℕ, List, Some, None, Result, Ok, Err, IfOk, IfSome, IsSome, refl, sym, subst}
+use Rattle.std.proofs.Common.{◌≡◌, ℕ, List, [], ◌∷◌, Some, None, Result, Ok, Err, IfOk, IfSome, IsSome, refl, sym, subst}
 use Rattle.std.specs.declared.option.Option.{Option}
 use Rattle.dev_io.specs.Known.{KnownFiles}
 use Rattle.dev_io.specs.Calls.{Tells}
@@ -14,14 +14,16 @@ use Rattle.command_words.specs.declared.names.Verb.{Verb}
 use Rattle.command_words.specs.declared.names.Verb.TheVariants as verbs
 use Rattle.command_words.specs.declared.requests.Command.{Command}
 use Rattle.command_words.specs.declared.requests.Command.TheVariants.{ListToList, ListToObjects, TimelineToList, ToObjects, ToJson, Frames, ListFrames, Edit, ListEdit}
+use Rattle.command_words.specs.declared.requests.Command.TheVariants.{Cat, ListCat, Stat, ListStat, Tool, ListTool}
 use Rattle.command_words.proofs.Asking.{ask_once}
+use Rattle.otio_tools.proofs.SeveralWords.{not_named}
 use Rattle.otio_tools.specs.Asked.{EditsTimeline, IsScripted, asked_for}
 use Rattle.otio_tools.specs.Plan.{Carries, Complains, IsDeskFor, LeavesWorkOf, Plans, desk_after, desk_planned}
 use Rattle.otio_tools.specs.Run.{Streams}
 use Rattle.otio_tools.specs.Worked.{AskNoEdit, IsWorkOf, LeavesDesk, WorksOn}
 use Rattle.otio_tools.specs.declared.Desk.{Desk}
 use Rattle.otio_tools.specs.declared.planned.Planned.{Planned}
-use Rattle.otio_tools.specs.declared.planned.Planned.TheVariants.{Events, Value, Root, Rows, Edited}
+use Rattle.otio_tools.specs.declared.planned.Planned.TheVariants.{Events, Value, Root, Rows, Edited, Listed}
 use Rattle.otio_tools.specs.declared.Status.{Status}
 use Rattle.otio_tools.specs.declared.Status.TheVariants.{Done, Usage, Refused, Input, Output, Memory}
 
@@ -46,6 +48,20 @@ edit_named Edit verbs.Convert name others target given r e = absurd r.asked.mean
 edit_named (ListEdit rate) verbs.Convert name others target given r e = absurd r.asked.means
 edit_named Edit verbs.Frames name others target given r e = absurd r.asked.means
 edit_named (ListEdit rate) verbs.Frames name others target given r e = absurd r.asked.means
+edit_named Edit verbs.Cat name others target given r e =
+    absurd (not_named Cat ListCat Edit (name ∷ given.more) r.asked.rate r.asked.means (λ k. cc k) (λ q k. cc k))
+edit_named Edit verbs.Stat name others target given r e =
+    absurd (not_named Stat ListStat Edit (name ∷ []) r.asked.rate r.asked.means (λ k. cc k) (λ q k. cc k))
+edit_named Edit verbs.Tool name others target given r e =
+    absurd (not_named (Tool r.asked.tool) (λ q. ListTool q r.asked.tool) Edit
+    (name ∷ given.more) r.asked.rate r.asked.means (λ k. cc k) (λ q k. cc k))
+edit_named (ListEdit rate) verbs.Cat name others target given r e =
+    absurd (not_named Cat ListCat (ListEdit rate) (name ∷ given.more) r.asked.rate r.asked.means (λ k. cc k) (λ q k. cc k))
+edit_named (ListEdit rate) verbs.Stat name others target given r e =
+    absurd (not_named Stat ListStat (ListEdit rate) (name ∷ []) r.asked.rate r.asked.means (λ k. cc k) (λ q k. cc k))
+edit_named (ListEdit rate) verbs.Tool name others target given r e =
+    absurd (not_named (Tool r.asked.tool) (λ q. ListTool q r.asked.tool) (ListEdit rate)
+    (name ∷ given.more) r.asked.rate r.asked.means (λ k. cc k) (λ q k. cc k))
 edit_named (ListToList rate drop wide) verb name others target given r e = absurd e
 edit_named (ListToObjects rate) verb name others target given r e = absurd e
 edit_named (TimelineToList drop wide) verb name others target given r e = absurd e
@@ -53,6 +69,12 @@ edit_named ToObjects verb name others target given r e = absurd e
 edit_named ToJson verb name others target given r e = absurd e
 edit_named (Frames asked) verb name others target given r e = absurd e
 edit_named (ListFrames rate asked) verb name others target given r e = absurd e
+edit_named Stat verb name others target given r e = absurd e
+edit_named (ListStat rate) verb name others target given r e = absurd e
+edit_named Cat verb name others target given r e = absurd e
+edit_named (ListCat rate) verb name others target given r e = absurd e
+edit_named (Tool asked) verb name others target given r e = absurd e
+edit_named (ListTool rate asked) verb name others target given r e = absurd e
 
 scripted_by : (command : Command) (verb : Verb) (name : List ℕ) (others : OtherNames)
     (target : Option (List ℕ)) (given : Given) → IsRequest verb command name others target given
@@ -77,6 +99,18 @@ scripted_by (Frames asked) verb name others target given r =
     none_named (Frames asked) others.script (λ e. e) r.script_is
 scripted_by (ListFrames rate asked) verb name others target given r =
     none_named (ListFrames rate asked) others.script (λ e. e) r.script_is
+scripted_by Stat verb name others target given r =
+    none_named Stat others.script (λ e. e) r.script_is
+scripted_by (ListStat rate) verb name others target given r =
+    none_named (ListStat rate) others.script (λ e. e) r.script_is
+scripted_by Cat verb name others target given r =
+    none_named Cat others.script (λ e. e) r.script_is
+scripted_by (ListCat rate) verb name others target given r =
+    none_named (ListCat rate) others.script (λ e. e) r.script_is
+scripted_by (Tool asked) verb name others target given r =
+    none_named (Tool asked) others.script (λ e. e) r.script_is
+scripted_by (ListTool rate asked) verb name others target given r =
+    none_named (ListTool rate asked) others.script (λ e. e) r.script_is
 
 pub scripted : (words : List (List ℕ)) (command : Command) (name : List ℕ) (others : OtherNames)
     (target : Option (List ℕ)) → Ask words command name others target
@@ -96,6 +130,7 @@ work_of command name others target held (Events list drop wide) before e w = abs
 work_of command name others target held (Value value) before e w = absurd (w.2 e)
 work_of command name others target held (Root object) before e w = absurd (w.2 e)
 work_of command name others target held (Rows timeline listing) before e w = absurd (w.2 e)
+work_of command name others target held (Listed timeline asked) before e w = absurd (w.2 e)
 
 -- another reading of the same words asks for the same
 as_asked : (words : List (List ℕ)) (c d : Command) (a b : List ℕ) (m n : OtherNames)
@@ -171,6 +206,7 @@ desk_alone command (Events list drop wide) before is other = refl
 desk_alone command (Value value) before is other = refl
 desk_alone command (Root object) before is other = refl
 desk_alone command (Rows timeline listing) before is other = refl
+desk_alone command (Listed timeline asked) before is other = refl
 
 -- a command that edits nothing leaves the desk as it was
 pub untouched : (command : Command) (plan : Result Planned SourceFault) (before : Option Desk)

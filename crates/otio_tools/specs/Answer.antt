@@ -8,7 +8,9 @@ use Rattle.source_files.specs.declared.kinds.Content.{Content}
 use Rattle.source_files.specs.declared.kinds.Content.TheVariants.{Value, Root, Film, Events, Commands}
 use Rattle.command_words.specs.Asked.{AskNothing}
 use Rattle.command_words.specs.declared.requests.Command.{Command}
+use Rattle.command_words.specs.declared.tools.ToolAsked.{ToolAsked}
 use Rattle.command_words.specs.declared.requests.Command.TheVariants.{ListToList, ListToObjects, TimelineToList, ToObjects, ToJson, Frames, ListFrames, Edit, ListEdit}
+use Rattle.command_words.specs.declared.requests.Command.TheVariants.{Cat, ListCat, Stat, ListStat, Tool, ListTool}
 use Rattle.otio_tools.specs.Asked.{Asked, Asks}
 use Rattle.otio_tools.specs.Forms.{Answer, done, refused, absent, usage}
 use Rattle.otio_tools.specs.Events.{AnswersEvents}
@@ -17,12 +19,28 @@ use Rattle.otio_tools.specs.Carried.{AnswersCarried}
 use Rattle.otio_tools.specs.Conformed.{media_in, AnswersConformed}
 use Rattle.otio_tools.specs.Written.{object_json, AnswersWritten}
 use Rattle.otio_tools.specs.Edited.{AnswersEdited}
+use Rattle.otio_tools.specs.Opened.{AnswersOpened, inputs_in, media_behind, names_in}
+use Rattle.otio_tools.specs.Tools.{AnswersCounted, AnswersJoined, AnswersTool}
+
+-- the answer to files whose timelines are joined
+abbrev pub AnswersCat : List Source → Option (List ℕ) → List Content → Answer → Type 0
+AnswersCat files target contents answer = AnswersOpened (media_behind contents)
+    (inputs_in files contents)
+    (AnswersJoined (names_in files contents) target) answer
+
+-- the answer to files whose timelines are worked on as this asks
+abbrev pub AnswersWorked : ToolAsked → List Source → Option (List ℕ) → List Content → Answer
+    → Type 0
+AnswersWorked asked files target contents answer = AnswersOpened (media_behind contents)
+    (inputs_in files contents)
+    (AnswersTool asked (names_in files contents) target) answer
 
 -- The answer to a command on what its files hold, in their order: a value or an object in the one
 -- layout, a list in its one spelling, with drop-frame timecode where that is asked for or is in
 -- force at its first event line, the timeline that a list conforms to with the media list behind
--- it, the list of a timeline's events with the media list behind it, the rows of frames, or the
--- timeline that a script behind it leads to. A refusal is told of one of the files.
+-- it, the list of a timeline's events with the media list behind it, the rows of frames, the counts
+-- of items, the timeline that a script behind it leads to, or the one that several become. A
+-- refusal is told of one of the files.
 abbrev pub AnswersHeld : Command → List Source → Option (List ℕ) → List Content → Answer → Type 0
 AnswersHeld ToJson files target (Value value ∷ more) answer = answer ≡ done target (layout value)
 AnswersHeld ToObjects files target (Root object ∷ more) answer =
@@ -42,6 +60,16 @@ AnswersHeld Edit (file ∷ script ∷ files) target (Film timeline ∷ Commands 
 AnswersHeld (ListEdit rate) (file ∷ script ∷ files) target (Events list ∷ Commands commands ∷ more)
     answer = AnswersConformed file.name list (media_in more)
     (AnswersEdited file.name script.name commands.items (media_in more) target) answer
+AnswersHeld Stat (file ∷ files) target (Film timeline ∷ more) answer =
+    AnswersCounted file.name target timeline answer
+AnswersHeld (ListStat rate) (file ∷ files) target (Events list ∷ more) answer =
+    AnswersConformed file.name list (media_in more) (AnswersCounted file.name target) answer
+AnswersHeld Cat files target contents answer = AnswersCat files target contents answer
+AnswersHeld (ListCat rate) files target contents answer = AnswersCat files target contents answer
+AnswersHeld (Tool asked) files target contents answer =
+    AnswersWorked asked files target contents answer
+AnswersHeld (ListTool rate asked) files target contents answer =
+    AnswersWorked asked files target contents answer
 AnswersHeld command files target contents answer = ⊥
 
 -- the answer to a file that isn't there, or whose bytes are nothing of what they are read as

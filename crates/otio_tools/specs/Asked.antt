@@ -1,5 +1,5 @@
 -- What words ask for: a command, the files in the order in which they are read, and the output.
-use Rattle.std.specs.Prelude.{◌≡◌, ℕ, List, [], ◌∷◌, ◌++◌, Some, None}
+use Rattle.std.specs.Prelude.{◌≡◌, ◌||◌, ℕ, Bool, true, false, cond, List, [], ◌∷◌, ◌++◌, Some, None, bytes_eq, codes, map}
 use Rattle.std.specs.declared.option.Option.{Option}
 use Rattle.source_files.specs.Reading.{Source}
 use Rattle.source_files.specs.declared.kinds.Kind.{Kind}
@@ -7,6 +7,7 @@ use Rattle.source_files.specs.declared.kinds.Kind.TheVariants as kinds
 use Rattle.command_words.specs.Asked.{Ask, OtherNames}
 use Rattle.command_words.specs.declared.requests.Command.{Command}
 use Rattle.command_words.specs.declared.requests.Command.TheVariants.{ListToList, ListToObjects, TimelineToList, ToObjects, ToJson, Frames, ListFrames, Edit, ListEdit}
+use Rattle.command_words.specs.declared.requests.Command.TheVariants.{Cat, ListCat, Stat, ListStat, Tool, ListTool}
 
 pub record Asked : Type 0 where
   pub command : Command
@@ -14,7 +15,7 @@ pub record Asked : Type 0 where
   -- the file that the output goes to; none is the standard output
   pub target : Option (List ℕ)
 
--- what a command reads its file as
+-- what a command reads its file as; one that takes several reads each by its name
 abbrev pub kind_of : Command → Kind
 kind_of (ListToList rate drop wide) = kinds.List rate
 kind_of (ListToObjects rate) = kinds.List rate
@@ -25,6 +26,12 @@ kind_of (Frames asked) = kinds.Timeline
 kind_of (ListFrames rate asked) = kinds.List rate
 kind_of Edit = kinds.Timeline
 kind_of (ListEdit rate) = kinds.List rate
+kind_of Stat = kinds.Timeline
+kind_of (ListStat rate) = kinds.List rate
+kind_of Cat = kinds.Timeline
+kind_of (ListCat rate) = kinds.List rate
+kind_of (Tool asked) = kinds.Timeline
+kind_of (ListTool rate asked) = kinds.List rate
 
 -- the script of that name, where one is read
 abbrev pub script_source : Option (List ℕ) → List Source
@@ -49,16 +56,57 @@ abbrev pub edit_files : Command → List ℕ → List ℕ → Option (List ℕ) 
 edit_files command name script media =
     read_as name (kind_of command) ∷ read_as script kinds.Script ∷ media_source media
 
--- the files of a command on the file of that name, the script behind it and then the media list
+-- the files of a command on the file of that name alone, the script behind it and then the media
+-- list
+abbrev pub files_alone : Command → List ℕ → (script media : Option (List ℕ)) → List Source
+files_alone command name script media =
+    read_as name (kind_of command) ∷ (script_source script ++ media_source media)
+
+-- the name ends with `.edl`
+abbrev pub is_list : List ℕ → Bool
+is_list [] = false
+is_list (byte ∷ name) = bytes_eq (byte ∷ name) (codes ".edl") || is_list name
+
+-- what a command reads a file of that name as: one that takes several reads a list where the name
+-- is that of a list
+abbrev pub kind_named : Command → List ℕ → Kind
+kind_named (ListCat rate) name = cond (is_list name) (kinds.List rate) kinds.Timeline
+kind_named (ListTool rate asked) name = cond (is_list name) (kinds.List rate) kinds.Timeline
+kind_named command name = kind_of command
+
+abbrev pub input_named : Command → List ℕ → Source
+input_named command name = read_as name (kind_named command name)
+
+-- the command takes several files
+abbrev pub takes_several : Command → Bool
+takes_several Cat = true
+takes_several (ListCat rate) = true
+takes_several (Tool asked) = true
+takes_several (ListTool rate asked) = true
+takes_several command = false
+
+-- the inputs of a command: the file of that name, and those behind it where it takes several
+abbrev pub inputs : Command → List ℕ → List (List ℕ) → List Source
+inputs command name more = input_named command name
+    ∷ cond (takes_several command) (map (input_named command) more) []
+
+-- the files of a command on the file of that name and these others, in their order
 abbrev pub files_of : Command → List ℕ → OtherNames → List Source
-files_of command name others =
-    read_as name (kind_of command)
-    ∷ (script_source others.script ++ media_source others.media)
+files_of command name others = inputs command name others.more
+    ++ (script_source others.script ++ media_source others.media)
 
 -- what is asked for by a command on the file of that name, with these others
 abbrev pub asked_for : Command → List ℕ → OtherNames → Option (List ℕ) → Asked
 asked_for command name others target =
     record { command = command; files = files_of command name others; target = target }
+
+-- the same of a command on one file alone
+abbrev pub asked_alone : Command → List ℕ → OtherNames → Option (List ℕ) → Asked
+asked_alone command name others target = record {
+  command = command;
+  files = files_alone command name others.script others.media;
+  target = target;
+}
 
 -- the command edits a timeline
 abbrev pub EditsTimeline : Command → Type 0
@@ -71,6 +119,12 @@ EditsTimeline (Frames asked) = ⊥
 EditsTimeline (ListFrames rate asked) = ⊥
 EditsTimeline Edit = Unit {0}
 EditsTimeline (ListEdit rate) = Unit {0}
+EditsTimeline Stat = ⊥
+EditsTimeline (ListStat rate) = ⊥
+EditsTimeline Cat = ⊥
+EditsTimeline (ListCat rate) = ⊥
+EditsTimeline (Tool asked) = ⊥
+EditsTimeline (ListTool rate asked) = ⊥
 
 -- a script is named exactly where a timeline is edited
 abbrev pub IsScripted : Command → Option (List ℕ) → Type 0
@@ -88,6 +142,12 @@ ListsFrames (Frames asked) = Unit {0}
 ListsFrames (ListFrames rate asked) = Unit {0}
 ListsFrames Edit = ⊥
 ListsFrames (ListEdit rate) = ⊥
+ListsFrames Stat = ⊥
+ListsFrames (ListStat rate) = ⊥
+ListsFrames Cat = ⊥
+ListsFrames (ListCat rate) = ⊥
+ListsFrames (Tool asked) = ⊥
+ListsFrames (ListTool rate asked) = ⊥
 
 -- the words ask for this
 pub record Asks (words : List (List ℕ)) (asked : Asked) : Type 0 where

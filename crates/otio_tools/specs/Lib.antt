@@ -4,11 +4,14 @@ pub mod Asked
 pub mod Events
 pub mod Frames
 pub mod Conformed
+pub mod Opened
+pub mod Tools
 pub mod Written
 pub mod Edited
 pub mod Answer
 pub mod Run
 pub mod Plan
+pub mod Several
 pub mod Texts
 pub mod Carried
 pub mod Kept

@@ -9,17 +9,11 @@ use Rattle.edl_layout.specs.Labelled.{IsFirstPast}
 use Rattle.edl_layout.specs.Spelling.{spelling}
 use Rattle.otio_model.specs.Counts.{count as count_below}
 use Rattle.otio_model.specs.declared.timelines.Timeline.{Timeline}
-use Rattle.coord.specs.Soundness.{IsFaultless, IsFaultOf}
-use Rattle.coord.specs.declared.faults.CoordFault.{CoordFault}
-use Rattle.coord.specs.declared.faults.CoordFault.TheVariants as coord
+use Rattle.coord.specs.Soundness.{IsFaultless}
 use Rattle.undo_log.specs.States.{State}
 use Rattle.edit_script.specs.Runs.{Halts}
 use Rattle.edit_script.specs.declared.faults.CommandFault.{CommandFault}
 use Rattle.script_text.specs.declared.commands.Command as script
-use Rattle.edl_frames.specs.Faults.{IsConformFault}
-use Rattle.edl_frames.specs.declared.faults.ConformFault.{ConformFault}
-use Rattle.edl_frames.specs.declared.faults.ConformFault.TheVariants as conform
-use Rattle.fault_text.specs.Faults.{coord_fault_text, conform_fault_text}
 use Rattle.source_files.specs.Formats.{IsOfTables, Suits}
 use Rattle.frame_rows.specs.Rows.{listing_text}
 use Rattle.frame_rows.specs.declared.listing.RowFault.{RowFault}
@@ -38,27 +32,24 @@ use Rattle.command_words.specs.declared.requests.Command.{Command}
 use Rattle.command_words.specs.declared.requests.Command.TheVariants.{Edit, ListEdit}
 use Rattle.dev_io.specs.Known.{KnownFiles, KnownOut}
 use Rattle.dev_io.specs.Causes.{Rose}
-use Rattle.limits.specs.Limits.{most_items}
 use Rattle.edl_frames.specs.Shown.{MediaRows}
-use Rattle.edl_frames.specs.Conformed.{IsTimelineOf}
 use Rattle.edl_frames.specs.Carried.{not_carried, IsListOf}
 use Rattle.edl_frames_law.specs.Premises.{AreListed}
-use Rattle.edl_frames.specs.Refused.{IsAccepted}
-use Rattle.edl_frames.specs.Counted.{item_count}
 use Rattle.otio_tools.specs.Asked.{Asked, EditsTimeline, ListsFrames, kind_of}
 use Rattle.otio_tools.specs.Forms.{Answer, done, refused, absent, message_of, read_failed}
 use Rattle.otio_tools.specs.Events.{CanBeWritten}
 use Rattle.otio_tools.specs.Answer.{AnswersHeld, AnswersAsked}
 use Rattle.otio_tools.specs.Conformed.{media_in}
+use Rattle.otio_tools.specs.Opened.{IsConformedTo}
 use Rattle.script_law.specs.Shown.{opened}
 use Rattle.otio_tools.specs.Edited.{IsWorkOn, command_fault_text}
-use Rattle.otio_tools.specs.Written.{object_json, timeline_text}
+use Rattle.otio_tools.specs.Written.{listings_text, object_json, timeline_text}
 use Rattle.otio_tools.specs.declared.Desk.{Desk}
 use Rattle.otio_tools.specs.Run.{Streams, Sends, Directs, DirectsFront, DirectsPrefix, FailsUnder, Message, OutFailed, SendsNothing, no_memory, output_failed}
 use Rattle.otio_tools.specs.declared.Status.{Status}
 use Rattle.otio_tools.specs.declared.Status.TheVariants as status
 use Rattle.otio_tools.specs.declared.planned.Planned.{Planned}
-use Rattle.otio_tools.specs.declared.planned.Planned.TheVariants.{Events, Value, Root, Rows, Edited}
+use Rattle.otio_tools.specs.declared.planned.Planned.TheVariants.{Events, Value, Root, Rows, Edited, Listed}
 
 -- the text of what is to be sent
 abbrev pub text_planned : Planned → List ℕ
@@ -67,6 +58,7 @@ text_planned (Value value) = layout value
 text_planned (Root object) = layout (object_json object)
 text_planned (Rows timeline listing) = listing_text timeline listing
 text_planned (Edited desk) = timeline_text desk.timeline
+text_planned (Listed timeline asked) = listings_text timeline asked
 
 -- What is planned of contents is the answer, or why there is nothing to send, told of the file of
 -- that name; want of memory is free.
@@ -76,25 +68,22 @@ Suffices Is name (Ok planned) = (target : Option (List ℕ))
 Suffices Is name (Err refusal) =
     (target : Option (List ℕ)) → IsRefused (λ why. Is target (refused name why)) refusal
 
--- what is planned of what files hold; why there is nothing to send is told of the file of that name
-abbrev pub IsRefusedHeld : Command → List Source → List Content → List ℕ → ReadFault → Type 0
-IsRefusedHeld command files contents name Absent = ⊥
-IsRefusedHeld command files contents name Failed = ⊥
-IsRefusedHeld command files contents name (Refused refusal) = (target : Option (List ℕ))
-    → IsRefused (λ why. AnswersHeld command files target contents (refused name why)) refusal
+-- what is planned is the answer, or why there is nothing to send, told of the file of that name
+abbrev pub IsRefusedAs : (Option (List ℕ) → Answer → Type 0) → List ℕ → ReadFault → Type 0
+IsRefusedAs Is name Absent = ⊥
+IsRefusedAs Is name Failed = ⊥
+IsRefusedAs Is name (Refused refusal) =
+    (target : Option (List ℕ)) → IsRefused (λ why. Is target (refused name why)) refusal
 
+abbrev pub PlansAs : (Option (List ℕ) → Answer → Type 0) → Result Planned SourceFault → Type 0
+PlansAs Is (Ok planned) =
+    (target : Option (List ℕ)) → Is target (done target (text_planned planned))
+PlansAs Is (Err stop) = IsRefusedAs Is stop.name.now stop.fault
+
+-- what is planned of what files hold
 abbrev pub PlansHeld : Command → List Source → List Content → Result Planned SourceFault → Type 0
-PlansHeld command files contents (Ok planned) = (target : Option (List ℕ))
-    → AnswersHeld command files target contents (done target (text_planned planned))
-PlansHeld command files contents (Err stop) =
-    IsRefusedHeld command files contents stop.name.now stop.fault
-
--- the timeline of a list, which is accepted and makes few items
-pub record IsConformedTo (list : EventList) (media : MediaRows)
-    (timeline : Timeline) : Type 0 where
-  pub is : IsTimelineOf list media timeline
-  pub accepted : IsAccepted list media
-  pub few : item_count list ≤ most_items
+PlansHeld command files contents result =
+    PlansAs (λ target answer. AnswersHeld command files target contents answer) result
 
 -- the list of a timeline's events, which a list carries
 pub record IsCarriedBy (timeline : Timeline) (media : MediaRows) (drop wide : Bool)
@@ -130,6 +119,7 @@ LeavesWork command contents (Events list drop wide) = EditsTimeline command → 
 LeavesWork command contents (Value value) = EditsTimeline command → ⊥
 LeavesWork command contents (Root object) = EditsTimeline command → ⊥
 LeavesWork command contents (Rows timeline listing) = EditsTimeline command → ⊥
+LeavesWork command contents (Listed timeline asked) = EditsTimeline command → ⊥
 
 -- it is so of what these files hold
 abbrev pub LeavesWorkOf : Asked → Held → Planned → Type 0
@@ -144,6 +134,7 @@ IsDesk (Events list drop wide) = ⊥
 IsDesk (Value value) = ⊥
 IsDesk (Root object) = ⊥
 IsDesk (Rows timeline listing) = ⊥
+IsDesk (Listed timeline asked) = ⊥
 
 abbrev pub IsDeskFor : Command → Planned → Type 0
 IsDeskFor command planned = IsDesk planned → EditsTimeline command
@@ -155,39 +146,11 @@ desk_planned (Events list drop wide) before = before
 desk_planned (Value value) before = before
 desk_planned (Root object) before = before
 desk_planned (Rows timeline listing) before = before
+desk_planned (Listed timeline asked) before = before
 
 abbrev pub desk_after : Result Planned SourceFault → Option Desk → Option Desk
 desk_after (Ok planned) before = desk_planned planned before
 desk_after (Err stop) before = before
-
--- the sound timeline that is edited: that of the file, or one that its list conforms to
-abbrev pub IsOpened : Content → MediaRows → Timeline → Type 0
-IsOpened (content.Film film) media timeline = timeline ≡ film
-IsOpened (content.Events list) media timeline = IsConformedTo list media timeline
-IsOpened (content.Value value) media timeline = ⊥
-IsOpened (content.Root object) media timeline = ⊥
-IsOpened (content.Rows rows) media timeline = ⊥
-IsOpened (content.Commands commands) media timeline = ⊥
-
--- a timeline isn't sound, as it is told
-abbrev pub IsUnsound : Timeline → List ℕ → Type 0
-IsUnsound timeline why = (fault : CoordFault) × (fault ≢ coord.Memory) × IsFaultOf timeline fault
-    × (why ≡ coord_fault_text fault)
-
--- a list isn't conformed, as it is told
-abbrev pub IsUnconformed : EventList → MediaRows → List ℕ → Type 0
-IsUnconformed list media why = (fault : ConformFault) × (fault ≢ conform.Memory)
-    × IsConformFault list media fault × (why ≡ conform_fault_text fault)
-
--- why there is no timeline to edit
-abbrev pub IsUnopened : Content → MediaRows → List ℕ → Type 0
-IsUnopened (content.Film film) media why = IsUnsound film why
-IsUnopened (content.Events list) media why = IsUnconformed list media why
-    ⊎ ((timeline : Timeline) × IsConformedTo list media timeline × IsUnsound timeline why)
-IsUnopened (content.Value value) media why = ⊥
-IsUnopened (content.Root object) media why = ⊥
-IsUnopened (content.Rows rows) media why = ⊥
-IsUnopened (content.Commands commands) media why = ⊥
 
 -- a command of the script is refused, as it is told
 abbrev pub IsHaltOf : Timeline → List script.Command → MediaRows → List ℕ → Type 0
@@ -258,6 +221,7 @@ Fits (Value value) = Unit {0}
 Fits (Root object) = Unit {0}
 Fits (Rows timeline listing) = CanBeShown timeline
 Fits (Edited desk) = Unit {0}
+Fits (Listed timeline asked) = count_below timeline.tracks.children < 2 ^ 32
 
 abbrev pub AreRows : Planned → Type 0
 AreRows (Events list drop wide) = ⊥
@@ -265,6 +229,7 @@ AreRows (Value value) = ⊥
 AreRows (Root object) = ⊥
 AreRows (Rows timeline listing) = Unit {0}
 AreRows (Edited desk) = ⊥
+AreRows (Listed timeline asked) = ⊥
 
 -- rows are planned for frames alone
 abbrev pub IsFor : Command → Planned → Type 0

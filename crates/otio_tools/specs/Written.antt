@@ -1,4 +1,4 @@
--- What is written of objects and timelines.
+-- What is written of objects and timelines, and what is listed of them.
 use Rattle.std.specs.Prelude.{◌≡◌, ℕ, List}
 use Rattle.std.specs.declared.option.Option.{Option}
 use Rattle.json_value.specs.declared.Json.{Json}
@@ -6,6 +6,8 @@ use Rattle.json_layout.specs.Layout.{layout}
 use Rattle.otio_model.specs.declared.roots.Object.{Object, Timeline as ObjectOfTimeline}
 use Rattle.otio_model.specs.declared.timelines.Timeline.{Timeline}
 use Rattle.schema_write.specs.Objects.{json_of}
+use Rattle.listings.specs.Texts.{listed_text}
+use Rattle.listings.specs.declared.asked.Listings.{Listings}
 use Rattle.otio_tools.specs.Forms.{Answer, done}
 
 -- the JSON of an object that is written, in the current schemas and the written order
@@ -19,3 +21,8 @@ timeline_text timeline = layout (object_json (ObjectOfTimeline timeline))
 -- the answer to a timeline that is written
 abbrev pub AnswersWritten : Option (List ℕ) → Timeline → Answer → Type 0
 AnswersWritten target timeline answer = answer ≡ done target (timeline_text timeline)
+
+-- the listings of a timeline that are asked for
+abbrev pub listings_text : Timeline → Listings → List ℕ
+listings_text timeline asked =
+    listed_text timeline asked.tracks asked.clips asked.media asked.stats

@@ -1,5 +1,5 @@
 // The top call.
-ghost use Rattle.std.specs.Prelude.{◌≡◌, ◌≢◌, ◌⊎◌, ℕ, List, None, map, string_bytes, IfOk, IfSome};
+ghost use Rattle.std.specs.Prelude.{◌≡◌, ◌≢◌, ◌⊎◌, ◌<◌, ◌^◌, ℕ, List, None, length, map, string_bytes, suc, IfOk, IfSome};
 ghost use Rattle.dev_io.specs.Calls.{Tells, SendsAll, IsFresh};
 ghost use Rattle.edl_layout.specs.Spelling.{spelling};
 ghost use Rattle.json_layout.specs.Layout.{layout};
@@ -7,7 +7,9 @@ ghost use Rattle.frame_rows.specs.Rows.{listing_text};
 ghost use Rattle.command_words.specs.Asked.{Ask, AskNothing};
 ghost use Rattle.command_words.specs.Asked.{other_names};
 ghost use Rattle.otio_tools.specs.Asked.{IsScripted, EditsTimeline};
-ghost use Rattle.otio_tools.specs.Written.{object_json, timeline_text};
+ghost use Rattle.otio_model.specs.Counts.{count as count_below};
+ghost use Rattle.otio_tools.specs.Several.{HasJoining};
+ghost use Rattle.otio_tools.specs.Written.{listings_text, object_json, timeline_text};
 ghost use Rattle.otio_tools.specs.Worked.{AskNoEdit, LeavesDesk};
 ghost use Rattle.otio_tools.specs.Texts.{text_at};
 ghost use Rattle.otio_tools.specs.Kept.{KeepsShown};
@@ -25,6 +27,7 @@ use edl_list::EventList;
 use frame_rows::{Listing, RowFault, write_rows};
 use json_layout::write_json;
 use json_value::Json;
+use listings::{Listings, write_listings};
 use object_layout::{write_object, write_timeline};
 use otio_model::{Object, Timeline};
 use source_files::{ReadFault, Refusal, SourceFault};
@@ -71,6 +74,18 @@ const USAGE: &[u8] = b"otio: usage
 /// that `--media` names, and sends the timeline that they lead to. Refused are a timeline that
 /// isn't sound, and then, told of the script, the first command that is refused. What is sent
 /// stands on `desk` then, with the log of the edits; every other command leaves `desk` as it is.
+///
+/// `cat FILE...` reads timelines, and lists, which it conforms in the same way, and sends the
+/// timeline that they become one after another, track by track. `tool FILE...` reads the same and
+/// does in this order what its options ask for: `--concat` or `--stack` makes one timeline of
+/// several, `--video-only` or `--audio-only` keeps root tracks of one kind, `--remove-transitions`
+/// takes them out of all tracks, `--trim A,B` keeps the record frames from A up to B, and
+/// `--flatten KIND` makes one track of those of a kind, beside them with `--keep-flattened-tracks`.
+/// Then it sends the listings that `--list-tracks`, `--list-clips`, `--list-media` and `--stats`
+/// ask for, in this order, else the timeline. `stat FILE` sends the listing of `--stats` of one
+/// timeline. Refused are the first input that isn't a sound timeline or isn't conformed, and then
+/// the first step that can't be done: told of the input that it fails in, where several are
+/// joined, else of the first.
 ///
 /// `-o OUT` aims `out` at that file before anything is sent.
 /// Each status but `Done` sends one message to `err`; where `err` fails, a prefix of it was sent,
@@ -148,6 +163,8 @@ fn serve<F: Files, W: Out, E: Out>(
     requires fresh { IsFresh (W.known out.old) }
     requires empty { desk.old ≡ None }
     requires scripted { IsScripted request.command (text_at request.others.script) }
+    requires joining { HasJoining request.command
+        (suc (length (other_names request.others).more)) }
     ensures ends { (words : List (List ℕ)) →
         Ask words request.entry.command request.entry.name.now (other_names request.entry.others)
         (text_at request.entry.target) →
@@ -277,6 +294,7 @@ fn write_planned<W: Out>(alloc: Global, planned: &Planned, out: &mut W) -> Resul
         Planned::Root(object) => write_root(object, out),
         Planned::Rows(timeline, listing) => write_frames(alloc, timeline, listing, out),
         Planned::Edited(desk) => write_edited(&desk.timeline, out),
+        Planned::Listed(timeline, asked) => write_listed(timeline, *asked, out),
     }
 }
 
@@ -349,6 +367,19 @@ fn write_frames<W: Out>(
         Ok(()) => Ok(()),
         Err(RowFault::Sink) => Err(RowFault::Sink),
         Err(RowFault::Memory) => Err(RowFault::Memory),
+    }
+}
+
+// Sends listings.
+fn write_listed<W: Out>(timeline: &Timeline, asked: Listings, out: &mut W) -> Result<(), RowFault>
+    requires { count_below timeline.now.tracks.children < 2 ^ 32 }
+    ensures told { Tells (SendsAll (listings_text timeline.now asked) result) (W.known out.old)
+        (W.known out.new) }
+    ensures cause { HasSendCause ⊥ (W.faults out.old) (W.faults out.new) result }
+{
+    match write_listings(timeline, asked, out) {
+        Ok(()) => Ok(()),
+        Err(_) => Err(RowFault::Sink),
     }
 }
 

@@ -8,7 +8,8 @@ ghost use Rattle.edl_frames.specs.Faults.{IsConformFault};
 ghost use Rattle.otio_tools.specs.Conformed.{AnswersConformed};
 ghost use Rattle.otio_tools.specs.Written.{AnswersWritten};
 ghost use Rattle.otio_tools.specs.Frames.{AnswersTimeline};
-ghost use Rattle.otio_tools.specs.Plan.{AreRows, Fits, IsConformedTo, IsDesk, Suffices};
+ghost use Rattle.otio_tools.specs.Opened.{IsConformedTo};
+ghost use Rattle.otio_tools.specs.Plan.{AreRows, Fits, IsDesk, Suffices};
 
 use crate::frames::frames_to_write;
 use crate::planned::Planned;
@@ -63,9 +64,9 @@ pub fn conformed_frames_to_write(
     }
 }
 
-// The timeline that a list conforms to. The list and the media list aren't freed: what is left of a
-// run is to send the timeline.
-fn conformed(
+/// The timeline that a list conforms to, or why it isn't conformed. The list and the media list
+/// aren't freed: what is left of a run is to send the timeline.
+pub fn conformed(
     alloc: Global,
     list: EventList,
     media: Option<MediaList>,

@@ -1,4 +1,4 @@
-// Timelines that scripts are run on.
+// Timelines that are worked on, and scripts that are run on them.
 ghost use Rattle.std.specs.Prelude.{◌≡◌, ◌≢◌, ◌<◌, ◌^◌, ℕ, IfErr, IfOk, MatchOption};
 ghost use Rattle.std.specs.Option.{option_copied};
 ghost use Rattle.otio_model.specs.Counts.{count as count_below};
@@ -6,8 +6,10 @@ ghost use Rattle.coord.specs.Soundness.{IsSound, IsCalm};
 ghost use Rattle.edl_list.specs.Formed.{IsWellFormed};
 ghost use Rattle.fault_text.specs.Reasons.{reason_text};
 ghost use Rattle.source_files.specs.Reading.{IsRefused};
+ghost use Rattle.object_law.specs.Writable.{IsTimeline as IsWritable};
 ghost use Rattle.otio_tools.specs.Edited.{IsWorkOn, command_fault_text};
-ghost use Rattle.otio_tools.specs.Plan.{IsConformedTo, IsEditable, IsHaltOf, IsOpened, IsUnconformed, IsUnopened, IsUnsound};
+ghost use Rattle.otio_tools.specs.Opened.{IsConformedTo, IsOpened, IsUnconformed, IsUnopened, IsUnsound};
+ghost use Rattle.otio_tools.specs.Plan.{IsEditable, IsHaltOf};
 
 use crate::Desk;
 use crate::conformed::not_conformed;
@@ -25,11 +27,11 @@ use std::alloc::Global;
 use std::mem;
 use undo_log::Log;
 
-#[tactic(auto, using(crate::proofs::CalmTimelines::tables_are_calm, crate::proofs::Editing::unsound_list))]
-/// The sound timeline that a script is run on: the one that a file holds, or the one that its list
+#[tactic(auto, using(crate::proofs::CalmTimelines::tables_are_calm, crate::proofs::CalmTimelines::tables_are_writable, crate::proofs::Editing::unsound_list))]
+/// The sound timeline that is worked on: the one that a file holds, or the one that its list
 /// conforms to with this media list. An error tells why the list isn't conformed, or else the first
 /// fault of a timeline that isn't sound; or it is want of memory.
-pub fn timeline_to_edit(
+pub fn opened_timeline(
     alloc: Global,
     content: Content,
     media: Option<&MediaList>,
@@ -37,6 +39,7 @@ pub fn timeline_to_edit(
     requires { IsEditable content }
     ensures opened { IfOk result (IsOpened content (option_copied media.entry)) }
     ensures sound { IfOk result IsSound }
+    ensures written { IfOk result IsWritable }
     ensures few { IfOk result (λ timeline. count_below timeline.tracks.children < 2 ^ 32) }
     ensures refused { IfErr result
         (IsRefused (IsUnopened content (option_copied media.entry))) }
@@ -81,6 +84,7 @@ fn timeline_of_list(
     requires { IsWellFormed list }
     ensures timeline { IfOk result (IsConformedTo list (option_copied media.entry)) }
     ensures calm { IfOk result IsCalm }
+    ensures written { IfOk result IsWritable }
     ensures few { IfOk result (λ timeline. count_below timeline.tracks.children < 2 ^ 32) }
     ensures refused { IfErr result
         (IsRefused (IsUnconformed list (option_copied media.entry))) }

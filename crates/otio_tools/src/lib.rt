@@ -9,11 +9,13 @@ ghost use Rattle.otio_tools.specs.Forms.{Answer};
 mod carried;
 mod command;
 mod conformed;
+mod counted;
 mod edited;
 mod frames;
 mod list;
 mod planned;
 mod say;
+mod several;
 mod texts;
 
 pub use command::run;

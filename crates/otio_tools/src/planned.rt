@@ -1,5 +1,5 @@
 // What is to be sent for a command, or why there is nothing.
-ghost use Rattle.std.specs.Prelude.{◌≡◌, ◌≢◌, ◌++◌, ℕ, List, Option, [], ◌∷◌, IfOk, IfErr, length};
+ghost use Rattle.std.specs.Prelude.{◌≡◌, ◌≢◌, ◌++◌, ℕ, List, Option, [], ◌∷◌, IfOk, IfErr, false, length, suc};
 ghost use Rattle.std.specs.Global.{Vec as AnyVec};
 ghost use Rattle.std.specs.Option.{option_copied};
 ghost use Rattle.command_words.specs.declared.requests.Command.{Command as AnyCommand};
@@ -12,7 +12,9 @@ ghost use Rattle.source_files.specs.declared.kinds.Content.{Content as AnyConten
 ghost use Rattle.source_files.specs.declared.kinds.Content.TheVariants.{Value, Root, Film, Events as ListOf, Rows, Commands};
 ghost use Rattle.source_files.specs.declared.kinds.Kind.TheVariants.{Json as AsJson, Object as AsObject, Timeline as AsTimeline};
 ghost use Rattle.command_words.specs.Asked.{other_names};
-ghost use Rattle.otio_tools.specs.Asked.{EditsTimeline, IsScripted, asked_for, edit_files, files_of, kind_of, one_file};
+ghost use Rattle.otio_tools.specs.Asked.{EditsTimeline, IsScripted, asked_alone, asked_for, edit_files, files_alone, kind_of, one_file};
+ghost use Rattle.otio_tools.specs.Asked as asking;
+ghost use Rattle.otio_tools.specs.Several.{HasJoining};
 ghost use Rattle.otio_tools.specs.Answer.{AnswersHeld};
 ghost use Rattle.otio_tools.specs.Plan.{Plans, PlansHeld, Suffices, AreContents, AreEditContents, AreEditParts, AreRows, Fits, HasFormedList, IsDesk, IsDeskFor, IsEditable, IsFor, LeavesWork, media_content};
 ghost use Rattle.otio_tools.specs.Texts.{text_at};
@@ -20,14 +22,17 @@ ghost use Rattle.otio_tools.specs.Texts.{text_at};
 use crate::Desk;
 use crate::carried::timeline_to_list;
 use crate::conformed::{conformed_frames_to_write, conformed_to_write};
-use crate::edited::{run_script, timeline_to_edit};
+use crate::counted::{conformed_counts_to_write, counts_to_write};
+use crate::edited::{opened_timeline, run_script};
 use crate::frames::frames_to_write;
 use crate::list::list_to_write;
+use crate::several::plan_several;
 use command_words::{Command, Others};
 use dev_io::Files;
 use edl_list::EventList;
 use frame_rows::Listing;
 use json_value::Json;
+use listings::Listings;
 use media_list::MediaList;
 use otio_model::{Object, Timeline};
 use script_text::Command as ScriptCommand;
@@ -55,6 +60,8 @@ pub enum Planned {
     Rows(Timeline, Listing),
     /// The timeline of a desk, in the layout of its JSON.
     Edited(Desk),
+    /// Listings of a timeline.
+    Listed(Timeline, Listings),
 }
 
 /// What the command is to send for the file of that name, with the others behind it: the files are
@@ -66,7 +73,8 @@ pub fn plan<'a, F: Files>(
     others: Others<'a>,
     files: &mut F,
 ) -> Result<Planned, SourceFault<'a>>
-    requires { IsScripted command (text_at others.script) }
+    requires scripted { IsScripted command (text_at others.script) }
+    requires joining { HasJoining command (suc (length (other_names others).more)) }
     ensures told { (target : Option (List ℕ)) →
         Tells (Plans (asked_for command name.now (other_names others.entry) target) result)
         (F.known files.old) (F.known files.new) }
@@ -75,8 +83,49 @@ pub fn plan<'a, F: Files>(
     ensures desk { IfOk result (λ planned. IsDeskFor command planned) }
     ensures cause { RaisedAt result (F.faults files.old) (F.faults files.new) }
 {
-    match contents_of(alloc, command, name, others, files) {
-        Ok(contents) => planned_for(alloc, command, name, others, contents),
+    if takes_several(command) {
+        plan_several(alloc, command, name, others, files)
+    } else {
+        plan_alone(alloc, command, name, others, files)
+    }
+}
+
+// Whether a command takes several files.
+fn takes_several(command: Command) -> bool
+    ensures { result ≡ asking.takes_several command }
+{
+    match command {
+        Command::Cat | Command::ListCat { .. } => true,
+        Command::Tool(_) | Command::ListTool { .. } => true,
+        Command::ListToList { .. } | Command::ListToObjects { .. } => false,
+        Command::TimelineToList { .. } | Command::ToObjects | Command::ToJson => false,
+        Command::Frames(_) | Command::ListFrames { .. } => false,
+        Command::Edit | Command::ListEdit { .. } => false,
+        Command::Stat | Command::ListStat { .. } => false,
+    }
+}
+
+// What a command on one file is to send for the file of that name, with the others behind it.
+fn plan_alone<'a, F: Files>(
+    alloc: Global,
+    command: Command,
+    name: &'a str,
+    others: Others<'a>,
+    files: &mut F,
+) -> Result<Planned, SourceFault<'a>>
+    requires scripted { IsScripted command (text_at others.script) }
+    requires alone { asking.takes_several command ≡ false }
+    ensures told { (target : Option (List ℕ)) →
+        Tells (Plans (asked_alone command name.now (other_names others.entry) target) result)
+        (F.known files.old) (F.known files.new) }
+    ensures fits { IfOk result (λ planned. Fits planned) }
+    ensures kind { IfOk result (λ planned. IsFor command planned) }
+    ensures desk { IfOk result (λ planned. IsDeskFor command planned) }
+    ensures cause { RaisedAt result (F.faults files.old) (F.faults files.new) }
+{
+    let Others { script, media, .. } = others;
+    match contents_of(alloc, command, name, script, media, files) {
+        Ok(contents) => planned_for(alloc, command, name, script, contents),
         Err(stop) => Err(stop),
     }
 }
@@ -86,30 +135,32 @@ fn contents_of<'a, F: Files>(
     alloc: Global,
     command: Command,
     name: &'a str,
-    others: Others<'a>,
+    script: Option<&'a str>,
+    media: Option<&'a str>,
     files: &mut F,
 ) -> Result<Vec<Content>, SourceFault<'a>>
     ensures read { IfOk result (λ contents.
-        Tells (HaveRead (files_of command name.now (other_names others.entry)) contents.items)
+        Tells (HaveRead (files_alone command name.now (text_at script.entry) (text_at media.entry))
+        contents.items)
         (F.known files.old) (F.known files.new)) }
     ensures stopped { IfErr result (λ stop.
-        Tells (HasStopped (files_of command name.now (other_names others.entry)) stop)
+        Tells (HasStopped (files_alone command name.now (text_at script.entry) (text_at media.entry)) stop)
         (F.known files.old) (F.known files.new)) }
     ensures suits { IfOk result (λ contents. EachIs (λ source content. Suits source.kind content)
-        (files_of command name.now (other_names others.entry)) contents.items) }
+        (files_alone command name.now (text_at script.entry) (text_at media.entry)) contents.items) }
     ensures cause { RaisedAt result (F.faults files.old) (F.faults files.new) }
 {
     let file = Source {
         name,
         kind: kind_asked(command),
     };
-    match others.script {
+    match script {
         Some(name) => {
             let script = Source {
                 name,
                 kind: Kind::Script,
             };
-            match others.media {
+            match media {
                 Some(list) => {
                     let rows = Source {
                         name: list,
@@ -120,7 +171,7 @@ fn contents_of<'a, F: Files>(
                 None => read_sources(alloc, &[file, script], files),
             }
         }
-        None => match others.media {
+        None => match media {
             Some(list) => {
                 let rows = Source {
                     name: list,
@@ -147,6 +198,12 @@ fn kind_asked(command: Command) -> Kind
         Command::ListFrames { rate, frames: _ } => Kind::List(rate),
         Command::Edit => Kind::Timeline,
         Command::ListEdit { rate } => Kind::List(rate),
+        Command::Stat => Kind::Timeline,
+        Command::ListStat { rate } => Kind::List(rate),
+        Command::Cat => Kind::Timeline,
+        Command::ListCat { rate } => Kind::List(rate),
+        Command::Tool(_) => Kind::Timeline,
+        Command::ListTool { rate, tool: _ } => Kind::List(rate),
     }
 }
 
@@ -155,21 +212,22 @@ fn planned_for<'a>(
     alloc: Global,
     command: Command,
     name: &'a str,
-    others: Others<'a>,
+    script: Option<&'a str>,
     contents: Vec<Content>,
 ) -> Result<Planned, SourceFault<'a>>
-    requires scripted { IsScripted command (text_at others.script) }
-    requires suits { EachIs (λ source content. Suits source.kind content)
-        (files_of command name.now (other_names others)) contents.items }
-    ensures told { PlansHeld command (files_of command name.now (other_names others.entry))
-        contents.items result }
+    requires scripted { IsScripted command (text_at script) }
+    requires alone { asking.takes_several command ≡ false }
+    requires suits { (media : Option (List ℕ)) × EachIs (λ source held. Suits source.kind held)
+        (files_alone command name.now (text_at script) media) contents.items }
+    ensures told { (media : Option (List ℕ)) → PlansHeld command
+        (files_alone command name.now (text_at script.entry) media) contents.items result }
     ensures work { IfOk result (LeavesWork command contents.items) }
     ensures fits { IfOk result (λ planned. Fits planned) }
     ensures kind { IfOk result (λ planned. IsFor command planned) }
     ensures desk { IfOk result (λ planned. IsDeskFor command planned) }
     ensures calm { (n : ℕ) → RaisedAt result n n }
 {
-    match others.script {
+    match script {
         Some(script) => edit_planned(alloc, command, name, script, contents),
         None => judged(alloc, command, name, contents),
     }
@@ -184,6 +242,7 @@ fn judged<'a>(
     contents: Vec<Content>,
 ) -> Result<Planned, SourceFault<'a>>
     requires other { EditsTimeline command → ⊥ }
+    requires alone { asking.takes_several command ≡ false }
     requires suits { (media : Option (List ℕ)) ×
         EachIs (λ source content. Suits source.kind content)
         (one_file command name.now media) contents.items }
@@ -250,7 +309,7 @@ fn edited<'a>(
     ensures kind { IfOk result (λ planned. AreRows planned → ⊥) }
     ensures calm { (n : ℕ) → RaisedAt result n n }
 {
-    match timeline_to_edit(alloc, content, media) {
+    match opened_timeline(alloc, content, media) {
         Ok(timeline) => match run_script(alloc, timeline, commands, media) {
             Ok(desk) => Ok(Planned::Edited(desk)),
             Err(refusal) => Err(SourceFault {
@@ -355,6 +414,7 @@ fn judge(
 ) -> Result<Planned, Refusal>
     requires suits { Suits (kind_of command) content }
     requires other { EditsTimeline command → ⊥ }
+    requires alone { asking.takes_several command ≡ false }
     ensures owed { (file : Input) (more : List Input) →
         Suffices (λ target answer. AnswersHeld command (file ∷ more) target
         (content ∷ media_content media) answer) file.name result }
@@ -374,8 +434,14 @@ fn judge(
         Command::ListFrames { rate: _, frames } => {
             conformed_frames_to_write(alloc, list_in(content), media, frames)
         }
+        Command::Stat => counts_to_write(alloc, timeline_in(content)),
+        Command::ListStat { rate: _ } => {
+            conformed_counts_to_write(alloc, list_in(content), media)
+        }
         Command::Edit => unreachable!(),
         Command::ListEdit { rate: _ } => unreachable!(),
+        Command::Cat | Command::ListCat { .. } => unreachable!(),
+        Command::Tool(_) | Command::ListTool { .. } => unreachable!(),
     }
 }
 

@@ -24,7 +24,7 @@ fn reel_or_name(clip: &Clip) -> KeyRef<'_>
 }
 
 /// What the clip's frames are known by.
-fn key_of(clip: &Clip) -> KeyRef<'_>
+pub fn key_of(clip: &Clip) -> KeyRef<'_>
     ensures { pictures.key_of result ≡ keys.key_of clip.now }
 {
     match clip.media() {

@@ -11,8 +11,9 @@ mod print;
 mod program;
 mod weights;
 
+pub use clips::key_of;
 pub use picture::{KeyRef, MixKind, Picture};
-pub use print::{print_show, put_show};
+pub use print::{print_show, put_key, put_show};
 pub use program::{Clock, clock_of, show, show_at};
 
 #[cfg(test)]

@@ -74,8 +74,8 @@ fn put_frame<W: Out>(buffer: &mut OutBuffer, out: &mut W, key: &KeyRef<'_>, numb
     put_signed(buffer, out, number);
 }
 
-// Hands over what a frame's clip is known by.
-fn put_key<W: Out>(buffer: &mut OutBuffer, out: &mut W, key: &KeyRef<'_>)
+/// Hands over what a frame's clip is known by, as it stands before the number of a frame.
+pub fn put_key<W: Out>(buffer: &mut OutBuffer, out: &mut W, key: &KeyRef<'_>)
     ensures { HandsOver W.known W.faults out.old out.new buffer.old buffer.new
         (key_text (key_of key.now)) }
 {

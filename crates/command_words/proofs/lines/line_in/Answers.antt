@@ -13,5 +13,7 @@ returns c = λ i. record {
   script = c.value_of-9.ensures i;
   drop = c.has_flag.ensures i;
   wide = c.has_flag-2.ensures i;
+  tool = c.tool_line_in.ensures i;
   file = c.value_of-10.ensures i;
+  more = c.in_ok-more.ensures i;
 }

@@ -1,7 +1,7 @@
 use Rattle.std.proofs.Common.{ap, ap₂, ◌∙◌}
 use Rattle.std.proofs.lemmas.Result.{IfOk-weaker}
 use Rattle.clap.specs.Words.{with_rule}
-use Rattle.command_words.specs.Options.{list_arguments, unnamed, with_rules}
+use Rattle.command_words.specs.Options.{list_options, unnamed, with_rules}
 use Rattle.command_words.proofs.Reading.{unnamed_app}
 use Rattle.command_words.proofs.options.convert_reader.Goals as goal
 
@@ -16,5 +16,6 @@ returns c =
     ∙ ap₂ with_rule to c.flag.ensures.rule in
     let wide = c.in_ok-command.ensures.shape c.flag-2.ensures.local
     ∙ ap₂ with_rule drop c.flag-2.ensures.rule in
-    IfOk-weaker c.with_list_arguments.result _ _
-    (λ more h. h ∙ ap (λ a. with_rules a list_arguments) wide) c.with_list_arguments.ensures
+    let listed = c.in_ok-with_list_options.ensures ∙ ap (λ a. with_rules a list_options) wide in
+    IfOk-weaker c.arg-5.result _ _ (λ more h. h.shape c.file.ensures.local
+    ∙ ap₂ with_rule listed c.file.ensures.rule) c.arg-5.ensures

@@ -1,4 +1,5 @@
-use Rattle.edited_law.proofs.EditedTimelines.{stands_again, stays_writable}
+use Rattle.writable_law.proofs.CalmTimelines.{stands_again}
+use Rattle.edited_law.proofs.EditedTimelines.{stays_writable}
 use Rattle.edited_law.proofs.laws.edited_timelines_are_writable.Goals as goal
 
 pub returns-clause-writable : goal.returns-clause-writable

@@ -1,4 +1,4 @@
-use Rattle.edited_law.proofs.EditedTimelines.{stands_again}
+use Rattle.writable_law.proofs.CalmTimelines.{stands_again}
 use Rattle.edited_law.proofs.WritableScripts.{scripts_keep}
 use Rattle.edited_law.proofs.laws.scripts_keep_timelines_writable.Goals as goal
 

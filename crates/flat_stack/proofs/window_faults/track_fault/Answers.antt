@@ -4,7 +4,8 @@ use Rattle.otio_model.specs.Trees.{children_of, items_of}
 use Rattle.coord.proofs.Members.{got_below}
 use Rattle.flat.specs.Roots.{is_plain, items_in}
 use Rattle.flat_stack.specs.Uncut.{AreCutTo, IsUncut}
-use Rattle.flat_stack.proofs.WindowFaults.{not_plain_first, plain_items, plain_some, uncut_first, free_child, inner_short, inner_cuttable}
+use Rattle.flat_stack.proofs.WindowFaults.{not_plain_first, uncut_first, free_child}
+use Rattle.flat_roots.proofs.RootLemmas.{plain_items, plain_some, inner_short, inner_cuttable}
 use Rattle.flat_stack.proofs.window_faults.track_fault.Goals as goal
 
 pub returns-then-not-is_plain-clause-some : goal.returns-then-not-is_plain-clause-some

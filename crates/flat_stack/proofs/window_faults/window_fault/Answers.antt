@@ -1,10 +1,12 @@
-use Rattle.std.proofs.Common.{arith}
+use Rattle.std.proofs.Common.{arith, length}
 use Rattle.std.proofs.lemmas.Int.{to_z-of_z}
 use Rattle.otio_model.specs.Trees.{items_of}
 use Rattle.coord.proofs.Members.{child_few, index_few, got_below}
 use Rattle.flat.specs.Windowed.{WindowBlocks}
-use Rattle.flat_stack.proofs.FirstLemmas.{free_more}
-use Rattle.flat_stack.proofs.WindowFaults.{none_first, roots_free, root_first, root_faultless}
+use Rattle.flat_roots.proofs.FirstLemmas.{free_more}
+use Rattle.flat_stack.proofs.SoughtLemmas.{free_from, first_at}
+use Rattle.flat_stack.proofs.WindowFaults.{none_first, roots_low}
+use Rattle.flat_roots.proofs.RootLemmas.{root_faultless}
 use Rattle.flat_stack.proofs.window_faults.window_fault.Goals as goal
 
 pub children-init : goal.children-init
@@ -28,7 +30,7 @@ returns-in-Some-clause-some c =
     let fits_to = c.ranges.to in
     let first = simp to_z-of_z at (c.in-Some.ensures.some (items_of c.args.children.now) c.child.ensures) in
     let known = simp to_z-of_z at c.children.invariant in
-    root_first (items_of c.args.children.now) c.args.from c.args.to c.children.index c.in-Some.spot.track c.in-Some.spot.child c.in-Some.spot.cause c.in-Some.ensures.track known first
+    first_at (WindowBlocks (items_of c.args.children.now) c.args.from c.args.to) c.children.index c.in-Some.spot.track c.in-Some.spot.child c.in-Some.spot.cause c.in-Some.ensures.track known first
 
 pub children-preserved : goal.children-preserved
 children-preserved c =
@@ -43,4 +45,4 @@ returns-clause-none c =
     let fits_from = c.ranges.from in
     let fits_to = c.ranges.to in
     let known = simp to_z-of_z at c.children.invariant in
-    roots_free (items_of c.args.children.now) c.args.from c.args.to c.children.index (omega arith) known
+    free_from (WindowBlocks (items_of c.args.children.now) c.args.from c.args.to) (length (items_of c.args.children.now)) c.children.index (omega arith) known (roots_low (items_of c.args.children.now) c.args.from c.args.to)

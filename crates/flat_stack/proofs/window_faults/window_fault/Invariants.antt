@@ -1,7 +1,7 @@
 -- Nothing is wrong with the root children so far.
 use Rattle.otio_model.specs.Trees.{items_of}
 use Rattle.flat.specs.Windowed.{WindowBlocks}
-use Rattle.flat_stack.specs.Sought.{IsFreeTo}
+use Rattle.flat_roots.specs.Sought.{IsFreeTo}
 use Rattle.flat_stack.proofs.window_faults.window_fault.Given as goal
 
 abbrev pub invariant-children : goal.invariant-children

@@ -3,6 +3,7 @@ use Rattle.otio_tools.proofs.RunEnds.{asks_nothing, usage_given}
 use Rattle.otio_tools.proofs.OneAnswer.{completes}
 use Rattle.otio_tools.proofs.Keeping.{keeps}
 use Rattle.otio_tools.proofs.Sending.{stays_same}
+use Rattle.otio_tools.proofs.SeveralWords.{joining}
 use Rattle.otio_tools.proofs.Working.{leaves_usage, no_edit, scripted}
 use Rattle.otio_tools.specs.Run.{streams}
 use Rattle.otio_tools.specs.declared.Status.TheVariants.{Usage}
@@ -72,6 +73,10 @@ returns-in-Err-Usage-clause-kept g c =
 pub serve-requires-clause-scripted : goal.serve-requires-clause-scripted
 serve-requires-clause-scripted g c =
     scripted _ _ _ _ _ (rw c.as_slice.ensures.value at c.in-Ok.ensures)
+
+pub serve-requires-clause-joining : goal.serve-requires-clause-joining
+serve-requires-clause-joining g c =
+    joining _ _ _ _ _ (rw c.as_slice.ensures.value at c.in-Ok.ensures)
 
 pub returns-in-Ok-clause-worked : goal.returns-in-Ok-clause-worked
 returns-in-Ok-clause-worked g c =

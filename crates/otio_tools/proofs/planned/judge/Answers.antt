@@ -54,3 +54,16 @@ returns-in-ListFrames-clause-owed c = λ file more.
     (media_content c.args.media) file more c.conformed_frames_to_write.result
     c.in-ListFrames.is c.list_in-in-ListFrames.ensures
     (rw (media_is c.args.media) (c.conformed_frames_to_write.ensures.owed file.name))
+
+pub returns-in-Stat-clause-owed : goal.returns-in-Stat-clause-owed
+returns-in-Stat-clause-owed c = λ file more.
+    held_as c.args.command _ c.args.content (content.Film c.timeline_in-in-Stat.result)
+    (media_content c.args.media) file more c.counts_to_write.result
+    c.in-Stat.is c.timeline_in-in-Stat.ensures (c.counts_to_write.ensures.owed file.name)
+
+pub returns-in-ListStat-clause-owed : goal.returns-in-ListStat-clause-owed
+returns-in-ListStat-clause-owed c = λ file more.
+    held_as c.args.command _ c.args.content (content.Events c.list_in-in-ListStat.result)
+    (media_content c.args.media) file more c.conformed_counts_to_write.result
+    c.in-ListStat.is c.list_in-in-ListStat.ensures
+    (rw (media_is c.args.media) (c.conformed_counts_to_write.ensures.owed file.name))

@@ -1,15 +1,13 @@
+use Rattle.std.proofs.Common.{subst, sym}
+use Rattle.dev_io.specs.Calls.{Tells}
 use Rattle.command_words.specs.Asked.{other_names}
-use Rattle.otio_tools.specs.Asked.{asked_for}
-use Rattle.otio_tools.proofs.Planning.{held_planned, stop_planned}
+use Rattle.otio_tools.specs.Plan.{Plans}
+use Rattle.otio_tools.proofs.SeveralFiles.{asked_as}
 use Rattle.otio_tools.proofs.planned.plan.Goals as goal
 
-pub returns-in-Ok-clause-told : goal.returns-in-Ok-clause-told
-returns-in-Ok-clause-told g c = λ target.
-    held_planned (asked_for c.args.command c.args.name.now (other_names c.args.others) target)
-    c.in-Ok.contents.items c.planned_for.result _ _ c.in-Ok.ensures.read
-    c.planned_for.ensures.told c.planned_for.ensures.work
-
-pub returns-in-Err-clause-told : goal.returns-in-Err-clause-told
-returns-in-Err-clause-told g c = λ target.
-    stop_planned (asked_for c.args.command c.args.name.now (other_names c.args.others) target)
-    c.in-Err.stop _ _ c.in-Err.ensures.stopped
+pub returns-else-takes_several-clause-told : goal.returns-else-takes_several-clause-told
+returns-else-takes_several-clause-told g c = λ target.
+    subst (λ a. Tells (Plans a c.plan_alone.result) (g.F.Files.known c.args.files.now)
+    (g.F.Files.known c.plan_alone.new.files))
+    (asked_as c.args.command c.args.name.now (other_names c.args.others) target
+    (sym c.if-takes_several.ensures)) (c.plan_alone.ensures.told target)

@@ -1,0 +1,1 @@
+-- Copies of parts of timelines: their words stand in `otio_model` and `flat`.

@@ -1,0 +1,9 @@
+pub mod MeasureLemmas
+pub mod CrossingLemmas
+pub mod BlockLemmas
+pub mod InputLemmas
+pub mod KnowLemmas
+pub mod SeatLemmas
+pub mod TrackLemmas
+pub mod CountLemmas
+pub mod JoinLemmas

@@ -1,0 +1,4 @@
+pub mod FirstLemmas
+pub mod PlaceLemmas
+pub mod RootLemmas
+mod RateLemmas

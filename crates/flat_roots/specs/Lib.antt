@@ -1,0 +1,2 @@
+-- Places at which something is wrong with root children.
+pub mod Sought

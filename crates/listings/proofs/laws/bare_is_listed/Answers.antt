@@ -1,0 +1,5 @@
+use Rattle.listings.proofs.SpareLemmas.{listed_bare}
+use Rattle.listings.proofs.laws.bare_is_listed.Goals as goal
+
+pub returns : goal.returns
+returns c = listed_bare

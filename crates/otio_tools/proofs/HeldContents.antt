@@ -1,0 +1,81 @@
+-- What files hold, by what they are read as.
+use Rattle.std.proofs.Common.{◌≡◌, ℕ, List, [], ◌∷◌, Some, None, refl, sym, ◌∙◌}
+use Rattle.std.specs.declared.option.Option.{Option}
+use Rattle.std.specs.Global.{Vec}
+use Rattle.json_value.specs.declared.Json.{Json}
+use Rattle.tick_time.specs.declared.rates.Rate.{Rate}
+use Rattle.edl_list.specs.declared.list.EventList.{EventList}
+use Rattle.edl_text.specs.Lists.{IsList}
+use Rattle.otio_model.specs.declared.roots.Object.{Object}
+use Rattle.otio_model.specs.declared.timelines.Timeline.{Timeline}
+use Rattle.media_rows.specs.declared.row.MediaRow.{MediaRow}
+use Rattle.media_list.specs.Lists.{IsMediaList}
+use Rattle.script_text.specs.declared.commands.Command as script
+use Rattle.script_text.specs.Scripts.{IsScript}
+use Rattle.source_files.specs.Formats.{IsJson, IsObject, IsTimeline, Holds}
+use Rattle.source_files.specs.declared.kinds.Kind.TheVariants as kinds
+use Rattle.source_files.specs.declared.kinds.Content.{Content}
+use Rattle.source_files.specs.declared.kinds.Content.TheVariants.{Value, Root, Film, Events, Rows, Commands}
+
+pub gone_or_there : (bytes : List ℕ) (o : Option (List ℕ)) → o ≡ None → o ≡ Some bytes → ⊥
+gone_or_there bytes None e f = cc
+gone_or_there bytes (Some b) e f = cc
+
+pub there_once : (a b : List ℕ) (o : Option (List ℕ)) → o ≡ Some a → o ≡ Some b → a ≡ b
+there_once a b o e f = let both : Some a ≡ Some b = sym e ∙ f in cc
+
+pub value_held : (bytes : List ℕ) (content : Content) → Holds kinds.Json bytes content
+    → (value : Json) × (content ≡ Value value) × IsJson bytes value
+value_held bytes (Value value) h = (value, refl, h)
+value_held bytes (Root object) h = absurd h
+value_held bytes (Film timeline) h = absurd h
+value_held bytes (Events list) h = absurd h
+value_held bytes (Rows rows) h = absurd h
+value_held bytes (Commands commands) h = absurd h
+
+pub object_held : (bytes : List ℕ) (content : Content) → Holds kinds.Object bytes content
+    → (object : Object) × (content ≡ Root object) × IsObject bytes object
+object_held bytes (Root object) h = (object, refl, h)
+object_held bytes (Value value) h = absurd h
+object_held bytes (Film timeline) h = absurd h
+object_held bytes (Events list) h = absurd h
+object_held bytes (Rows rows) h = absurd h
+object_held bytes (Commands commands) h = absurd h
+
+pub timeline_held : (bytes : List ℕ) (content : Content) → Holds kinds.Timeline bytes content
+    → (timeline : Timeline) × (content ≡ Film timeline) × IsTimeline bytes timeline
+timeline_held bytes (Film timeline) h = (timeline, refl, h)
+timeline_held bytes (Value value) h = absurd h
+timeline_held bytes (Root object) h = absurd h
+timeline_held bytes (Events list) h = absurd h
+timeline_held bytes (Rows rows) h = absurd h
+timeline_held bytes (Commands commands) h = absurd h
+
+pub list_held : (rate : Rate) (bytes : List ℕ) (content : Content)
+    → Holds (kinds.List rate) bytes content
+    → (list : EventList) × (content ≡ Events list) × IsList rate bytes list
+list_held rate bytes (Events list) h = (list, refl, h)
+list_held rate bytes (Value value) h = absurd h
+list_held rate bytes (Root object) h = absurd h
+list_held rate bytes (Film timeline) h = absurd h
+list_held rate bytes (Rows rows) h = absurd h
+list_held rate bytes (Commands commands) h = absurd h
+
+pub media_held : (bytes : List ℕ) (content : Content) → Holds kinds.Media bytes content
+    → (rows : List MediaRow) × (content ≡ Rows rows) × IsMediaList bytes rows
+media_held bytes (Rows rows) h = (rows, refl, h)
+media_held bytes (Value value) h = absurd h
+media_held bytes (Root object) h = absurd h
+media_held bytes (Film timeline) h = absurd h
+media_held bytes (Events list) h = absurd h
+media_held bytes (Commands commands) h = absurd h
+
+pub script_held : (bytes : List ℕ) (content : Content) → Holds kinds.Script bytes content
+    → (commands : Vec script.Command) × (content ≡ Commands commands)
+    × IsScript bytes commands.items
+script_held bytes (Commands commands) h = (commands, refl, h)
+script_held bytes (Rows rows) h = absurd h
+script_held bytes (Value value) h = absurd h
+script_held bytes (Root object) h = absurd h
+script_held bytes (Film timeline) h = absurd h
+script_held bytes (Events list) h = absurd h

@@ -1,0 +1,3 @@
+pub mod CalmTimelines
+pub mod MadeChildren
+pub mod WritableChildren

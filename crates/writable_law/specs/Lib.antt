@@ -1,0 +1,1 @@
+-- Laws of writable items and timelines; their words stand in `object_law`.
