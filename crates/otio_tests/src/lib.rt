@@ -24,3 +24,5 @@ mod script_tests;
 mod texts;
 #[cfg(test)]
 mod timelines;
+#[cfg(test)]
+mod tool_tests;

@@ -62,6 +62,45 @@ fn put_fast(text: &mut String) -> Result<(), AllocError> {
     text.push_str(",\"effects\":[{\"OTIO_SCHEMA\":\"LinearTimeWarp.1\",\"time_scalar\":2.0}]}]}")
 }
 
+/// A track of two clips with a dissolve between them: their lengths, and the offsets before and
+/// behind the cut.
+pub fn crossed_track(
+    alloc: Global,
+    lengths: [u32; 2],
+    offsets: [u32; 2],
+) -> Result<String, AllocError> {
+    let mut text = String::new(alloc);
+    text.push_str(
+        "{\"OTIO_SCHEMA\":\"Timeline.1\",\"tracks\":{\"OTIO_SCHEMA\":\"Stack.1\",\"children\":[",
+    )?;
+    text.push_str("{\"OTIO_SCHEMA\":\"Track.1\",\"children\":[")?;
+    put_clip(&mut text, 0, lengths[0], "a.mov")?;
+    text.push_str("},{\"OTIO_SCHEMA\":\"Transition.1\",\"in_offset\":")?;
+    put_time(&mut text, offsets[0])?;
+    text.push_str(",\"out_offset\":")?;
+    put_time(&mut text, offsets[1])?;
+    text.push_str("},")?;
+    put_clip(&mut text, 0, lengths[1], "b.mov")?;
+    text.push_str("}]}]}}")?;
+    Ok(text)
+}
+
+/// A track of a clip of 100 frames, and above it one of a gap of 20 frames and a clip of 30.
+pub fn two_layers(alloc: Global) -> Result<String, AllocError> {
+    let mut text = String::new(alloc);
+    text.push_str(
+        "{\"OTIO_SCHEMA\":\"Timeline.1\",\"tracks\":{\"OTIO_SCHEMA\":\"Stack.1\",\"children\":[",
+    )?;
+    text.push_str("{\"OTIO_SCHEMA\":\"Track.1\",\"children\":[")?;
+    put_clip(&mut text, 0, 100, "a.mov")?;
+    text.push_str("}]},{\"OTIO_SCHEMA\":\"Track.1\",\"children\":[")?;
+    put_gap(&mut text, 20)?;
+    text.push_str(",")?;
+    put_clip(&mut text, 0, 30, "c.mov")?;
+    text.push_str("}]}]}}")?;
+    Ok(text)
+}
+
 /// A timeline that starts at frame 86400, of the two tracks above and one of sound.
 pub fn three_tracks(alloc: Global) -> Result<String, AllocError> {
     let mut text = String::new(alloc);
