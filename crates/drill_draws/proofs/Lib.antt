@@ -1,0 +1,3 @@
+-- Lemmas on what is drawn.
+pub mod ActSteps
+pub mod WorkedLemmas

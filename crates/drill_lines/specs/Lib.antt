@@ -1,0 +1,2 @@
+-- What a drill tells.
+pub mod Lines

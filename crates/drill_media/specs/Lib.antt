@@ -1,0 +1,2 @@
+-- The media that a drill's clips show.
+pub mod Media
