@@ -7,7 +7,11 @@ mod calls;
 #[cfg(test)]
 mod conform_tests;
 #[cfg(test)]
+mod device_tests;
+#[cfg(test)]
 mod frame_tests;
+#[cfg(test)]
+mod limit_tests;
 #[cfg(test)]
 mod list_tests;
 #[cfg(test)]

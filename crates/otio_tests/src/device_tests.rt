@@ -1,0 +1,403 @@
+//! Devices that fail, at each of their calls in turn: files, the output, and messages.
+
+ghost use Rattle.std.specs.Prelude.{◌<◌};
+
+use crate::runs::status_of;
+use crate::timelines::{crossed_track, one_track, three_tracks};
+use dev_io::{MemFiles, MemOut};
+use otio_tools::Status;
+use std::alloc::{AllocError, Global};
+use std::process::Abort;
+use std::test::Fail;
+
+/// How many bytes of output a test takes.
+const ROOM: usize = 20_000;
+
+/// How many calls are made on a file of at most 4 096 bytes: it is opened, read, and read at its
+/// end.
+const FILE_CALLS: u64 = 3;
+
+/// More calls of the output than any line here makes.
+const MOST_CALLS: u64 = 2_000;
+
+/// A command line, and the files that it reads, in their order.
+type Read = (&'static str, &'static [&'static str]);
+
+/// A command line that isn't done, its status, the call of the files that fails and that of the
+/// output (0 where none does), and what is told.
+type Told = (&'static str, Status, [u64; 2], &'static [u8]);
+
+const LIST: &[u8] = b"TITLE: ONE
+1 A1 V C 00:00:00:00 00:00:00:10 00:00:00:00 00:00:00:10
+2 A1 V C 00:00:00:10 00:00:00:10 00:00:00:10 00:00:00:10
+2 B1 V D 005 00:00:01:00 00:00:02:00 00:00:00:10 00:00:01:10
+";
+
+const OLD: &[u8] = b"{\"OTIO_SCHEMA\":\"Clip.1\",\"name\":\"s\",\"media_reference\":null}";
+
+const UNDONE: &[u8] = b"overwrite 0 40 clip w W 0 10\noverwrite 0 100 clip w W 0 5\nundo\nundo\n";
+
+fn some_files(alloc: Global) -> Result<MemFiles, AllocError> {
+    let mut files = MemFiles::new(alloc);
+    let a = ("a.mov", Some(0), 10);
+    files.put("x.otio", three_tracks(alloc)?.as_bytes())?;
+    files.put("a.otio", one_track(alloc, &[a])?.as_bytes())?;
+    let cut = crossed_track(alloc, [20, 20], [0, 4])?;
+    files.put("cut.otio", cut.as_bytes())?;
+    let late = crossed_track(alloc, [10, 3], [2, 8])?;
+    files.put("late.otio", late.as_bytes())?;
+    files.put("old.otio", OLD)?;
+    files.put("comma.otio", b"{\"a\":[1,]}")?;
+    files.put("a.edl", LIST)?;
+    files.put(
+        "m.txt",
+        b"A1\t24\t0\t240\ta.mov\nB1\t24\t0\t240\tb.mov\nW\t24\t0\t240\tw.mov\n",
+    )?;
+    files.put("undone.txt", UNDONE)?;
+    files.put("nothing.txt", b"undo\nundo\nundo\n")?;
+    files.put("refused.txt", b"slice 0 10\nslice 0 9999\n")?;
+    Ok(files)
+}
+
+// A line of each command, on one file and on several, with a script and with a media list.
+const READ: [Read; 16] = [
+    ("convert --to edl a.edl", &["a.edl"]),
+    ("convert a.edl", &["a.edl"]),
+    ("convert --media m.txt a.edl", &["a.edl", "m.txt"]),
+    ("convert x.otio", &["x.otio"]),
+    ("convert --to json x.otio", &["x.otio"]),
+    (
+        "convert --to edl --media m.txt cut.otio",
+        &["cut.otio", "m.txt"],
+    ),
+    ("frames --count 60 x.otio", &["x.otio"]),
+    ("frames --media m.txt a.edl", &["a.edl", "m.txt"]),
+    ("stat x.otio", &["x.otio"]),
+    ("stat a.edl --media m.txt", &["a.edl", "m.txt"]),
+    ("cat x.otio a.otio", &["x.otio", "a.otio"]),
+    (
+        "cat --media m.txt a.otio a.edl a.otio",
+        &["a.otio", "a.edl", "a.otio", "m.txt"],
+    ),
+    (
+        "tool --stack --remove-transitions --flatten all x.otio cut.otio",
+        &["x.otio", "cut.otio"],
+    ),
+    ("tool --list-clips --stats x.otio", &["x.otio"]),
+    (
+        "edit --media m.txt --script undone.txt x.otio",
+        &["x.otio", "undone.txt", "m.txt"],
+    ),
+    (
+        "edit --script undone.txt --media m.txt a.edl",
+        &["a.edl", "undone.txt", "m.txt"],
+    ),
+];
+
+// Holds how a line ends over files of which that call fails, and what is told. Without a fault
+// something is sent, else nothing.
+fn check_call(
+    rt: &impl Abort,
+    alloc: Global,
+    call: u64,
+    line: &str,
+    status: Status,
+    told: &str,
+) -> Result<(), Fail> {
+    let mut files = some_files(alloc)?;
+    files.fail_on(call)?;
+    let mut out = MemOut::new(alloc, ROOM)?;
+    let mut err = MemOut::new(alloc, 100)?;
+    let ended = status_of(alloc, line, &mut files, &mut out, &mut err)?;
+    assert_eq!(rt; ended, status, "{line}");
+    assert_eq!(rt; err.sent(), told.as_bytes(), "{line}");
+    assert!(rt; out.sent().is_empty() == (status != Status::Done), "{line}");
+    Ok(())
+}
+
+// Holds that each call on each file is told of, where it fails, by the name of that file, and that
+// no other call is made.
+fn check_reads(rt: &impl Abort, alloc: Global, case: &Read) -> Result<(), Fail> {
+    let (line, names) = *case;
+    let mut call = 1u64;
+    for name in names {
+        let told = format!(in alloc; "otio: {name}: read failed\n")?;
+        for _ in 0..FILE_CALLS {
+            check_call(rt, alloc, call, line, Status::Input, told.as_str())?;
+            call = call.saturating_add(1);
+        }
+    }
+    check_call(rt, alloc, call, line, Status::Done, "")
+}
+
+#[test]
+fn each_call_on_a_file_that_fails_is_told(rt: HostRuntime) -> Result<(), Fail> {
+    for case in &READ {
+        check_reads(&rt, rt.alloc(), case)?;
+    }
+    Ok(())
+}
+
+// Lines of which a file is refused, the first call that isn't made then, and what is told.
+const JUDGED: [(&str, u64, &str); 3] = [
+    (
+        "cat comma.otio a.otio",
+        3,
+        "otio: comma.otio: J1 Syntax at 8\n",
+    ),
+    (
+        "convert --to edl --media gone.txt comma.otio",
+        3,
+        "otio: comma.otio: J1 Syntax at 8\n",
+    ),
+    (
+        "edit --media m.txt --script comma.otio x.otio",
+        7,
+        "otio: comma.otio: P1 Line at 1\n",
+    ),
+];
+
+#[test]
+fn no_call_is_made_behind_a_refused_file(rt: HostRuntime) -> Result<(), Fail> {
+    for (line, call, told) in JUDGED {
+        check_call(&rt, rt.alloc(), call, line, Status::Refused, told)?;
+    }
+    Ok(())
+}
+
+// Whether a line is done over an output in such pieces of which that call fails. Holds that it is
+// told of where it isn't, behind a part of the whole.
+fn ends_behind(
+    rt: &impl Abort,
+    alloc: Global,
+    files: &mut MemFiles,
+    line: &str,
+    most: usize,
+    call: u64,
+    whole: &MemOut,
+) -> Result<bool, Fail>
+    requires { 0 < most }
+{
+    let mut out = MemOut::new(alloc, ROOM)?;
+    out.piece(most);
+    out.fail_on(call)?;
+    let mut err = MemOut::new(alloc, 100)?;
+    let ended = status_of(alloc, line, files, &mut out, &mut err)?;
+    assert!(rt; whole.sent().starts_with(out.sent()), "{line}");
+    if ended == Status::Done {
+        assert_eq!(rt; out.sent().len(), whole.sent().len(), "{line}");
+        assert!(rt; out.target() == whole.target(), "{line}");
+        assert!(rt; err.sent().is_empty(), "{line}");
+        return Ok(true);
+    }
+    assert_eq!(rt; ended, Status::Output, "{line}");
+    assert!(rt; out.sent().len() < whole.sent().len(), "{line}");
+    assert_eq!(rt; err.sent(), b"otio: output failed\n".as_slice(), "{line}");
+    Ok(false)
+}
+
+// The first of these calls of the output, in such pieces, that isn't made, or 0 where all are.
+// Holds how the line ends where one that is made fails.
+fn done_between(
+    rt: &impl Abort,
+    alloc: Global,
+    line: &str,
+    most: usize,
+    first: u64,
+    behind: u64,
+) -> Result<u64, Fail>
+    requires { 0 < most }
+{
+    let mut files = some_files(alloc)?;
+    let mut whole = MemOut::new(alloc, ROOM)?;
+    let mut err = MemOut::new(alloc, 100)?;
+    let ended = status_of(alloc, line, &mut files, &mut whole, &mut err)?;
+    assert_eq!(rt; ended, Status::Done, "{line}");
+    for call in first..behind {
+        if ends_behind(rt, alloc, &mut files, line, most, call, &whole)? {
+            return Ok(call);
+        }
+    }
+    Ok(0)
+}
+
+// Lines of which few bytes are sent, in pieces of 16, and of which more are, in pieces of 500.
+const SHORT: [&str; 7] = [
+    "convert --to edl a.edl",
+    "convert --to edl --wide --media m.txt -o l.edl cut.otio",
+    "convert old.otio",
+    "convert --to json old.otio",
+    "frames --start 86442 --count 4 x.otio",
+    "stat x.otio",
+    "tool --list-tracks --list-clips --list-media x.otio",
+];
+
+const LONG: [&str; 7] = [
+    "convert --media m.txt a.edl",
+    "convert -o y.otio x.otio",
+    "convert --to json x.otio",
+    "frames x.otio",
+    "cat --media m.txt a.edl a.otio",
+    "tool --concat --video-only --trim 4,16 --flatten video a.otio a.otio",
+    "edit --media m.txt --script undone.txt a.edl",
+];
+
+// Holds that each call of the output of a line that fails leaves a prefix, and that there are some.
+fn check_output(rt: &impl Abort, alloc: Global, line: &str, most: usize) -> Result<(), Fail>
+    requires { 0 < most }
+{
+    let done = done_between(rt, alloc, line, most, 1, MOST_CALLS)?;
+    assert!(rt; 3 < done, "{line}");
+    Ok(())
+}
+
+#[test]
+fn each_call_of_a_short_output_that_fails_leaves_a_prefix(rt: HostRuntime) -> Result<(), Fail> {
+    for line in SHORT {
+        check_output(&rt, rt.alloc(), line, 16)?;
+    }
+    Ok(())
+}
+
+#[test]
+fn each_call_of_a_long_output_that_fails_leaves_a_prefix(rt: HostRuntime) -> Result<(), Fail> {
+    for line in LONG {
+        check_output(&rt, rt.alloc(), line, 500)?;
+    }
+    Ok(())
+}
+
+/// A script that is undone. Its output takes some 700 calls, which are tried in four tests.
+const SCRIPT: &str = "edit --media m.txt --script undone.txt x.otio";
+
+#[test]
+fn calls_1_to_199_of_a_timeline_leave_a_prefix(rt: HostRuntime) -> Result<(), Fail> {
+    assert_eq!(rt; done_between(&rt, rt.alloc(), SCRIPT, 16, 1, 200)?, 0);
+    Ok(())
+}
+
+#[test]
+fn calls_200_to_399_of_a_timeline_leave_a_prefix(rt: HostRuntime) -> Result<(), Fail> {
+    assert_eq!(rt; done_between(&rt, rt.alloc(), SCRIPT, 16, 200, 400)?, 0);
+    Ok(())
+}
+
+#[test]
+fn calls_400_to_599_of_a_timeline_leave_a_prefix(rt: HostRuntime) -> Result<(), Fail> {
+    assert_eq!(rt; done_between(&rt, rt.alloc(), SCRIPT, 16, 400, 600)?, 0);
+    Ok(())
+}
+
+#[test]
+fn later_calls_of_a_timeline_leave_a_prefix(rt: HostRuntime) -> Result<(), Fail> {
+    assert!(rt; 600 < done_between(&rt, rt.alloc(), SCRIPT, 16, 600, MOST_CALLS)?);
+    Ok(())
+}
+
+const TOLD: [Told; 11] = [
+    (
+        "convert gone.otio",
+        Status::Input,
+        [0, 0],
+        b"otio: gone.otio: absent\n",
+    ),
+    (
+        "cat a.otio gone.otio",
+        Status::Input,
+        [0, 0],
+        b"otio: gone.otio: absent\n",
+    ),
+    (
+        "stat x.otio",
+        Status::Input,
+        [2, 0],
+        b"otio: x.otio: read failed\n",
+    ),
+    (
+        "convert gone.otio",
+        Status::Input,
+        [1, 0],
+        b"otio: gone.otio: read failed\n",
+    ),
+    (
+        "convert x.otio",
+        Status::Output,
+        [0, 1],
+        b"otio: output failed\n",
+    ),
+    (
+        "frames -o f.txt x.otio",
+        Status::Output,
+        [0, 2],
+        b"otio: output failed\n",
+    ),
+    (
+        "convert comma.otio",
+        Status::Refused,
+        [0, 1],
+        b"otio: comma.otio: J1 Syntax at 8\n",
+    ),
+    (
+        "convert --to edl --media m.txt x.otio",
+        Status::Refused,
+        [0, 1],
+        b"otio: x.otio: N1 Tracks at 1\n",
+    ),
+    (
+        "cat late.otio a.otio",
+        Status::Refused,
+        [0, 0],
+        b"otio: late.otio: X2 Transition at 0/1\n",
+    ),
+    (
+        "edit --script refused.txt x.otio",
+        Status::Refused,
+        [0, 0],
+        b"otio: refused.txt: E4 NoItem at 2\n",
+    ),
+    (
+        "edit --script nothing.txt x.otio",
+        Status::Refused,
+        [0, 1],
+        b"otio: nothing.txt: H1 NothingDone at 1\n",
+    ),
+];
+
+// Whether a message is told whole in pieces of 16 bytes of which that call fails. Holds that the
+// status is the same either way, that nothing is sent, and that what is told is a part of it.
+fn tells_whole(rt: &impl Abort, alloc: Global, case: &Told, call: u64) -> Result<bool, Fail> {
+    let (line, status, failing, told) = *case;
+    let mut files = some_files(alloc)?;
+    files.fail_on(failing[0])?;
+    let mut out = MemOut::new(alloc, ROOM)?;
+    out.fail_on(failing[1])?;
+    let mut err = MemOut::new(alloc, 100)?;
+    err.piece(16);
+    err.fail_on(call)?;
+    let ended = status_of(alloc, line, &mut files, &mut out, &mut err)?;
+    assert_eq!(rt; ended, status, "{line}");
+    assert!(rt; out.sent().is_empty(), "{line}");
+    assert!(rt; err.target().is_none(), "{line}");
+    assert!(rt; told.starts_with(err.sent()), "{line}");
+    Ok(err.sent().len() == told.len())
+}
+
+// Holds that a line ends so whichever call of its messages fails.
+fn check_message(rt: &impl Abort, alloc: Global, case: &Told) -> Result<(), Fail> {
+    assert!(rt; !tells_whole(rt, alloc, case, 1)?);
+    for call in 2..MOST_CALLS {
+        if tells_whole(rt, alloc, case, call)? {
+            return Ok(());
+        }
+    }
+    assert!(rt; false);
+    Ok(())
+}
+
+#[test]
+fn each_call_of_messages_that_fails_changes_no_status(rt: HostRuntime) -> Result<(), Fail> {
+    for case in &TOLD {
+        check_message(&rt, rt.alloc(), case)?;
+    }
+    Ok(())
+}
