@@ -75,6 +75,10 @@ ROWS = [
     ('a time', {'f': timeline([track([FRAME.replace('"value":1.0', '"value":24000000.0')])])}, 'stat f', 0, ''),
     ('one frame more', {'f': timeline([track([FRAME.replace('"value":1.0', '"value":24000001.0')])])}, 'stat f', 1, 'otio: f: S6 Range at 0/0'),
     ('one frame more in two items', {'f': timeline([track([FRAME.replace('"value":1.0', '"value":24000000.0'), FRAME])])}, 'stat f', 1, 'otio: f: K4 Long at 0'),
+    ('edits of a drill', {}, 'drill 7 10000', 0, ''),
+    ('one more', {}, 'drill 7 10001', 2, 'otio: usage'),
+    ('seed of a drill', {}, 'drill 18446744073709551615 1', 0, ''),
+    ('one more', {}, 'drill 18446744073709551616 1', 2, 'otio: usage'),
     ('frames of a line', {}, 'frames --count 1000000 t.otio', 0, ''),
     ('one more', {}, 'frames --count 1000001 t.otio', 2, 'otio: usage'),
 ]

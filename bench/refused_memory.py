@@ -126,6 +126,7 @@ LINES = [
     'edit --media m.txt --script edits.txt x.otio',
     'edit --media m.txt --script undone.txt l.edl',
     'drill 3 20',
+    f'drill -o {OUT} 7 40',
     '',
     'paint x.otio',
     'frames --rate 29.5 l.edl',

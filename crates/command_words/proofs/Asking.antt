@@ -1,17 +1,12 @@
 -- What words give, and what it asks for.
-use Rattle.std.proofs.Common.{◌≡◌, ℕ, Bool, List, [], ◌∷◌, Option, Some, None, MatchOption, refl, inl, inr, sym, ◌∙◌, ap, ap₂, subst, get_or, ◌≤◌, arith}
-use Rattle.command_words.specs.declared.requests.Request.{Request}
-use denote.Ref.{Bor}
-use Rattle.std.specs.Option.{option_map}
+use Rattle.std.proofs.Common.{◌≡◌, ℕ, Bool, List, [], ◌∷◌, Option, Some, None, refl, inl, inr, sym, ◌∙◌, ap, ap₂, subst, get_or, ◌≤◌, arith}
 use Rattle.tick_time.specs.declared.rates.Rate.{Rate}
-use Rattle.clap.specs.Words.{fault_of, matches_of}
-use Rattle.command_words.specs.Given.{Given, Gives, GivesNothing, given_in}
+use Rattle.clap.specs.Words.{matches_of}
+use Rattle.command_words.specs.Given.{Given, Gives, given_in}
 use Rattle.command_words.specs.Options.{reader_of}
-use Rattle.command_words.specs.Asked.{IsByNames, IsCat, IsStat, IsTool, IsRate, IsInput, IsDefault, IsOutput, IsAskedOf, IsConversion, IsCount, AreFrames, IsListing, IsFrameList, IsEditing, IsEdit, IsAskedBy, IsMedia, IsScript, OtherNames, other_names, ReadsOnce, IsRequest, Ask, AskNothing, NoRequest}
+use Rattle.command_words.specs.Asked.{IsByNames, IsCat, IsStat, IsTool, IsRate, IsInput, IsDefault, IsOutput, IsAskedOf, IsConversion, IsCount, AreFrames, IsListing, IsFrameList, IsEditing, IsEdit, IsAskedBy, IsMedia, IsScript, OtherNames, ReadsOnce, IsRequest, Ask}
 use Rattle.command_words.specs.declared.conversions.Form.{Form}
 use Rattle.command_words.specs.declared.conversions.Form.TheVariants as form
-use Rattle.command_words.specs.declared.faults.WordsFault.{WordsFault}
-use Rattle.command_words.specs.declared.faults.WordsFault.TheVariants.{Usage, Memory}
 use Rattle.command_words.specs.declared.requests.Command.{Command}
 use Rattle.command_words.specs.declared.requests.Command.TheVariants.{ListToList, ListToObjects, TimelineToList, ToObjects, ToJson, Frames, ListFrames, Edit, ListEdit}
 use Rattle.command_words.specs.declared.requests.Command.TheVariants.{Cat, ListCat, Stat, ListStat, Tool, ListTool}
@@ -105,18 +100,6 @@ asked_with command called name input output rate given file reads writes is a =
       same,
     )
 
--- the characters of a name, where there is one
-abbrev pub name_of : Option (Bor (List ℕ)) → Option (List ℕ)
-name_of name = option_map (λ s. s.now) name
-
--- what is asked for by what is given
-abbrev pub AsksOf : Verb → Given → Option Request → Type 0
-AsksOf verb given result = MatchOption result
-    ((command : Command) (name : List ℕ) (others : OtherNames) (target : Option (List ℕ))
-    → IsRequest verb command name others target given → ⊥)
-    (λ request. IsRequest verb request.command request.name.now (other_names request.others)
-    (name_of request.target) given)
-
 first_words : (a b : List ℕ) (more others : List (List ℕ)) → a ∷ more ≡ b ∷ others → a ≡ b
 first_words a b more others e = cc
 
@@ -129,7 +112,7 @@ pub record SameWords (verb other : Verb) (behind rest : List (List ℕ)) : Type 
   pub verbs : verb ≡ other
   pub words : behind ≡ rest
 
-same_words : (words behind rest : List (List ℕ)) (verb other : Verb)
+pub same_words : (words behind rest : List (List ℕ)) (verb other : Verb)
     → words ≡ word_of verb ∷ behind → words ≡ word_of other ∷ rest
     → SameWords verb other behind rest
 same_words words behind rest verb other w v =
@@ -139,42 +122,12 @@ same_words words behind rest verb other w v =
     }
 
 -- such words give the same
-same_given : (verb other : Verb) (behind rest : List (List ℕ)) (given found : Given)
+pub same_given : (verb other : Verb) (behind rest : List (List ℕ)) (given found : Given)
     → SameWords verb other behind rest → Gives verb behind given → Gives other rest found
     → given ≡ found
 same_given verb other behind rest given found same g h =
     let both = ap₂ (λ v ws. given_in (matches_of (reader_of v) ws)) same.verbs same.words in
     g.is ∙ both ∙ sym h.is
-
--- where the words behind a command's own word have no match, nothing is asked for
-pub unmatched : (words behind : List (List ℕ)) (verb : Verb) (fault : WordsFault)
-    → words ≡ word_of verb ∷ behind → GivesNothing verb behind fault → NoRequest words fault
-unmatched words behind verb Usage w none = λ command name others target ask.
-    let same = same_words words behind ask.behind verb ask.verb w ask.words_are in
-    none (ap₂ (λ v ws. fault_of (reader_of v) ws) same.verbs same.words ∙ ask.gives.taken)
-unmatched words behind verb Memory w none = tt
-
--- what the words behind a command's own word give is what the words ask for
-pub request_asks : (words behind : List (List ℕ)) (verb : Verb) (given : Given)
-    (result : Option Request) → words ≡ word_of verb ∷ behind → Gives verb behind given
-    → AsksOf verb given result → MatchOption result (AskNothing words)
-    (λ request. Ask words request.command request.name.now (other_names request.others)
-    (name_of request.target))
-request_asks words behind verb given None w g m = λ command name others target ask.
-    let same = same_words words ask.behind behind ask.verb verb ask.words_are w in
-    let given_same =
-    same_given ask.verb verb ask.behind behind ask.given given same ask.gives g in
-    m command name others target
-    (subst (λ v. IsRequest v command name others target given) same.verbs
-    (subst (IsRequest ask.verb command name others target) given_same ask.is))
-request_asks words behind verb given (Some request) w g m = record {
-  verb = verb;
-  behind = behind;
-  words_are = w;
-  given = given;
-  gives = g;
-  is = m;
-}
 
 -- the command for what is read and what is written
 abbrev asked_for : Form → Form → Rate → Bool → Bool → Option Command
@@ -444,6 +397,7 @@ by_once verbs.Stat c d a b given p q = stat_once c d a b given p q
 by_once verbs.Tool c d a b given p q = tool_once c d a b given p q
 by_once verbs.Frames c d a b given p q = frames_once c d a b given p q
 by_once verbs.Edit c d a b given p q = edit_once c d a b given p q
+by_once verbs.Drill c d a b given p q = absurd p
 
 -- a command reads at most one media list
 media_once : (c : Command) (named m n : Option (List ℕ)) → IsMedia c named m → IsMedia c named n

@@ -4,3 +4,6 @@ pub mod SameTools
 pub mod Reading
 pub mod AmongNames
 pub mod Asking
+pub mod Seeds
+pub mod Drilling
+pub mod AskedTasks

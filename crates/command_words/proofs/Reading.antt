@@ -13,7 +13,7 @@ use Rattle.command_words.specs.Options.{lettered, needed, reader_of, unnamed}
 use Rattle.command_words.specs.declared.faults.WordsFault.{WordsFault}
 use Rattle.command_words.specs.declared.faults.WordsFault.TheVariants.{Usage, Memory}
 use Rattle.command_words.specs.declared.names.Verb.{Verb}
-use Rattle.command_words.specs.declared.names.Verb.TheVariants.{Convert, Cat, Stat, Tool, Frames, Edit}
+use Rattle.command_words.specs.declared.names.Verb.TheVariants.{Convert, Cat, Stat, Tool, Frames, Edit, Drill}
 
 -- a command whose words don't begin with its name
 pub unnamed_app : (old new : Command)
@@ -38,6 +38,7 @@ readers_are_free Stat = refl
 readers_are_free Tool = refl
 readers_are_free Frames = refl
 readers_are_free Edit = refl
+readers_are_free Drill = refl
 
 pub readers_are_simple : (verb : Verb) → is_simple (reader_of verb) ≡ true
 readers_are_simple Convert = refl
@@ -46,6 +47,7 @@ readers_are_simple Stat = refl
 readers_are_simple Tool = refl
 readers_are_simple Frames = refl
 readers_are_simple Edit = refl
+readers_are_simple Drill = refl
 
 -- an error that tells of no want of memory has a kind that the words have
 pub has_fault : (kinds : Kinds) (e : Error) → HasKind kinds e → (kind_of e ≡ kind.OutOfMemory → ⊥)

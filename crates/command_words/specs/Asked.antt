@@ -7,6 +7,7 @@ use Rattle.record_points.specs.Words.{IsWholeNumber, IsPoint}
 use Rattle.command_words.specs.Names.{HasList, IsListName, word_of}
 use Rattle.command_words.specs.Given.{Given, Gives, IsValue}
 use Rattle.command_words.specs.Tools.{AreTools}
+use Rattle.command_words.specs.Drills.{AskNoDrill}
 use Rattle.command_words.specs.declared.conversions.Form.{Form}
 use Rattle.command_words.specs.declared.conversions.Form.TheVariants as form
 use Rattle.command_words.specs.declared.faults.WordsFault.{WordsFault}
@@ -154,7 +155,7 @@ pub record IsTool (command : Command) (name : List ℕ) (given : Given) : Type 0
   pub is_rate : IsRate given.rate rate
   pub means : IsByNames (Tool tool) (λ r. ListTool r tool) command (name ∷ given.more) rate
 
--- what the options and the files of a command ask for
+-- what the options and the files of a command ask for; a drill has no file
 abbrev pub IsAskedBy : Verb → Command → List ℕ → Given → Type 0
 IsAskedBy verbs.Convert command name given = IsConversion command name given
 IsAskedBy verbs.Cat command name given = IsCat command name given
@@ -162,6 +163,7 @@ IsAskedBy verbs.Stat command name given = IsStat command name given
 IsAskedBy verbs.Tool command name given = IsTool command name given
 IsAskedBy verbs.Frames command name given = IsFrameList command name given
 IsAskedBy verbs.Edit command name given = IsEdit command name given
+IsAskedBy verbs.Drill command name given = ⊥
 
 -- The media list that is read: the one that is named, where a list is conformed, or a timeline
 -- edited or written as a list. Elsewhere the name has no effect, but that a list to a list is asked
@@ -245,10 +247,15 @@ pub record Ask (words : List (List ℕ)) (command : Command) (name : List ℕ) (
   pub gives : Gives verb behind given
   pub is : IsRequest verb command name others target given
 
--- the words ask for no command
-abbrev pub AskNothing : List (List ℕ) → Type 0
-AskNothing words = (command : Command) (name : List ℕ) (others : OtherNames)
+-- the words ask for no command on files
+abbrev pub AskNoCommand : List (List ℕ) → Type 0
+AskNoCommand words = (command : Command) (name : List ℕ) (others : OtherNames)
     (target : Option (List ℕ)) → Ask words command name others target → ⊥
+
+-- the words ask for no command on files, and for no drill
+pub record AskNothing (words : List (List ℕ)) : Type 0 where
+  pub no_command : AskNoCommand words
+  pub no_drill : AskNoDrill words
 
 -- why no request is given: the words ask for none, or memory ran out, which may come at any words
 abbrev pub NoRequest : List (List ℕ) → WordsFault → Type 0

@@ -2,4 +2,6 @@ pub mod Names
 pub mod Options
 pub mod Given
 pub mod Tools
+pub mod Drills
 pub mod Asked
+pub mod Tasks

@@ -1,7 +1,7 @@
 -- The words of commands, and the names of files.
 use Rattle.std.specs.Prelude.{◌≡◌, ◌⊎◌, ℕ, List, [], ◌∷◌, ◌++◌, Option, Some, None, codes, bytes_eq, if◌then◌else◌}
 use Rattle.command_words.specs.declared.names.Verb.{Verb}
-use Rattle.command_words.specs.declared.names.Verb.TheVariants.{Convert, Cat, Stat, Tool, Frames, Edit}
+use Rattle.command_words.specs.declared.names.Verb.TheVariants.{Convert, Cat, Stat, Tool, Frames, Edit, Drill}
 
 -- what a word stands for in a table of words
 abbrev pub meaning : {A : Type 0} → List ℕ → List (List ℕ × A) → Option A
@@ -16,11 +16,13 @@ word_of Stat = codes "stat"
 word_of Tool = codes "tool"
 word_of Frames = codes "frames"
 word_of Edit = codes "edit"
+word_of Drill = codes "drill"
 
 -- the commands by their words
 abbrev pub verb_words : List (List ℕ × Verb)
 verb_words = (word_of Convert, Convert) ∷ (word_of Cat, Cat) ∷ (word_of Stat, Stat)
-    ∷ (word_of Tool, Tool) ∷ (word_of Frames, Frames) ∷ (word_of Edit, Edit) ∷ []
+    ∷ (word_of Tool, Tool) ∷ (word_of Frames, Frames) ∷ (word_of Edit, Edit)
+    ∷ (word_of Drill, Drill) ∷ []
 
 -- the name of a list ends with `.edl`
 abbrev pub IsListName : List ℕ → Type 0

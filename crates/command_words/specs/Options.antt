@@ -1,11 +1,11 @@
--- The options and the files of each command, as one simple command of `clap`.
+-- The options and the positional words of each command, as one simple command of `clap`.
 use Rattle.std.specs.Prelude.{ℕ, List, [], ◌∷◌, ◌++◌, Some, codes, true}
 use Rattle.clap.specs.Lexer.{usize_max}
 use Rattle.clap.specs.Words.{App, Rule, new_app, new_rule, with_rule}
 use Rattle.clap.specs.declared.builder.action.ArgAction.TheVariants.{Append, Set, SetTrue}
 use Rattle.command_words.specs.Names.{word_of}
 use Rattle.command_words.specs.declared.names.Verb.{Verb}
-use Rattle.command_words.specs.declared.names.Verb.TheVariants.{Convert, Cat, Stat, Tool, Frames, Edit}
+use Rattle.command_words.specs.declared.names.Verb.TheVariants.{Convert, Cat, Stat, Tool, Frames, Edit, Drill}
 
 -- the option `--NAME`, which takes a value
 abbrev pub valued : List ℕ → Rule
@@ -31,7 +31,7 @@ needed rule = record rule { required = true }
 abbrev pub file : Rule
 file = record (new_rule (codes "file")) { action = Some Set; required = true }
 
--- one file or more
+-- one file or more; of a drill, its seed and its count
 abbrev pub files : Rule
 files = record (new_rule (codes "file")) {
   action = Some Append;
@@ -56,12 +56,23 @@ own_options Tool = valued (codes "trim") ∷ valued (codes "flatten") ∷ tool_f
 own_options Frames =
     valued (codes "child") ∷ valued (codes "start") ∷ valued (codes "count") ∷ []
 own_options Edit = needed (valued (codes "script")) ∷ []
+own_options Drill = []
 
 -- the options of each command that takes lists
 abbrev pub list_options : List Rule
 list_options = valued (codes "rate") ∷ valued (codes "media") ∷ output ∷ []
 
--- the files of a command
+-- the options that a command has like others
+abbrev pub shared_options : Verb → List Rule
+shared_options Convert = list_options
+shared_options Cat = list_options
+shared_options Stat = list_options
+shared_options Tool = list_options
+shared_options Frames = list_options
+shared_options Edit = list_options
+shared_options Drill = output ∷ []
+
+-- the positional words of a command
 abbrev pub files_of : Verb → Rule
 files_of Convert = file
 files_of Cat = files
@@ -69,6 +80,7 @@ files_of Stat = file
 files_of Tool = files
 files_of Frames = file
 files_of Edit = file
+files_of Drill = files
 
 -- a command with more options, each in its turn
 abbrev pub with_rules : App → List Rule → App
@@ -82,4 +94,4 @@ unnamed app = record app { top = record app.top { no_binary_name = true } }
 -- the command of `clap` that reads the words behind a command's own word
 abbrev pub reader_of : Verb → App
 reader_of verb = with_rules (unnamed (new_app (word_of verb)))
-    (own_options verb ++ list_options ++ files_of verb ∷ [])
+    (own_options verb ++ shared_options verb ++ files_of verb ∷ [])

@@ -1,12 +1,13 @@
 //! The words of a command line of `otio`: what they ask for.
 //!
-//! The first word is the command: `convert`, `cat`, `stat`, `tool`, `frames` or `edit`. The words
-//! behind it are read by one simple command of `clap`, with the meaning that `clap` publishes for
-//! such commands; what it has no match for, and a value or a combination that the command doesn't
-//! allow, asks for nothing.
+//! The first word is the command: `convert`, `cat`, `stat`, `tool`, `frames`, `edit` or `drill`.
+//! The words behind it are read by one simple command of `clap`, with the meaning that `clap`
+//! publishes for such commands; what it has no match for, and a value or a combination that the
+//! command doesn't allow, asks for nothing.
 #![tactic(auto)]
 
 mod conversions;
+mod drills;
 mod edits;
 mod faults;
 mod frame_lists;
@@ -20,7 +21,11 @@ mod several;
 mod tests;
 mod tools;
 
+pub use drills::DrillAsked;
 pub use faults::WordsFault;
 pub use names::is_list_name;
-pub use requests::{Command, FramesAsked, Others, Request, one_request, request_of};
+pub use requests::{
+    Command, FramesAsked, Others, Request, Task, drill_is_no_request, one_drill, one_request,
+    request_of,
+};
 pub use tools::{Flattening, Joining, ToolAsked, TrackKind, Window};

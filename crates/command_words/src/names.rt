@@ -19,6 +19,8 @@ pub enum Verb {
     Frames,
     /// `edit`.
     Edit,
+    /// `drill`.
+    Drill,
 }
 
 /// The first of some words, and the others.
@@ -53,6 +55,9 @@ pub fn verb_of(word: &str) -> Option<Verb>
     }
     if is_word(word, "edit") {
         return Some(Verb::Edit);
+    }
+    if is_word(word, "drill") {
+        return Some(Verb::Drill);
     }
     None
 }

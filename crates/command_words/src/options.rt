@@ -1,7 +1,7 @@
-// The options and the file of each command, as one simple command of `clap`.
+// The options and the positional words of each command, as one simple command of `clap`.
 ghost use Rattle.std.specs.Prelude.{◌≡◌, false, IfOk};
 ghost use Rattle.clap.specs.Words.{app_of, rule_of};
-ghost use Rattle.command_words.specs.Options.{valued as valued_rule, flag as flag_rule, file as file_rule, files as files_rule, list_options, tool_flags, reader_of as reader, with_rules};
+ghost use Rattle.command_words.specs.Options.{valued as valued_rule, flag as flag_rule, file as file_rule, files as files_rule, output as output_rule, list_options, tool_flags, reader_of as reader, with_rules};
 ghost use Rattle.command_words.specs.Names.{word_of};
 
 use crate::names::Verb;
@@ -19,6 +19,7 @@ pub fn reader_of<'a>(alloc: Global, verb: Verb) -> Result<Command<'a>, AllocErro
         Verb::Tool => tool_reader(alloc),
         Verb::Frames => frames_reader(alloc),
         Verb::Edit => edit_reader(alloc),
+        Verb::Drill => drill_reader(alloc),
     }
 }
 
@@ -102,6 +103,16 @@ fn edit_reader<'a>(alloc: Global) -> Result<Command<'a>, AllocError>
     with_list_options(alloc, command)?.arg(file(alloc))
 }
 
+// The command that reads the words of `drill`.
+fn drill_reader<'a>(alloc: Global) -> Result<Command<'a>, AllocError>
+    ensures { IfOk result (λ command. app_of command ≡ reader Verb.Drill) }
+{
+    Command::new(alloc, "drill")
+        .no_binary_name(true)
+        .arg(output(alloc))?
+        .arg(files(alloc))
+}
+
 // A command with the options of each command that takes lists.
 fn with_list_options<'a>(alloc: Global, command: Command<'a>) -> Result<Command<'a>, AllocError>
     ensures { IfOk result (λ more. app_of more ≡ with_rules (app_of command.entry) list_options) }
@@ -109,7 +120,15 @@ fn with_list_options<'a>(alloc: Global, command: Command<'a>) -> Result<Command<
     command
         .arg(valued(alloc, "rate"))?
         .arg(valued(alloc, "media"))?
-        .arg(valued(alloc, "output").short('o'))
+        .arg(output(alloc))
+}
+
+// The name of the output: `--output` or `-o`.
+fn output<'a>(alloc: Global) -> Arg<'a>
+    ensures rule { rule_of result ≡ output_rule }
+    ensures local { result.global ≡ false }
+{
+    valued(alloc, "output").short('o')
 }
 
 // The option `--NAME`, which takes a value.
@@ -138,7 +157,7 @@ fn file<'a>(alloc: Global) -> Arg<'a>
         .action(ArgAction::Set)
 }
 
-// One file or more.
+// One file or more; of a drill, its seed and its count.
 fn files<'a>(alloc: Global) -> Arg<'a>
     ensures rule { rule_of result ≡ files_rule }
     ensures local { result.global ≡ false }

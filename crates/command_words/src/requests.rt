@@ -2,9 +2,12 @@
 ghost use Rattle.std.specs.Prelude.{◌≡◌, ◌↔◌, ◌≤◌, ℕ, List, Option, count_by, map, string_bytes, IsTrue, MatchOption, MatchResult};
 ghost use Rattle.std.specs.Option.{option_map};
 ghost use Rattle.command_words.specs.Asked.{Ask, IsAskedBy, IsMedia, IsRequest, IsScript, NoRequest, OtherNames, ReadsOnce, other_names, as_list, is_standard as is_standard_name};
+ghost use Rattle.command_words.specs.Drills.{AsksDrill};
+ghost use Rattle.command_words.specs.Tasks.{HasNoTask, IsTask, IsTaskOf};
 ghost use Rattle.command_words.specs.Given.{given_by};
 
 use crate::conversions::conversion_of;
+use crate::drills::{DrillAsked, drill_of};
 use crate::edits::edit_of;
 use crate::faults::WordsFault;
 use crate::frame_lists::frame_list_of;
@@ -110,7 +113,7 @@ pub struct Others<'a> {
     pub media: Option<&'a str>,
 }
 
-/// What a command line asks for. The standard input is read at most once.
+/// What a command line asks for on files. The standard input is read at most once.
 #[derive(Drop)]
 pub struct Request<'a> {
     /// What is to be done.
@@ -123,12 +126,20 @@ pub struct Request<'a> {
     pub target: Option<&'a str>,
 }
 
-/// What the words behind the program's name ask for. Words that ask for nothing get `Usage`, and no
-/// others do; want of memory may come at any words.
-pub fn request_of(alloc: Global, words: &[String]) -> Result<Request<'_>, WordsFault>
+/// What a command line asks for.
+#[derive(Drop)]
+pub enum Task<'a> {
+    /// A command on files.
+    OnFiles(Request<'a>),
+    /// A drill, which reads no file.
+    Drill(DrillAsked<'a>),
+}
+
+/// What the words behind the program's name ask for. Words that ask for nothing, no command on
+/// files and no drill, get `Usage`, and no others do; want of memory may come at any words.
+pub fn request_of(alloc: Global, words: &[String]) -> Result<Task<'_>, WordsFault>
     ensures { let said = map (λ w. string_bytes w) words.now in MatchResult result
-        (λ request. Ask said request.command request.name.now (other_names request.others)
-        (option_map (λ s. s.now) request.target)) (NoRequest said) }
+        (λ task. IsTask said task) (NoRequest said) }
 {
     let Some((word, behind)) = first_word(words) else {
         return Err(WordsFault::Usage);
@@ -137,8 +148,8 @@ pub fn request_of(alloc: Global, words: &[String]) -> Result<Request<'_>, WordsF
         return Err(WordsFault::Usage);
     };
     match line_of(alloc, verb, behind) {
-        Ok(line) => match request_in(verb, line) {
-            Some(request) => Ok(request),
+        Ok(line) => match task_in(verb, line) {
+            Some(task) => Ok(task),
             None => Err(WordsFault::Usage),
         },
         Err(fault) => Err(fault),
@@ -146,6 +157,23 @@ pub fn request_of(alloc: Global, words: &[String]) -> Result<Request<'_>, WordsF
 }
 
 // What is asked for by what a line gives.
+fn task_in<'a>(verb: Verb, line: Line<'a>) -> Option<Task<'a>>
+    ensures { let given = given_by line.entry in
+        MatchOption result (HasNoTask verb given) (λ task. IsTaskOf verb given task) }
+{
+    match verb {
+        Verb::Drill => match drill_of(&line) {
+            Some(drill) => Some(Task::Drill(drill)),
+            None => None,
+        },
+        _ => match request_in(verb, line) {
+            Some(request) => Some(Task::OnFiles(request)),
+            None => None,
+        },
+    }
+}
+
+// The command on files that is asked for by what a line gives.
 fn request_in<'a>(verb: Verb, line: Line<'a>) -> Option<Request<'a>>
     ensures { let given = given_by line.entry in MatchOption result
         ((command : Command) (name : List ℕ) (others : OtherNames) (target : Option (List ℕ)) →
@@ -190,6 +218,7 @@ fn command_in<'a>(verb: Verb, line: &Line<'a>) -> Option<(Command, &'a str)>
         Verb::Tool => tool_of(line),
         Verb::Frames => frame_list_of(line),
         Verb::Edit => edit_of(line),
+        Verb::Drill => None,
     }
 }
 
@@ -273,4 +302,18 @@ pub fn one_request()
     ensures { (words : List (List ℕ)) (one other : Command) (a b : List ℕ) (m n : OtherNames)
         (p q : Option (List ℕ)) → Ask words one a m p → Ask words other b n q
         → (one ≡ other) × (a ≡ b) × (m ≡ n) × (p ≡ q) }
+{}
+
+/// Law: words ask for at most one drill, with at most one output. It does nothing.
+pub fn one_drill()
+    ensures { (words : List (List ℕ)) (seed other count tries : ℕ) (p q : Option (List ℕ)) →
+        AsksDrill words seed count p → AsksDrill words other tries q
+        → (seed ≡ other) × (count ≡ tries) × (p ≡ q) }
+{}
+
+/// Law: words that ask for a drill ask for no command on files. It does nothing.
+pub fn drill_is_no_request()
+    ensures { (words : List (List ℕ)) (command : Command) (name : List ℕ) (others : OtherNames)
+        (seed count : ℕ) (p q : Option (List ℕ)) → Ask words command name others p
+        → AsksDrill words seed count q → ⊥ }
 {}

@@ -2,8 +2,8 @@
 
 use crate::rates::rate_asked;
 use crate::{
-    Command, Flattening, FramesAsked, Joining, Request, ToolAsked, TrackKind, Window, WordsFault,
-    request_of,
+    Command, DrillAsked, Flattening, FramesAsked, Joining, Request, Task, ToolAsked, TrackKind,
+    Window, WordsFault, request_of,
 };
 use record_points::RecordPoint;
 use std::alloc::{AllocError, Global};
@@ -17,10 +17,20 @@ fn words_of(alloc: Global, line: &str) -> Result<Vec<String>, AllocError> {
     Ok(words)
 }
 
-// What words ask for.
+// The command on files that words ask for.
 fn requested<'a>(alloc: Global, words: &'a [String]) -> Option<Request<'a>> {
     match request_of(alloc, words) {
-        Ok(request) => Some(request),
+        Ok(Task::OnFiles(request)) => Some(request),
+        Ok(Task::Drill(_)) => None,
+        Err(_) => None,
+    }
+}
+
+// The drill that words ask for.
+fn drilled<'a>(alloc: Global, words: &'a [String]) -> Option<DrillAsked<'a>> {
+    match request_of(alloc, words) {
+        Ok(Task::Drill(drill)) => Some(drill),
+        Ok(Task::OnFiles(_)) => None,
         Err(_) => None,
     }
 }
@@ -551,11 +561,14 @@ fn lines_ask_for_several_files(rt: HostRuntime) -> Result<(), Fail> {
     Ok(())
 }
 
+// Whether a line asks for this of the one file `x`.
+fn asks_for_tool(alloc: Global, line: &str, tool: ToolAsked) -> Result<bool, AllocError> {
+    asks_for(alloc, line, "x", Command::Tool(tool))
+}
+
 #[test]
-fn lines_ask_for_tools(rt: HostRuntime) -> Result<(), Fail> {
+fn lines_ask_for_tool_listings(rt: HostRuntime) -> Result<(), Fail> {
     let plain = plain_tool();
-    let start = RecordPoint::Frame(4);
-    let end = RecordPoint::Label(*b"01:00:00:00");
     for (line, tool) in [
         (
             "tool x --list-tracks --stats",
@@ -579,6 +592,16 @@ fn lines_ask_for_tools(rt: HostRuntime) -> Result<(), Fail> {
                 ..plain
             },
         ),
+    ] {
+        assert!(rt; asks_for_tool(rt.alloc(), line, tool)?, "{line}");
+    }
+    Ok(())
+}
+
+#[test]
+fn lines_ask_for_tool_tracks(rt: HostRuntime) -> Result<(), Fail> {
+    let plain = plain_tool();
+    for (line, tool) in [
         (
             "tool x --video-only",
             ToolAsked {
@@ -607,13 +630,16 @@ fn lines_ask_for_tools(rt: HostRuntime) -> Result<(), Fail> {
                 ..plain
             },
         ),
-        (
-            "tool x --trim 4,01:00:00:00",
-            ToolAsked {
-                trim: Some(Window { start, end }),
-                ..plain
-            },
-        ),
+    ] {
+        assert!(rt; asks_for_tool(rt.alloc(), line, tool)?, "{line}");
+    }
+    Ok(())
+}
+
+#[test]
+fn lines_ask_for_tool_flattening(rt: HostRuntime) -> Result<(), Fail> {
+    let plain = plain_tool();
+    for (line, tool) in [
         (
             "tool --flatten=all x",
             ToolAsked {
@@ -637,11 +663,21 @@ fn lines_ask_for_tools(rt: HostRuntime) -> Result<(), Fail> {
             },
         ),
     ] {
-        assert!(rt;
-            asks_for(rt.alloc(), line, "x", Command::Tool(tool))?,
-            "{line}"
-        );
+        assert!(rt; asks_for_tool(rt.alloc(), line, tool)?, "{line}");
     }
+    Ok(())
+}
+
+#[test]
+fn a_line_asks_for_a_tool_window(rt: HostRuntime) -> Result<(), Fail> {
+    let start = RecordPoint::Frame(4);
+    let end = RecordPoint::Label(*b"01:00:00:00");
+    let tool = ToolAsked {
+        trim: Some(Window { start, end }),
+        ..plain_tool()
+    };
+    let line = "tool x --trim 4,01:00:00:00";
+    assert!(rt; asks_for_tool(rt.alloc(), line, tool)?);
     Ok(())
 }
 
@@ -675,6 +711,58 @@ fn other_lines_ask_for_no_tools(rt: HostRuntime) -> Result<(), Fail> {
         "tool a --flatten all --flatten all",
         "tool a --script s",
         "convert x --stats",
+    ] {
+        assert!(rt; asks_for_nothing(rt.alloc(), line)?, "{line}");
+    }
+    Ok(())
+}
+
+#[test]
+fn lines_ask_for_drills(rt: HostRuntime) -> Result<(), Fail> {
+    for (line, seed, count, target) in [
+        ("drill 0 0", 0, 0, None),
+        ("drill 18446744073709551615 10000", u64::MAX, 10_000, None),
+        ("drill -o out.txt 7 2000", 7, 2_000, Some("out.txt")),
+        ("drill 7 --output - 1", 7, 1, Some("-")),
+        ("drill -- 24 5", 24, 5, None),
+    ] {
+        let words = words_of(rt.alloc(), line)?;
+        let asked = DrillAsked {
+            seed,
+            count,
+            target,
+        };
+        assert_eq!(rt;
+            drilled(rt.alloc(), words.as_slice()),
+            Some(asked),
+            "{line}"
+        );
+    }
+    Ok(())
+}
+
+#[test]
+fn other_lines_ask_for_no_drill(rt: HostRuntime) -> Result<(), Fail> {
+    for line in [
+        "drill",
+        "drill 1",
+        "drill 1 2 3",
+        "drill 00 1",
+        "drill 05 1",
+        "drill 1 05",
+        "drill 1 10001",
+        "drill 18446744073709551616 1",
+        "drill 1 18446744073709551616",
+        "drill -1 2",
+        "drill +1 2",
+        "drill 1 +2",
+        "drill - 2",
+        "drill 1 a.otio",
+        "drill --rate 24 1 2",
+        "drill --media m 1 2",
+        "drill -o out.txt",
+        "drill -o a -o b 1 2",
+        "Drill 1 2",
     ] {
         assert!(rt; asks_for_nothing(rt.alloc(), line)?, "{line}");
     }

@@ -17,7 +17,7 @@ use Rattle.edl_list.specs.declared.list.Side.{Side}
 use Rattle.edl_list.specs.declared.list.Event.{Event}
 use Rattle.edl_list.specs.Speeds.{side_speed}
 use Rattle.media_rows.specs.declared.row.MediaRow.{MediaRow}
-use Rattle.edl_frames.specs.Shown.{MediaRows, row_of}
+use Rattle.media_rows.specs.Rows.{MediaRows, row_of}
 use Rattle.edl_frames.specs.Conformed as C
 use Rattle.edl_frames.specs.Conformed.{Pair, pair_of, effects_at, still, warp, IsReference}
 use Rattle.object_law.specs.Writable as W

@@ -26,7 +26,8 @@ use Rattle.edl_list.specs.Formed.{IsSide, IsCross, IsEvent, IsWellFormed}
 use Rattle.edl_list.specs.Speeds.{day_of, side_speed}
 use Rattle.edl_list.proofs.DayLemmas.{side_slow}
 use Rattle.coord.specs.Soundness.{IsCalm}
-use Rattle.edl_frames.specs.Shown.{MediaRows, is_on, on_channel}
+use Rattle.edl_frames.specs.Shown.{is_on, on_channel}
+use Rattle.media_rows.specs.Rows.{MediaRows}
 use Rattle.edl_frames.specs.Conformed.{Pair, pair_of, first_record, IsTrackOf, AreTracks, none, used, unused, IsTimelineOf}
 use Rattle.edl_frames_law.proofs.CalmTracks.{timeline_calm}
 use Rattle.object_law.specs.Writable as W

@@ -3,7 +3,7 @@
 
 ghost use Rattle.edl_list.specs.declared.list.EventList.{EventList};
 ghost use Rattle.edl_list.specs.Formed.{IsWellFormed};
-ghost use Rattle.edl_frames.specs.Shown.{MediaRows};
+ghost use Rattle.media_rows.specs.Rows.{MediaRows};
 ghost use Rattle.edl_frames.specs.Conformed.{IsTimelineOf};
 ghost use Rattle.otio_model.specs.declared.timelines.Timeline.{Timeline};
 ghost use Rattle.otio_model.specs.declared.roots.Object.{Timeline as ObjectOfTimeline};

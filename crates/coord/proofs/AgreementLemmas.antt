@@ -21,6 +21,7 @@ use Rattle.coord.specs.Keys.{key_of, media_rate}
 use Rattle.coord.specs.Sights.{View, Sight, viewer, exact, seen, framed, sights, sight}
 use Rattle.coord.specs.Programs.{rate_24, kind_of, child_shows, shown_by, at, at_by}
 use Rattle.coord.specs.Agreement.{unrated}
+use Rattle.coord.proofs.LookSteps.{look_kind, item, transition}
 use Rattle.coord.proofs.SightLemmas.{sights-listed}
 
 abbrev pub plain : List ℕ → View
@@ -63,21 +64,9 @@ stack_same (x ∷ l) w =
     (ap (λ s. cond (is_blank (stack_shows l w)) s (unrated (stack_shows l w))) (cond_same (within (pos 0) x.length w) (x.shows w) Blank)
     ∙ cond_same (is_blank (stack_shows l w)) (cond (within (pos 0) x.length w) (x.shows w) Blank) (stack_shows l w))
 
--- an item, or a transition with its overlap
-pub data Kind (x : Look) : Type 0 where
-  item : x.overlap ≡ None → Kind x
-  transition : (o : Overlap) → x.overlap ≡ Some o → Kind x
-
-pub kind : (x : Look) → Kind x
-kind x = of x.overlap refl
-  where
-    of : (o : Option Overlap) → x.overlap ≡ o → Kind x
-    of None e = item e
-    of (Some o) e = transition o e
-
 pub next_same : (l : List Look) (w : ℤ) → next_shows (map faded l) w ≡ unrated (next_shows l w)
 next_same [] w = refl
-next_same (x ∷ l) w = elim (kind x) [
+next_same (x ∷ l) w = elim (look_kind x) [
   | item e ↦ rw e refl
   | transition o e ↦ rw e (next_same l w)
 ]
@@ -88,7 +77,7 @@ some_same false s o = refl
 
 pub mix_same : (last : ℤ → Show) (l : List Look) (w : ℤ) → mix_shows (λ u. unrated (last u)) (map faded l) w ≡ option_map unrated (mix_shows last l w)
 mix_same last [] w = refl
-mix_same last (x ∷ l) w = elim (kind x) [
+mix_same last (x ∷ l) w = elim (look_kind x) [
   | item e ↦ rw e (mix_same (from_end x) l (w -ℤ x.length))
   | transition o e ↦ rw e (
       ap (λ s. cond (within (pos 0 -ℤ o.before) o.after w) (Some s) (mix_shows (λ u. unrated (last u)) (map faded l) w))

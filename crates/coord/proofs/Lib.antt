@@ -11,3 +11,5 @@ pub mod OneFault
 pub mod SpareLemmas
 pub mod Clocks
 pub mod ImageLemmas
+pub mod ShortItems
+pub mod LookSteps

@@ -7,6 +7,10 @@ use Rattle.otio_model.specs.Counts.{count, count_of}
 use Rattle.otio_model.specs.Falls.{child_counts, count-listed}
 use Rattle.otio_model.proofs.LengthLimits.{few_enough}
 
+-- what stands in two equal ones is the same
+pub same_some : {A : Type 0} (x y : A) → Some x ≡ Some y → x ≡ y
+same_some x y e = cc e
+
 next_in : {A : Type 0} (xs : List A) (i : ℕ) (x : A) → slice_get xs i ≡ Some x → drop i xs ≡ x ∷ drop (suc i) xs
 next_in [] zero x e = absurd (cc e)
 next_in [] (suc i) x e = absurd (cc e)

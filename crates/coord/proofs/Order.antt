@@ -7,7 +7,7 @@ use Rattle.coord.specs.declared.faults.ItemFault.{ItemFault}
 use Rattle.coord.specs.Soundness.{fault_of, Precedes, IsFirstFault}
 
 -- two places are one, or one of them comes before the other
-data Compared (p q : List ℕ) : Type 0 where
+pub data Compared (p q : List ℕ) : Type 0 where
   same : p ≡ q → Compared p q
   before : Precedes p q → Compared p q
   behind : Precedes q p → Compared p q
@@ -26,7 +26,7 @@ by_order (suc i) (suc j) = elim (by_order i j) [
   | inr r ↦ elim r [ inl h ↦ inr (inl (omega (arith, h))) | inr e ↦ inr (inr (omega (arith, e))) ]
 ]
 
-compared : (p q : List ℕ) → Compared p q
+pub compared : (p q : List ℕ) → Compared p q
 compared [] [] = same refl
 compared [] (j ∷ q) = before tt
 compared (i ∷ p) [] = behind tt

@@ -70,8 +70,9 @@ fn media_end(start: i128, ticks: u128, speed: i64) -> i128
     start * 1_000_000 + media_ticks(ticks as i128, speed)
 }
 
-/// How far so many ticks go in the media, in millionths of a tick.
-fn media_ticks(ticks: i128, speed: i64) -> i128
+/// How much media so many ticks play, in millionths of a tick, at a speed in millionths; negative
+/// where they play backwards.
+pub fn media_ticks(ticks: i128, speed: i64) -> i128
     requires low { pos 0 ≤ℤ ticks }
     requires high { ticks ≤ℤ pos most_ticks }
     requires speed_low { (pos 0 -ℤ pos 1000000000) ≤ℤ speed }
@@ -223,7 +224,7 @@ fn starts_on_frame(timeline: &Timeline) -> bool
 /// - else that of the first item, in document order, that has one. An item's is
 /// [`CoordFault::NoLength`], else [`CoordFault::Speed`], else [`CoordFault::Long`]. The root stack
 /// and transitions have none;
-/// - [`CoordFault::Memory`]: there is a fault of an item, and no memory for its place.
+/// - [`CoordFault::Memory`]: it has a fault, and memory ran out.
 pub fn sound(alloc: Global, timeline: &Timeline) -> Result<(), CoordFault>
     requires few { count timeline.now.tracks.children < 2 ^ 32 }
     ensures ok { OnOk result (soundness.IsFaultless timeline.now) }

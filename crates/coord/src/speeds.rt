@@ -7,9 +7,9 @@ ghost use Rattle.coord.specs.Speeds as speeds;
 
 use otio_model::{Item, ItemOf};
 
-/// The speed of an item, in constant time. `None` exactly where it passes 1000 times, either way,
-/// after some effect.
-pub(crate) fn item_speed(item: &Item) -> Option<i64>
+/// The speed that the effects of an item come to, in millionths. `None` exactly where it passes
+/// 1000 times, either way, after one of them.
+pub fn item_speed(item: &Item) -> Option<i64>
     ensures speed { result ≡ kept_speed (pos 1000000) (speeds.effects_of item.now) }
     ensures range { IfSome result IsSpeed }
 {

@@ -6,6 +6,7 @@ ghost use Rattle.otio_model.specs.Lengths as lengths;
 ghost use Rattle.coord.specs.Keys.{frame_rate};
 ghost use Rattle.coord.specs.Programs as programs;
 
+use crate::media::media_rate;
 use otio_model::{Children, Clip, Item, ItemOf, Timeline};
 use tick_time::{Rate, Span};
 
@@ -49,12 +50,9 @@ pub(crate) fn rate_24() -> Rate
 fn clip_rate(clip: &Clip) -> Rate
     ensures { frame_rate result ≡ programs.rate_of_clip clip.now }
 {
-    match clip.available_range() {
-        Some(range) => range.start.rate,
-        None => match clip.source_range {
-            Some(range) => range.start.rate,
-            None => rate_24(),
-        },
+    match media_rate(clip) {
+        Some(rate) => rate,
+        None => rate_24(),
     }
 }
 

@@ -1,16 +1,17 @@
 -- Outside the overlaps that are stripped a list shows what it did.
 use Rattle.std.proofs.Common.{◌≡◌, refl, sym, subst, ap, ap₂, ◌∙◌, ℤ, pos, ◌-ℤ◌, true, false, cond, List, [], ◌∷◌, arith}
-use Rattle.std.proofs.lemmas.Int.{ints, by_lt_z}
+use Rattle.std.proofs.lemmas.Int.{ints}
 use Rattle.otio_model.specs.declared.compositions.ItemOf.{ItemOf}
 use Rattle.otio_model.specs.declared.compositions.Listed.{Listed}
-use Rattle.coord.specs.Looks.{Show, Look, item_shows, next_shows, from_end, mix_shows, blank, list_shows}
+use Rattle.coord.specs.Looks.{Show, item_shows, next_shows, from_end, mix_shows, blank, list_shows}
 use Rattle.otio_model.specs.Overlaps.{within}
 use Rattle.coord.specs.Sights.{View, sight, seen, looks, overlap_of}
 use Rattle.cuts.specs.Splices.{is_stripped}
 use Rattle.cuts.specs.Children.{ticks}
 use Rattle.cuts.specs.Cuts.{strip}
 use Rattle.cuts.specs.Outside.{IsOutside}
-use Rattle.cuts_law.proofs.Splice.{cases, mix_item, mix_miss, mix_step, side_item, side_transition, shows_same, above, below}
+use Rattle.coord.proofs.LookSteps.{mix_item, mix_miss, side_item, no_hold}
+use Rattle.cuts_law.proofs.Splice.{cases, mix_step, side_transition, shows_same}
 use Rattle.cuts_law.proofs.Sorts.{point, thing, sort, strip_thing}
 
 strip_skip : (x : ItemOf Listed) (l : List (ItemOf Listed)) (a b : ℤ) → is_stripped a b (overlap_of x) ≡ true → strip (x ∷ l) a b ≡ strip l a b
@@ -48,14 +49,6 @@ mix_strip v p (x ∷ l) a b w k = elim (sort x) [
       ∙ mix_strip v (from_end (seen v (sight x))) l (a -ℤ ticks x) (b -ℤ ticks x) (w -ℤ ticks x) k.1
       ∙ sym (mix_item p (seen v (sight x)) (looks v l) w e)
 ]
-
--- a transition holds no instant
-no_hold : (x : Look) (l : List Look) (w : ℤ) → x.length ≡ pos 0 → item_shows (x ∷ l) w ≡ item_shows l w
-no_hold x l w e =
-    let same : w -ℤ pos 0 ≡ w = omega (arith, ints) in
-    rw e (by_lt_z w (pos 0)
-    (λ h. rw (below (pos 0) (pos 0) w h) (ap (item_shows l) same))
-    (λ h. rw (above (pos 0) (pos 0) w h) (ap (item_shows l) same)))
 
 item_strip : (v : View) (l : List (ItemOf Listed)) (a b w : ℤ) → item_shows (looks v (strip l a b)) w ≡ item_shows (looks v l) w
 item_strip v [] a b w = refl

@@ -20,11 +20,11 @@ use Rattle.cuts.specs.Cuts.{left_piece, right_piece, is_whole_at, strip, olds, f
 use Rattle.cuts_law.proofs.Splice.{cases}
 
 -- the floor and the rest, by a million
-floor_is : (z : ℤ) → ((int_div_euclid z (pos 1000000) *ℤ pos 1000000) +ℤ int_rem_euclid z (pos 1000000)) ≡ z
+pub floor_is : (z : ℤ) → ((int_div_euclid z (pos 1000000) *ℤ pos 1000000) +ℤ int_rem_euclid z (pos 1000000)) ≡ z
 floor_is (pos a) = omega (arith, ints)
 floor_is (negsuc a) = omega (arith, ints)
 
-floor_rest : (z : ℤ) → (pos 0 ≤ℤ int_rem_euclid z (pos 1000000)) × (int_rem_euclid z (pos 1000000) <ℤ pos 1000000)
+pub floor_rest : (z : ℤ) → (pos 0 ≤ℤ int_rem_euclid z (pos 1000000)) × (int_rem_euclid z (pos 1000000) <ℤ pos 1000000)
 floor_rest (pos a) = (omega (arith, ints), omega (arith, ints))
 floor_rest (negsuc a) = (omega (arith, ints), omega (arith, ints))
 

@@ -4,7 +4,8 @@ use Rattle.std.proofs.lemmas.Int.{ints, by_lt_z}
 use Rattle.coord.specs.Looks.{Show, Look, Overlap, item_shows, next_shows, from_end, mix_shows, blank, list_shows, total}
 use Rattle.otio_model.specs.Overlaps.{within}
 use Rattle.cuts.specs.Splices.{back, strip, spliced, AreGood, AreItems}
-use Rattle.cuts_law.proofs.Splice.{kind_of, item, transition, IsLater, AreClear, item_past, mix_item, mix_miss, mix_step, side_item, side_transition, above, below, shows_same, quiet_back, not_held, good_back, good_strip, clear_strip, item_front, item_behind, item_back, mix_front, mix_behind, mix_back}
+use Rattle.coord.proofs.LookSteps.{look_kind, item, transition, item_past, mix_item, mix_miss, side_item, missed_behind, missed_before}
+use Rattle.cuts_law.proofs.Splice.{IsLater, AreClear, mix_step, side_transition, shows_same, quiet_back, not_held, good_back, good_strip, clear_strip, item_front, item_behind, item_back, mix_front, mix_behind, mix_back}
 
 pub total_low : (l : List Look) → AreGood l → pos 0 ≤ℤ total l
 total_low [] g = omega (arith, ints)
@@ -21,7 +22,7 @@ item_append (x ∷ l) r w g h = let a = g.0 in let k = a.whole in let t = total_
 
 side_prefix : (l r s : List Look) (w : ℤ) → AreGood l → pos 0 <ℤ total l → next_shows (l ++ r) w ≡ next_shows (l ++ s) w
 side_prefix [] r s w g h = absurd (omega (arith, ints))
-side_prefix (x ∷ l) r s w g h = let a = g.0 in elim (kind_of x) [
+side_prefix (x ∷ l) r s w g h = let a = g.0 in elim (look_kind x) [
   | item e ↦ side_item x (l ++ r) w e ∙ sym (side_item x (l ++ s) w e)
   | transition o e ↦ let z = a.point o e in side_transition x o (l ++ r) w e ∙ side_prefix l r s w g.1 (omega (arith, ints)) ∙ sym (side_transition x o (l ++ s) w e)
 ]
@@ -31,7 +32,7 @@ mix_prefix : (p : ℤ → Show) (l r s : List Look) (b w : ℤ) → AreGood l �
 mix_prefix p [] r s b w g c u v k h = u.no_mix p w h ∙ sym (v.no_mix p w h)
 mix_prefix p (x ∷ l) r s b w g c u v k h = let a = g.0 in let n = a.whole in let t = total_low l g.1 in
     let inner : AreClear (total l) (b -ℤ x.length) l = subst (λ z. AreClear z (b -ℤ x.length) l) (let e : (x.length +ℤ total l) -ℤ x.length ≡ total l = omega (arith, ints) in e) c.1 in
-    elim (kind_of x) [
+    elim (look_kind x) [
       | item e ↦ mix_item p x (l ++ r) w e ∙ mix_prefix (from_end x) l r s (b -ℤ x.length) (w -ℤ x.length) g.1 inner u v (omega (arith, ints)) (omega (arith, ints)) ∙ sym (mix_item p x (l ++ s) w e)
       | transition o e ↦ let z = a.point o e in
           mix_step p x o (l ++ r) (l ++ s) w e
@@ -43,10 +44,10 @@ mix_append : (p : ℤ → Show) (l r : List Look) (b w : ℤ) → AreGood l → 
 mix_append p [] r b w g c u k h = u.own_side p blank w ∙ ap (mix_shows blank r) (omega (arith, ints))
 mix_append p (x ∷ l) r b w g c u k h = let a = g.0 in let n = a.whole in let t = total_low l g.1 in
     let inner : AreClear (total l) (b -ℤ x.length) l = subst (λ z. AreClear z (b -ℤ x.length) l) (let e : (x.length +ℤ total l) -ℤ x.length ≡ total l = omega (arith, ints) in e) c.1 in
-    elim (kind_of x) [
+    elim (look_kind x) [
       | item e ↦ mix_item p x (l ++ r) w e ∙ mix_append (from_end x) l r (b -ℤ x.length) (w -ℤ x.length) g.1 inner u (omega (arith, ints)) (omega (arith, ints)) ∙ ap (mix_shows blank r) (omega (arith, ints))
       | transition o e ↦ let z = a.point o e in
-          mix_miss p x o (l ++ r) w e (elim (c.0.side o e) [ inl f ↦ above _ _ w (omega (arith, ints, f.1)) | inr f ↦ absurd (omega (arith, ints, f.0)) ])
+          mix_miss p x o (l ++ r) w e (elim (c.0.side o e) [ inl f ↦ missed_behind _ _ w (omega (arith, ints, f.1)) | inr f ↦ absurd (omega (arith, ints, f.0)) ])
           ∙ mix_append p l r (b -ℤ x.length) w g.1 inner u (omega (arith, ints)) (omega (arith, ints)) ∙ ap (mix_shows blank r) (omega (arith, ints))
     ]
 
@@ -76,7 +77,7 @@ items_clear (x ∷ n) a b i = (record { side = λ o e. absurd (none o e) }, item
 pub no_later : IsLater []
 no_later = record { no_mix = λ p v h. refl; no_item = λ v h. refl; own_side = λ p q v. refl }
 
-append_none : (l : List Look) → l ++ [] ≡ l
+pub append_none : (l : List Look) → l ++ [] ≡ l
 append_none [] = refl
 append_none (x ∷ l) = ap (λ m. x ∷ m) (append_none l)
 
@@ -85,7 +86,7 @@ pub items_later : (n r : List Look) → AreItems n → IsLater r → IsLater (n 
 items_later [] r i u = u
 items_later (x ∷ n) r i u = let k = i.0.whole in let in_rest = items_later n r i.1 u in record {
   no_mix = λ p v h. mix_item p x (n ++ r) v i.0.item ∙ in_rest.no_mix (from_end x) (v -ℤ x.length) (omega (arith, ints));
-  no_item = λ v h. rw (below (pos 0) x.length v h) (in_rest.no_item (v -ℤ x.length) (omega (arith, ints)));
+  no_item = λ v h. rw (missed_before (pos 0) x.length v h) (in_rest.no_item (v -ℤ x.length) (omega (arith, ints)));
   own_side = λ p q v. mix_item p x (n ++ r) v i.0.item ∙ sym (mix_item q x (n ++ r) v i.0.item);
 }
 

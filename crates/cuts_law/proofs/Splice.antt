@@ -1,46 +1,14 @@
 -- What a list shows from which one stretch was taken, and into which others were put.
-use Rattle.std.proofs.Common.{◌≡◌, refl, sym, ap, ◌∙◌, ◌⊎◌, inl, inr, ℤ, pos, ◌+ℤ◌, ◌-ℤ◌, ◌≤ℤ◌, ◌<ℤ◌, ◌&&◌, ◌||◌, Bool, true, false, cond, List, [], ◌∷◌, ◌++◌, Option, Some, None, arith}
+use Rattle.std.proofs.Common.{◌≡◌, refl, sym, ap, ◌∙◌, ◌⊎◌, inl, inr, ℤ, pos, ◌+ℤ◌, ◌-ℤ◌, ◌≤ℤ◌, ◌<ℤ◌, ◌&&◌, ◌||◌, Bool, true, false, cond, List, [], ◌∷◌, ◌++◌, Some, None, arith}
 use mathlib.Core.Path.{fun_ext}
 use Rattle.std.specs.Prelude.{int_lt, int_le}
 use Rattle.std.proofs.lemmas.Int.{ints, by_lt_z}
 use Rattle.coord.specs.Looks.{Show, Blank, Look, Overlap, mixed, item_shows, next_shows, from_end, mix_shows, blank, list_shows}
 use Rattle.otio_model.specs.Overlaps.{within}
+use Rattle.coord.proofs.LookSteps.{missed_before, missed_behind, look_kind, item, transition, mix_item, mix_miss, item_hit, item_past, side_item}
 use Rattle.cuts.specs.Splices.{empty, left, right, front, back, strip, is_stripped, IsGood, AreGood}
 
--- ---- tests
-
-pub yes : (a b w : ℤ) → a ≤ℤ w → w <ℤ b → within a b w ≡ true
-yes a b w h k = let e : int_le a w ≡ true = grind (arith, ints) in let f : int_lt w b ≡ true = grind (arith, ints) in rw (e, f)
-
-pub below : (a b w : ℤ) → w <ℤ a → within a b w ≡ false
-below a b w h = let e : int_le a w ≡ false = grind (arith, ints) in rw e
-
-pub above : (a b w : ℤ) → b ≤ℤ w → within a b w ≡ false
-above a b w h = let f : int_lt w b ≡ false = grind (arith, ints) in rw f (last_false (int_le a w))
-  where
-    last_false : (t : Bool) → (t && false) ≡ false
-    last_false true = refl
-    last_false false = refl
-
 -- ---- one step of each definition
-
--- an item, or a transition with its overlap
-pub data Kind (x : Look) : Type 0 where
-  item : x.overlap ≡ None → Kind x
-  transition : (o : Overlap) → x.overlap ≡ Some o → Kind x
-
-pub kind_of : (x : Look) → Kind x
-kind_of x = of x.overlap refl
-  where
-    of : (o : Option Overlap) → x.overlap ≡ o → Kind x
-    of None e = item e
-    of (Some o) e = transition o e
-
-pub mix_item : (p : ℤ → Show) (x : Look) (l : List Look) (w : ℤ) → x.overlap ≡ None → mix_shows p (x ∷ l) w ≡ mix_shows (from_end x) l (w -ℤ x.length)
-mix_item p x l w e = rw e
-
-pub mix_miss : (p : ℤ → Show) (x : Look) (o : Overlap) (l : List Look) (w : ℤ) → x.overlap ≡ Some o → within (pos 0 -ℤ o.before) o.after w ≡ false → mix_shows p (x ∷ l) w ≡ mix_shows p l w
-mix_miss p x o l w e m = rw (e, m)
 
 pub front_stop : (x : Look) (l : List Look) (t : ℤ) → t ≤ℤ pos 0 → front (x ∷ l) t ≡ []
 front_stop x l t h = let e : int_lt (pos 0) t ≡ false = grind (arith, ints) in rw e
@@ -88,11 +56,11 @@ AreClear a b (x ∷ l) = IsClear a b x × AreClear (a -ℤ x.length) (b -ℤ x.l
 -- behind the seam no overlap begins before b
 pub quiet : (p : ℤ → Show) (l : List Look) (a b w : ℤ) → AreGood l → AreClear a b l → a ≤ℤ pos 0 → w <ℤ b → mix_shows p l w ≡ None
 quiet p [] a b w g c h k = refl
-quiet p (x ∷ l) a b w g c h k = let good = g.0 in let len = good.whole in elim (kind_of x) [
+quiet p (x ∷ l) a b w g c h k = let good = g.0 in let len = good.whole in elim (look_kind x) [
   | item e ↦ mix_item p x l w e ∙ quiet (from_end x) l (a -ℤ x.length) (b -ℤ x.length) (w -ℤ x.length) g.1 c.1 (omega (arith, ints)) (omega (arith, ints))
   | transition o e ↦
       let zero_length = good.point o e in
-      mix_miss p x o l w e (elim (c.0.side o e) [ inl f ↦ absurd (omega (arith, ints, f.0)) | inr f ↦ below _ _ w (omega (arith, ints, f.1)) ])
+      mix_miss p x o l w e (elim (c.0.side o e) [ inl f ↦ absurd (omega (arith, ints, f.0)) | inr f ↦ missed_before _ _ w (omega (arith, ints, f.1)) ])
       ∙ quiet p l (a -ℤ x.length) (b -ℤ x.length) w g.1 c.1 (omega (arith, ints)) (omega (arith, ints))
 ]
 
@@ -106,13 +74,7 @@ pub record IsLater (r : List Look) : Type 0 where
 
 pub not_held : (l : List Look) (w : ℤ) → AreGood l → w <ℤ pos 0 → item_shows l w ≡ Blank
 not_held [] w g h = refl
-not_held (x ∷ l) w g h = let good = g.0 in let len = good.whole in rw (below (pos 0) x.length w h) (not_held l (w -ℤ x.length) g.1 (omega (arith, ints)))
-
-pub item_hit : (x : Look) (l : List Look) (w : ℤ) → pos 0 ≤ℤ w → w <ℤ x.length → item_shows (x ∷ l) w ≡ x.shows w
-item_hit x l w h k = rw (yes (pos 0) x.length w h k)
-
-pub item_past : (x : Look) (l : List Look) (w : ℤ) → x.length ≤ℤ w → item_shows (x ∷ l) w ≡ item_shows l (w -ℤ x.length)
-item_past x l w k = rw (above (pos 0) x.length w k)
+not_held (x ∷ l) w g h = let good = g.0 in let len = good.whole in rw (missed_before (pos 0) x.length w h) (not_held l (w -ℤ x.length) g.1 (omega (arith, ints)))
 
 pub item_front : (l r : List Look) (a w : ℤ) → AreGood l → IsLater r → w <ℤ a → item_shows (front l a ++ r) w ≡ item_shows l w
 item_front [] r a w g later h = elim (place a (pos 0)) [
@@ -128,7 +90,7 @@ item_front (x ∷ l) r a w g later h = let good = g.0 in let len = good.whole in
   | stop s ↦ rw (front_stop x l a s) (later.no_item w (omega (arith, ints)) ∙ sym (not_held (x ∷ l) w g (omega (arith, ints))))
   | whole s t ↦ rw (front_whole x l a s t) (ap (cond (within (pos 0) x.length w) (x.shows w)) (item_front l r (a -ℤ x.length) (w -ℤ x.length) g.1 later (omega (arith, ints))))
   | inside s t ↦ rw (front_cut x l a s t) (by_lt_z w (pos 0)
-      (λ k. rw (below (pos 0) a w k, below (pos 0) x.length w k) (later.no_item (w -ℤ a) (omega (arith, ints)) ∙ sym (not_held l (w -ℤ x.length) g.1 (omega (arith, ints)))))
+      (λ k. rw (missed_before (pos 0) a w k, missed_before (pos 0) x.length w k) (later.no_item (w -ℤ a) (omega (arith, ints)) ∙ sym (not_held l (w -ℤ x.length) g.1 (omega (arith, ints)))))
       (λ k. item_hit (left x a) r w k h ∙ sym (item_hit x l w k (omega (arith, ints)))))
 ]
 
@@ -157,16 +119,13 @@ item_back (x ∷ l) b v g h k = let good = g.0 in let len = good.whole in elim (
 
 -- ---- overlaps, seen from a seam
 
-pub side_item : (x : Look) (l : List Look) (w : ℤ) → x.overlap ≡ None → next_shows (x ∷ l) w ≡ x.shows w
-side_item x l w e = rw e
-
 pub side_transition : (x : Look) (o : Overlap) (l : List Look) (w : ℤ) → x.overlap ≡ Some o → next_shows (x ∷ l) w ≡ next_shows l w
 side_transition x o l w e = rw e
 
 -- the item behind a transition is the same one, or its left piece
 side_front : (l r : List Look) (a w : ℤ) → AreGood l → pos 0 <ℤ a → next_shows (front l a ++ r) w ≡ next_shows l w
 side_front [] r a w g h = rw (front_gap a h)
-side_front (x ∷ l) r a w g h = let good = g.0 in let len = good.whole in elim (kind_of x) [
+side_front (x ∷ l) r a w g h = let good = g.0 in let len = good.whole in elim (look_kind x) [
   | item e ↦ elim (place a x.length) [
     | stop s ↦ absurd (omega (arith, ints))
     | whole s t ↦ rw (front_whole x l a s t) (side_item x (front l (a -ℤ x.length) ++ r) w e ∙ sym (side_item x l w e))
@@ -188,7 +147,7 @@ mix_front p [] r a b w g c later k h = elim (place a (pos 0)) [
 ]
 mix_front p (x ∷ l) r a b w g c later k h = let good = g.0 in let len = good.whole in elim (place a x.length) [
   | stop s ↦ rw (front_stop x l a s) (later.no_mix p w (omega (arith, ints)) ∙ sym (quiet p (x ∷ l) a b w g c s (omega (arith, ints))))
-  | whole s t ↦ rw (front_whole x l a s t) (elim (kind_of x) [
+  | whole s t ↦ rw (front_whole x l a s t) (elim (look_kind x) [
     | item e ↦ mix_item p x (front l (a -ℤ x.length) ++ r) w e
         ∙ mix_front (from_end x) l r (a -ℤ x.length) (b -ℤ x.length) (w -ℤ x.length) g.1 c.1 later (omega (arith, ints)) (omega (arith, ints))
         ∙ sym (mix_item p x l w e)
@@ -196,7 +155,7 @@ mix_front p (x ∷ l) r a b w g c later k h = let good = g.0 in let len = good.w
         mix_step p x o (front l (a -ℤ x.length) ++ r) l w e (side_front l r (a -ℤ x.length) w g.1 (omega (arith, ints)))
         (mix_front p l r (a -ℤ x.length) (b -ℤ x.length) w g.1 c.1 later (omega (arith, ints)) (omega (arith, ints)))
   ])
-  | inside s t ↦ rw (front_cut x l a s t) (elim (kind_of x) [
+  | inside s t ↦ rw (front_cut x l a s t) (elim (look_kind x) [
     | item e ↦ later.no_mix (from_end (left x a)) (w -ℤ a) (omega (arith, ints))
         ∙ sym (mix_item p x l w e ∙ quiet (from_end x) l (a -ℤ x.length) (b -ℤ x.length) (w -ℤ x.length) g.1 c.1 (omega (arith, ints)) (omega (arith, ints)))
     | transition o e ↦ let zero_length = good.point o e in absurd (omega (arith, ints))
@@ -211,12 +170,12 @@ mix_behind p [] r a b w g c later n k h = elim (place a (pos 0)) [
 ]
 mix_behind p (x ∷ l) r a b w g c later n k h = let good = g.0 in let len = good.whole in elim (place a x.length) [
   | stop s ↦ rw (front_stop x l a s) (later.own_side p blank w ∙ ap (mix_shows blank r) (omega (arith, ints)))
-  | whole s t ↦ rw (front_whole x l a s t) (elim (kind_of x) [
+  | whole s t ↦ rw (front_whole x l a s t) (elim (look_kind x) [
     | item e ↦ mix_item p x (front l (a -ℤ x.length) ++ r) w e
         ∙ mix_behind (from_end x) l r (a -ℤ x.length) (b -ℤ x.length) (w -ℤ x.length) g.1 c.1 later (omega (arith, ints)) (omega (arith, ints)) (omega (arith, ints))
         ∙ ap (mix_shows blank r) (omega (arith, ints))
     | transition o e ↦ let zero_length = good.point o e in
-        mix_miss p x o (front l (a -ℤ x.length) ++ r) w e (elim (c.0.side o e) [ inl f ↦ above _ _ w (omega (arith, ints, f.1)) | inr f ↦ absurd (omega (arith, ints, f.0)) ])
+        mix_miss p x o (front l (a -ℤ x.length) ++ r) w e (elim (c.0.side o e) [ inl f ↦ missed_behind _ _ w (omega (arith, ints, f.1)) | inr f ↦ absurd (omega (arith, ints, f.0)) ])
         ∙ mix_behind p l r (a -ℤ x.length) (b -ℤ x.length) w g.1 c.1 later (omega (arith, ints)) (omega (arith, ints)) (omega (arith, ints))
         ∙ ap (mix_shows blank r) (omega (arith, ints))
   ])
@@ -229,7 +188,7 @@ from_right x b = fun_ext (λ v. ap x.shows (omega (arith, ints)))
 
 pub mix_back : (p q : ℤ → Show) (l : List Look) (a b v : ℤ) → AreGood l → AreClear a b l → pos 0 ≤ℤ b → a ≤ℤ b → pos 0 ≤ℤ v → mix_shows p (back l b) v ≡ mix_shows q l (v +ℤ b)
 mix_back p q [] a b v g c n k h = refl
-mix_back p q (x ∷ l) a b v g c n k h = let good = g.0 in let len = good.whole in elim (kind_of x) [
+mix_back p q (x ∷ l) a b v g c n k h = let good = g.0 in let len = good.whole in elim (look_kind x) [
   | item e ↦ elim (place b x.length) [
     | stop s ↦ rw (back_stop x l b s) (mix_item p x l v e ∙ ap (mix_shows (from_end x) l) (omega (arith, ints)) ∙ sym (mix_item q x l (v +ℤ b) e))
     | whole s t ↦ rw (back_whole x l b s t) (mix_back p (from_end x) l (a -ℤ x.length) (b -ℤ x.length) v g.1 c.1 (omega (arith, ints)) (omega (arith, ints)) h
@@ -239,7 +198,7 @@ mix_back p q (x ∷ l) a b v g c n k h = let good = g.0 in let len = good.whole 
   | transition o e ↦ let zero_length = good.point o e in elim (c.0.side o e) [
     | inl f ↦ rw (back_whole x l b (omega (arith, ints, f.0)) (omega (arith, ints)))
         (mix_back p q l (a -ℤ x.length) (b -ℤ x.length) v g.1 c.1 (omega (arith, ints)) (omega (arith, ints)) h
-        ∙ ap (mix_shows q l) (omega (arith, ints)) ∙ sym (mix_miss q x o l (v +ℤ b) e (above _ _ (v +ℤ b) (omega (arith, ints, f.1)))))
+        ∙ ap (mix_shows q l) (omega (arith, ints)) ∙ sym (mix_miss q x o l (v +ℤ b) e (missed_behind _ _ (v +ℤ b) (omega (arith, ints, f.1)))))
     | inr f ↦ absurd (omega (arith, ints, f.0))
   ]
 ]
@@ -289,7 +248,7 @@ kept_clear a b x g h t = record { side = λ o e. kept_side a b o (g.before o e) 
 
 -- only a transition is stripped, and it takes no time
 stripped_length : (a b : ℤ) (x : Look) → IsGood x → is_stripped a b x.overlap ≡ true → x.length ≡ pos 0
-stripped_length a b x g t = elim (kind_of x) [ item e ↦ absurd (cc (rw e at t)) | transition o e ↦ g.point o e ]
+stripped_length a b x g t = elim (look_kind x) [ item e ↦ absurd (cc (rw e at t)) | transition o e ↦ g.point o e ]
 
 pub good_strip : (l : List Look) (a b : ℤ) → AreGood l → AreGood (strip l a b)
 good_strip [] a b g = tt

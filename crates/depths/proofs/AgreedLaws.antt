@@ -17,7 +17,7 @@ use Rattle.coord.specs.Looks.{Show, Blank, Look, list_shows}
 use Rattle.otio_model.specs.Overlaps.{within}
 use Rattle.coord.specs.Speeds.{speed_of, media_at}
 use Rattle.coord.specs.Keys.{key_of, media_rate}
-use Rattle.coord.specs.Sights.{View, Sight, seen, sights, sight, looks, exact}
+use Rattle.coord.specs.Sights.{Sight, sights, sight, looks, exact}
 use Rattle.otio_model.specs.Lengths.{trimmed_start}
 use Rattle.otio_model.specs.Lengths.{or_zero}
 use Rattle.coord.specs.Programs.{rate_24, kind_of}
@@ -30,6 +30,7 @@ use Rattle.edits.specs.After.{frame_of, list_of, place_of}
 use Rattle.edits.specs.Laws.{child_at, stripped, overwrite_law, insert_law, remove_law, slip_law, zoned, slide_law, ripple_law, trim_law, item_or, ticks_or, roll_law, law_held, law_beside, law}
 use Rattle.depths.specs.Through.{sights_with, sight_through, child_through, edited_sight, shows_through, through_by, through}
 use Rattle.coord.proofs.AgreementLemmas.{plain, faded, list_same, Agrees, AllAgree, look_of, looks_same, clip_same, track_agrees, stack_agrees, clip_item, children_agree, item_agrees}
+use Rattle.depths.proofs.Unreached.{looks_map}
 
 -- two of which one is the other without its rates
 abbrev Fades : Show → Show → Type 0
@@ -42,10 +43,6 @@ fades_if false p q r s d e = e
 all_items : (l : List (ItemOf Listed)) → AllAgree (map sight l)
 all_items [] = tt
 all_items (x ∷ l) = (item_agrees x, all_items l)
-
-looks_map : (v : View) (l : List (ItemOf Listed)) → looks v l ≡ map (seen v) (map sight l)
-looks_map v [] = refl
-looks_map v (x ∷ l) = ap (λ m. seen v (sight x) ∷ m) (looks_map v l)
 
 looks_fade : (kind : List ℕ) (l : List (ItemOf Listed)) → looks (plain kind) l ≡ map faded (looks (exact kind) l)
 looks_fade kind l = looks_map (plain kind) l ∙ looks_same (map sight l) kind (all_items l) ∙ ap (map faded) (sym (looks_map (exact kind) l))

@@ -35,7 +35,7 @@ use Rattle.cuts_law.proofs.Splice.{cases}
 use Rattle.depths.specs.Through.{lawful, sight_through, child_through, root_shows, edited_ticks, edited_sight, shows_through, through_by}
 use Rattle.depths.specs.Known.{HasLength, HaveLengths, IsKnown, AreKnown}
 use Rattle.depths.proofs.Nesting.{IsLawOf, nested}
-use Rattle.depths.proofs.Unreached.{got_changed, got_other, kind_deeper, items_with}
+use Rattle.depths.proofs.Unreached.{got_changed, got_other, kind_deeper, items_with, looks_map}
 
 -- what a child that is made of a law shows
 child_lawful : (rate_kept : FrameRate → FrameRate) (place : List ℕ) (m : Listed) (n : ℕ) (rule : View → ℤ → Show) (x : ItemOf Listed) (t : TrackOf Listed) (u : ℤ)
@@ -163,10 +163,6 @@ leads t e f = of (place_of e) refl (none_first (place_fault (place_of e) t) _ f)
 pub record Lawful (rate_kept : FrameRate → FrameRate) (t : Timeline) (e : Edit) (m : List (ItemOf Listed)) : Type 0 where
   length : sum_of (lengths (listed m)) ≡ Some (edited_ticks t e)
   shows : (kind : List ℕ) → IsLawOf (viewer rate_kept kind) (listed m) (edited_ticks t e) (λ v w. law v (frame_of t) e (list_of t e) w)
-
-looks_map : (v : View) (l : List (ItemOf Listed)) → looks v l ≡ map (seen v) (map sight l)
-looks_map v [] = refl
-looks_map v (x ∷ l) = ap (λ m. seen v (sight x) ∷ m) (looks_map v l)
 
 abs_pos : (n : ℕ) → unsigned_abs (pos n) ≡ n
 abs_pos n = omega arith

@@ -1,9 +1,9 @@
 -- Each child of an edited list has a length.
-use Rattle.std.proofs.Common.{◌≡◌, refl, subst, ℤ, pos, ◌+ℤ◌, ◌-ℤ◌, ◌*ℤ◌, ◌&&◌, ◌||◌, Bool, true, false, Option, Some, None, List, [], ◌∷◌, ◌++◌, arith}
+use Rattle.std.proofs.Common.{◌≡◌, refl, subst, ℤ, pos, ◌+ℤ◌, ◌-ℤ◌, ◌*ℤ◌, ◌&&◌, ◌||◌, true, false, Option, Some, None, List, [], ◌∷◌, ◌++◌, arith}
 use Rattle.std.specs.Prelude.{int_lt, int_le, is_some}
 use Rattle.std.proofs.lemmas.Int.{ints, by_lt_z}
 use Rattle.otio_model.specs.declared.compositions.ItemOf.{ItemOf}
-use Rattle.otio_model.specs.declared.compositions.ItemOf.TheVariants.{Clip, Gap, Transition, Stack, Track}
+use Rattle.otio_model.specs.declared.compositions.ItemOf.TheVariants.{Gap}
 use Rattle.otio_model.specs.declared.compositions.Listed.{Listed}
 use Rattle.otio_model.specs.declared.editing.Edit.{Edit}
 use Rattle.otio_model.specs.declared.editing.Edit.TheVariants as A
@@ -23,6 +23,7 @@ use Rattle.depths.specs.Known.{IsKnown, AreKnown, HasLength, HaveLengths, ItemHa
 use Rattle.cuts_law.proofs.Splice.{cases}
 use Rattle.cuts_law.proofs.Sorts.{point, thing, sort}
 use Rattle.edits_law.proofs.Accepted.{found}
+use Rattle.edits_law.proofs.Readied.{no_overlap_last}
 
 join : (l m : List Child) → AreKnown l → AreKnown m → AreKnown (l ++ m)
 join [] m a b = b
@@ -80,18 +81,7 @@ last_known : (f : ItemOf Listed → List Child) (l : List (ItemOf Listed)) → (
 last_known f [] g r = tt
 last_known f (x ∷ l) g r = cases (is_some (last_item l) || is_transition x)
     (λ s. rw s (r.0, last_known f l g r.1))
-    (λ s. rw s (join (f x) (olds l) (g x r.0 (item x s)) (all_olds l r.1)))
-  where
-    item : (y : ItemOf Listed) → (is_some (last_item l) || is_transition y) ≡ false → overlap_of y ≡ None
-    item (Clip c) e = refl
-    item (Gap c) e = refl
-    item (Transition c) e = absurd (never (is_some (last_item l)) e)
-      where
-        never : (b : Bool) → (b || true) ≡ false → ⊥
-        never true z = cc z
-        never false z = cc z
-    item (Stack c) e = refl
-    item (Track c) e = refl
+    (λ s. rw s (join (f x) (olds l) (g x r.0 (no_overlap_last (is_some (last_item l)) x s)) (all_olds l r.1)))
 
 ready_first : (l m : List (ItemOf Listed)) → HaveLengths (l ++ m) → HaveLengths l
 ready_first [] m r = tt

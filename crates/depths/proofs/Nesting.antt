@@ -1,8 +1,7 @@
 -- What a tree shows depends on a track only through its list's show and its length.
 use mathlib.Core.Path.{fun_ext}
 use Rattle.std.proofs.Common.{◌≡◌, refl, sym, ap, subst, ◌∙◌, ℕ, zero, suc, ◌+◌, ℤ, pos, ◌+ℤ◌, ◌&&◌, Bool, true, false, cond, List, [], ◌∷◌, map, Option, Some, None, slice_get, arith}
-use Rattle.std.specs.Prelude.{option_map, option_and_then}
-use Rattle.std.specs.Option.{option_or}
+use Rattle.std.specs.Prelude.{option_and_then}
 use Rattle.std.specs.Str.{bytes_eq}
 use Rattle.std.proofs.lemmas.Int.{ints}
 use Rattle.otio_model.specs.declared.compositions.StackOf.{StackOf}
@@ -12,7 +11,7 @@ use Rattle.otio_model.specs.declared.compositions.ItemOf.TheVariants.{Clip, Gap,
 use Rattle.otio_model.specs.declared.compositions.Listed.{Listed}
 use Rattle.otio_model.specs.Trees.{listed, items_of, below}
 use Rattle.otio_model.specs.Edits.{deeper, changed, with_at}
-use Rattle.otio_model.specs.Lengths.{Range, range_of, from_zero, sum_of, longest_of, lengths, both}
+use Rattle.otio_model.specs.Lengths.{sum_of, longest_of, lengths, both}
 use Rattle.coord.specs.Looks.{Show, Blank, Overlap, Look, total, list_shows, track_shows, stack_shows}
 use Rattle.otio_model.specs.Overlaps.{within}
 use Rattle.coord.specs.Speeds.{speed_of, media_at}
@@ -21,6 +20,7 @@ use Rattle.otio_model.specs.Lengths.{trimmed_start}
 use Rattle.otio_model.specs.Lengths.{or_zero}
 use Rattle.coord.proofs.SightLemmas.{sights-listed, seen_lengths}
 use Rattle.depths.specs.Through.{sight_through, lawful, sights_with}
+use Rattle.depths.proofs.Unreached.{above_length, by_length}
 
 -- the list shows what the law says at each instant inside its length
 abbrev pub IsLawOf : View → Listed → ℕ → (View → ℤ → Show) → Type 0
@@ -72,12 +72,6 @@ one_changed v (suc i) [] g f h = all_same v []
 one_changed v zero (x ∷ xs) g f h = cons v (sight (g x)) (f x) (map sight xs) (map sight xs) (h x refl) (all_same v (map sight xs))
 one_changed v (suc i) (x ∷ xs) g f h =
     cons v (sight x) (sight x) (map sight (changed g i xs)) (sights_with i f xs) (same v (sight x)) (one_changed v i xs g f h)
-
-abbrev by_length : Option ℕ → TrackOf Listed → Option ℕ
-by_length n t = option_map (λ (r : Range). r.len) (option_or (option_map range_of t.source_range) (option_map from_zero n))
-
-abbrev above_length : Option ℕ → StackOf Listed → Option ℕ
-above_length n s = option_map (λ (r : Range). r.len) (option_or (option_map range_of s.source_range) (option_map from_zero n))
 
 track_alike : (v : View) (t : TrackOf Listed) (c : Listed) (g : Listed → List Sight) → AllAlike v (sights c) (g t.children)
     → Alike v (sight (Track (record t { children = c }))) (sight_by g (Track t))

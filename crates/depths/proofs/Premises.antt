@@ -1,11 +1,6 @@
 -- What the laws of lists ask for holds of a timeline that can be edited.
-use Rattle.std.proofs.Common.{◌||◌, ℤ, pos, ◌≤ℤ◌, arith, ◌≡◌, refl, sym, ap, subst, ◌∙◌, ℕ, zero, suc, Bool, true, false, List, [], ◌∷◌, ◌++◌, Option, Some, None, slice_get}
-use Rattle.std.proofs.lemmas.Int.{ints}
-use Rattle.tick_time.specs.declared.times.Time.{Time}
-use Rattle.otio_model.specs.Misplaced.{is_negative, has_misplaced}
-use Rattle.otio_model.specs.Overlaps.{offset_of}
-use Rattle.coord.specs.Looks.{Overlap}
-use Rattle.std.specs.Prelude.{int_lt, option_and_then, is_some}
+use Rattle.std.proofs.Common.{◌≡◌, refl, sym, ap, subst, ◌∙◌, ℕ, zero, suc, true, List, [], ◌∷◌, ◌++◌, Option, Some, None, slice_get}
+use Rattle.std.specs.Prelude.{option_and_then, is_some}
 use Rattle.std.specs.Option.{option_or}
 use Rattle.tick_time.specs.declared.spans.Span.{Span}
 use Rattle.otio_model.specs.declared.compositions.ItemOf.{ItemOf}
@@ -23,6 +18,7 @@ use Rattle.coord.specs.Soundness.{fault_of, IsSound}
 use Rattle.edits.specs.After.{place_of, list_of, frame_of}
 use Rattle.edits.specs.Edits.{edited}
 use Rattle.edits.specs.Good.{IsFair, AreFair, Suits}
+use Rattle.edits.proofs.FairItems.{fair_item}
 use Rattle.edits.specs.Steady.{AreRangedBefore, IsReady, AreReady, HasReadyItem}
 use Rattle.edits_law.proofs.Readied.{sound_ready, edited_ready}
 use Rattle.depths.specs.Known.{HasLength, HaveLengths, ItemHasLength, AreKnown}
@@ -32,14 +28,14 @@ use Rattle.depths.proofs.Lengths.{edited_known}
 
 -- ---- the children that a place leads to
 
-record Step (i : ℕ) (place : List ℕ) (l d : Listed) : Type 0 where
-  child : ItemOf Listed
-  children : Listed
-  there : slice_get (items_of l) i ≡ Some child
-  inside : children_of child ≡ Some children
-  leads : list_at place children ≡ Some d
+pub record Step (i : ℕ) (place : List ℕ) (l d : Listed) : Type 0 where
+  pub child : ItemOf Listed
+  pub children : Listed
+  pub there : slice_get (items_of l) i ≡ Some child
+  pub inside : children_of child ≡ Some children
+  pub leads : list_at place children ≡ Some d
 
-step : (i : ℕ) (place : List ℕ) (l d : Listed) → list_at (i ∷ place) l ≡ Some d → Step i place l d
+pub step : (i : ℕ) (place : List ℕ) (l d : Listed) → list_at (i ∷ place) l ≡ Some d → Step i place l d
 step i place l d e = of (slice_get (items_of l) i) refl e
   where
     by : (x : ItemOf Listed) (o : Option Listed) → slice_get (items_of l) i ≡ Some x → children_of x ≡ o → option_and_then (list_at place) o ≡ Some d → Step i place l d
@@ -98,7 +94,7 @@ known_by x h = of (length_of x) refl
     of None e = absurd (h e)
     of (Some n) e = ap is_some (seen_length x ∙ e)
 
-fine_length : (x : ItemOf Listed) → fault_of x ≡ None → length_of x ≡ None → ⊥
+pub fine_length : (x : ItemOf Listed) → fault_of x ≡ None → length_of x ≡ None → ⊥
 fine_length (Clip c) e f = cc (rw f at e)
 fine_length (Gap c) e f = cc (rw f at e)
 fine_length (Transition c) e f = cc f
@@ -175,37 +171,6 @@ has_length (A.Slip place at by) i = tt
 has_length (A.Slide place at by) i = tt
 has_length (A.Ripple place at head tail) i = tt
 has_length (A.Roll place at head tail) i = tt
-
--- ---- offsets
-
-neither : (a b : Bool) → (a || b) ≡ false → (a ≡ false) × (b ≡ false)
-neither false false e = (refl, refl)
-neither false true e = absurd (cc e)
-neither true b e = absurd (cc e)
-
-not_below : (z : ℤ) → int_lt z (pos 0) ≡ false → pos 0 ≤ℤ z
-not_below z e = grind (arith, ints)
-
-not_negative : (o : Option Time) → is_negative o ≡ false → pos 0 ≤ℤ offset_of o
-not_negative None e = omega (arith, ints)
-not_negative (Some t) e = not_below t.ticks e
-
-same_some : (x y : Overlap) → Some x ≡ Some y → x ≡ y
-same_some x y e = cc e
-
-no_overlap : (o : Overlap) → Path (Option Overlap) None (Some o) → ⊥
-no_overlap o e = cc e
-
--- a transition that isn't misplaced has no negative offset
-fair_item : (x : ItemOf Listed) → has_misplaced x ≡ false → IsFair x
-fair_item (Clip c) e = record { before = λ o f. absurd (no_overlap o f); after = λ o f. absurd (no_overlap o f) }
-fair_item (Gap c) e = record { before = λ o f. absurd (no_overlap o f); after = λ o f. absurd (no_overlap o f) }
-fair_item (Transition t) e = let n = neither (is_negative t.in_offset) (is_negative t.out_offset) e in record {
-  before = λ o f. subst (λ (y : Overlap). pos 0 ≤ℤ y.before) (same_some _ o f) (not_negative t.in_offset n.0);
-  after = λ o f. subst (λ (y : Overlap). pos 0 ≤ℤ y.after) (same_some _ o f) (not_negative t.out_offset n.1);
-}
-fair_item (Stack c) e = record { before = λ o f. absurd (no_overlap o f); after = λ o f. absurd (no_overlap o f) }
-fair_item (Track c) e = record { before = λ o f. absurd (no_overlap o f); after = λ o f. absurd (no_overlap o f) }
 
 -- all that the laws of lists ask for
 pub record Premises (t : Timeline) (e : Edit) : Type 0 where

@@ -20,8 +20,10 @@ use Rattle.coord.specs.Sights.{View, seen, sights, sight, looks, lengths_seen, v
 use Rattle.otio_model.specs.Lengths.{or_zero}
 use Rattle.coord.specs.Programs.{kind_of, child_shows, shown_by, at_by}
 use Rattle.coord.proofs.SightLemmas.{sights-listed, sights-items, seen_lengths}
+use Rattle.coord.proofs.LookSteps.{look_kind, item, transition}
 use Rattle.cuts_law.proofs.Splice.{cases}
 use Rattle.depths.specs.Down.{passed, is_here, is_next, is_side, is_holder, asks, is_above, where_so, reached, reached_above, inner, down_from, down_in, down}
+use Rattle.coord.proofs.Members.{same_some}
 
 -- ---- one item of a list that shows the same where it is asked
 
@@ -58,18 +60,6 @@ flat_at u None x l w z a = tt
 flat_at u (Some zero) x l w z a = tt
 flat_at u (Some (suc k)) x l w z a = omega (arith, ints, a, z)
 
--- an item, or a transition with its overlap
-data Kind (x : Look) : Type 0 where
-  item : x.overlap ≡ None → Kind x
-  transition : (o : Overlap) → x.overlap ≡ Some o → Kind x
-
-kind : (x : Look) → Kind x
-kind x = of x.overlap refl
-  where
-    of : (o : Option Overlap) → x.overlap ≡ o → Kind x
-    of None e = item e
-    of (Some o) e = transition o e
-
 left_of : (a b : Bool) → a ≡ true → (a || b) ≡ true
 left_of true b e = refl
 left_of false b e = absurd (cc e)
@@ -98,7 +88,7 @@ next_same : (q : Bool) (u : ℤ) (k : Option ℕ) (l m : List Look) (w : ℤ) �
 next_same q u k [] [] w s a h = refl
 next_same q u k [] (y ∷ m) w s a h = absurd s
 next_same q u k (x ∷ l) [] w s a h = absurd s
-next_same q u k (x ∷ l) (y ∷ m) w s a h = elim (kind x) [
+next_same q u k (x ∷ l) (y ∷ m) w s a h = elim (look_kind x) [
   | item e ↦ let f : y.overlap ≡ None = sym s.0.overlap ∙ e in
       let g : is_here k ≡ true → q ≡ true = rw e at h in
       rw (e, f) (s.0.shows w (λ b. (g b, here_at u k (x ∷ l) w b a)))
@@ -116,7 +106,7 @@ mix_same : (q : Bool) (u : ℤ) (last : Bool) (p r : ℤ → Show) (k : Option �
 mix_same q u last p r k [] [] w g s a h = refl
 mix_same q u last p r k [] (y ∷ m) w g s a h = absurd s
 mix_same q u last p r k (x ∷ l) [] w g s a h = absurd s
-mix_same q u last p r k (x ∷ l) (y ∷ m) w g s a h = elim (kind x) [
+mix_same q u last p r k (x ∷ l) (y ∷ m) w g s a h = elim (look_kind x) [
   | item e ↦ let f : y.overlap ≡ None = sym s.0.overlap ∙ e in
       let n : is_side (passed k) (is_here k) l (w -ℤ x.length) ≡ Some true → q ≡ true = rw e at h in
       rw (e, f) (mix_same q u (is_here k) (from_end x) (from_end y) (passed k) l m (w -ℤ x.length)
@@ -143,7 +133,7 @@ Matches (Some b) (Some s) = Unit {0}
 
 mix_there : (last : Bool) (p : ℤ → Show) (k : Option ℕ) (l : List Look) (w : ℤ) → Matches (is_side k last l w) (mix_shows p l w)
 mix_there last p k [] w = tt
-mix_there last p k (x ∷ l) w = elim (kind x) [
+mix_there last p k (x ∷ l) w = elim (look_kind x) [
   | item e ↦ rw e (mix_there (is_here k) (from_end x) (passed k) l (w -ℤ x.length))
   | transition o e ↦ rw e (cases (within (pos 0 -ℤ o.before) o.after w) (λ t. rw t tt) (λ t. rw t (mix_there last p (passed k) l w)))
 ]
@@ -221,7 +211,7 @@ changed_same q u v (suc i) f (x ∷ l) h =
     let s = self_same q u None v x in
     (record { length = refl; overlap = refl; flat = flat_sight v x; shows = λ z c. refl }, changed_same q u v i f l h)
 
-looks_map : (v : View) (l : List (ItemOf Listed)) → looks v l ≡ map (seen v) (map sight l)
+pub looks_map : (v : View) (l : List (ItemOf Listed)) → looks v l ≡ map (seen v) (map sight l)
 looks_map v [] = refl
 looks_map v (x ∷ l) = ap (λ m. seen v (sight x) ∷ m) (looks_map v l)
 
@@ -270,13 +260,10 @@ look_same v place m x q u s h = record {
   shows = λ z c. let d = c refl in s.shows z (subst (λ n. down_from v place x n ≡ None) (sym d.1) (h d.0));
 }
 
-same_some : {A : Type 0} (x y : A) → Some x ≡ Some y → x ≡ y
-same_some x y e = cc e
-
-abbrev by_length : Option ℕ → TrackOf Listed → Option ℕ
+abbrev pub by_length : Option ℕ → TrackOf Listed → Option ℕ
 by_length n t = option_map (λ (r : Range). r.len) (option_or (option_map range_of t.source_range) (option_map from_zero n))
 
-abbrev above_length : Option ℕ → StackOf Listed → Option ℕ
+abbrev pub above_length : Option ℕ → StackOf Listed → Option ℕ
 above_length n s = option_map (λ (r : Range). r.len) (option_or (option_map range_of s.source_range) (option_map from_zero n))
 
 -- the sights of children with one changed
@@ -404,7 +391,7 @@ next_alike : (k : Option ℕ) (l m : List Look) → AreShaped l m → is_next k 
 next_alike k [] [] s = refl
 next_alike k [] (y ∷ m) s = absurd s
 next_alike k (x ∷ l) [] s = absurd s
-next_alike k (x ∷ l) (y ∷ m) s = elim (kind x) [
+next_alike k (x ∷ l) (y ∷ m) s = elim (look_kind x) [
   | item e ↦ let f : y.overlap ≡ None = sym s.1 ∙ e in rw (e, f) refl
   | transition o e ↦ let f : y.overlap ≡ Some o = sym s.1 ∙ e in rw (e, f) (next_alike (passed k) l m s.2)
 ]
@@ -413,7 +400,7 @@ side_alike : (k : Option ℕ) (last : Bool) (l m : List Look) (w : ℤ) → AreS
 side_alike k last [] [] w s = refl
 side_alike k last [] (y ∷ m) w s = absurd s
 side_alike k last (x ∷ l) [] w s = absurd s
-side_alike k last (x ∷ l) (y ∷ m) w s = elim (kind x) [
+side_alike k last (x ∷ l) (y ∷ m) w s = elim (look_kind x) [
   | item e ↦ let f : y.overlap ≡ None = sym s.1 ∙ e in
       rw (e, f) (side_alike (passed k) (is_here k) l m (w -ℤ x.length) s.2 ∙ ap (λ n. is_side (passed k) (is_here k) m (w -ℤ n)) s.0)
   | transition o e ↦ let f : y.overlap ≡ Some o = sym s.1 ∙ e in

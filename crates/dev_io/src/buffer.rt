@@ -38,7 +38,8 @@ impl OutBuffer {
     }
 
     /// Hands these bytes over. What was held is sent where there is no room for them, and they too
-    /// where they are too many for an empty buffer.
+    /// where they are too many for an empty buffer. Where a write fails, `flush` tells it, and
+    /// nothing is sent from then on.
     #[inline]
     pub fn put<W: Out>(&mut self, out: &mut W, bytes: &[u8])
         ensures { HandsOver W.known W.faults out.old out.new self.old self.new bytes.now }
@@ -79,7 +80,8 @@ impl OutBuffer {
         }
     }
 
-    /// Hands these parts over, one after another.
+    /// Hands these parts over, one after another. Where a write fails, `flush` tells it, and
+    /// nothing is sent from then on.
     pub fn put_parts<W: Out>(&mut self, out: &mut W, parts: &[&[u8]])
         ensures { HandsOver W.known W.faults out.old out.new self.old self.new (joined parts.now) }
     {
@@ -89,7 +91,8 @@ impl OutBuffer {
     }
 
     /// Sends what is held. `Sink` comes where a write has failed, now or before, and then a prefix
-    /// of all that was handed over was sent.
+    /// of all that was handed over was sent, and the count of faults rose at that write, or stands
+    /// at 2^64 - 1.
     pub fn flush<W: Out>(&mut self, out: &mut W) -> Result<(), WriteFault>
         ensures sent { Flushes (standing W.known W.faults out.old self.old)
             (standing W.known W.faults out.new self.new) result }
@@ -112,8 +115,8 @@ impl OutBuffer {
     }
 }
 
-/// Sends the parts, one after another, through a buffer. Where it fails, a prefix of all of them
-/// was sent.
+/// Sends the parts, one after another, through a buffer. `Sink` comes only where a write failed,
+/// and then a prefix of all of them was sent, and the count of faults rose, or stands at 2^64 - 1.
 pub fn write_parts<W: Out>(out: &mut W, parts: &[&[u8]]) -> Result<(), WriteFault>
     ensures told { Tells (SendsAll (joined parts.now) result) (W.known out.old) (W.known out.new) }
     ensures cause { HasCause (W.faults out.old) (W.faults out.new) result }

@@ -34,7 +34,8 @@ pub trait Files {
     ghost faults: { Self → ℕ };
 
     /// Takes the file of that name in hand, from its first byte on, in place of the one in hand
-    /// before. The name `-` is the standard input.
+    /// before. The name `-` is the standard input. After `Absent` and `Failed` no file is in hand,
+    /// not even the one before.
     fn open_file(&mut self, name: &str) -> Opened
         ensures told { Tells (Opens name.now result) (known self.old) (known self.new) }
         ensures cause { HasOpenCause (faults self.old) (faults self.new) result };

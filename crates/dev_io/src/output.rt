@@ -11,7 +11,8 @@ use crate::files::Failed;
 /// Why a call that writes a whole text stopped before its end.
 #[derive(Clone, Copy, Debug, PartialEq, Eq)]
 pub enum WriteFault {
-    /// A write of the stream failed, and its count of faults rose.
+    /// A write of the stream failed, and its count of faults rose, or stands at 2^64 - 1. Of
+    /// `OutBuffer::flush` that may have been in an earlier call.
     Sink,
 }
 
@@ -37,14 +38,16 @@ pub trait Out {
     ghost faults: { Self → ℕ };
 
     /// From here on the bytes go to the file of that name. Nothing may have been written yet, where
-    /// that is told.
+    /// that is told. After `Failed` they go where they went before, the bytes sent are as they
+    /// were, and the count of faults rose, or stands at 2^64 - 1.
     fn aim(&mut self, name: &str) -> Result<(), Failed>
         requires { IsFresh (known self.old) }
         ensures told { Tells (Aims name.now result) (known self.old) (known self.new) }
         ensures cause { HasCause (faults self.old) (faults self.new) result };
 
     /// Sends some bytes from the front of the piece, at least one where there are any, and says how
-    /// many. A stream that takes none of them has failed.
+    /// many. A stream that takes none of them has failed. After `Failed` the target and the bytes
+    /// sent are as they were, and the count of faults rose, or stands at 2^64 - 1.
     fn write(&mut self, piece: &[u8]) -> Result<usize, Failed>
         ensures bound { WritesAtMost result piece.now }
         ensures some { IfOk result (λ n. 0 < length piece.now → 0 < n) }
@@ -53,7 +56,7 @@ pub trait Out {
 }
 
 /// Sends all of the bytes. Where it fails, a prefix of them was sent, and the stream's count of
-/// faults rose. It takes no memory.
+/// faults rose, or stands at 2^64 - 1. It takes no memory.
 pub fn write_all<W: Out>(out: &mut W, bytes: &[u8]) -> Result<(), Failed>
     ensures told { Tells (SendsAll bytes.now result) (W.known out.old) (W.known out.new) }
     ensures cause { HasCause (W.faults out.old) (W.faults out.new) result }

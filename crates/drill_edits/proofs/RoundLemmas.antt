@@ -7,7 +7,7 @@ use Rattle.otio_model.specs.declared.timelines.Timeline.{Timeline}
 use Rattle.script_text.specs.declared.commands.Act.{Act}
 use Rattle.edit_script.specs.Keeping.{HoldsEdits}
 use Rattle.edit_script.specs.Steps.{IsReady}
-use Rattle.edit_script.specs.Items.{MediaRows}
+use Rattle.media_rows.specs.Rows.{MediaRows}
 use Rattle.edit_script.specs.Runs.{IsHalted, Takes}
 use Rattle.drill_draws.specs.Acts.{act}
 use Rattle.drill_edits.specs.Frames.{track_frames}

@@ -10,7 +10,7 @@ use Rattle.script_text.specs.declared.commands.Act.TheVariants as A
 use Rattle.script_text.specs.declared.commands.Command.{Command}
 use Rattle.edit_script.specs.declared.faults.CommandFault.{CommandFault}
 use Rattle.edit_script.specs.declared.faults.CommandFault.TheVariants as F
-use Rattle.edit_script.specs.Items.{MediaRows}
+use Rattle.media_rows.specs.Rows.{MediaRows}
 use Rattle.edit_script.specs.Runs.{Halts, IsHalted, Runs, Takes, edits, undoes, redoes, unlisted, far, refused, nothing_done, nothing_undone}
 use Rattle.drill_edits.specs.Turns.{WasTried, WentBack}
 

@@ -3,7 +3,7 @@ use Rattle.std.specs.Prelude.{◌≡◌, ℕ, zero, suc, ◌+◌}
 use Rattle.undo_log.specs.States.{State}
 use Rattle.script_text.specs.declared.commands.Act.{Act}
 use Rattle.edit_script.specs.declared.faults.CommandFault.{CommandFault}
-use Rattle.edit_script.specs.Items.{MediaRows}
+use Rattle.media_rows.specs.Rows.{MediaRows}
 use Rattle.edit_script.specs.Runs.{IsHalted, Takes}
 use Rattle.drill_draws.specs.Acts.{Drawn, act}
 use Rattle.drill_edits.specs.Frames.{track_frames}

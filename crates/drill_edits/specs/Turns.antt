@@ -4,7 +4,7 @@ use Rattle.otio_model.specs.declared.timelines.Timeline.{Timeline}
 use Rattle.undo_log.specs.Histories.{History}
 use Rattle.undo_log.specs.States.{State, back, state_of}
 use Rattle.script_text.specs.declared.commands.Act.{Act}
-use Rattle.edit_script.specs.Items.{MediaRows}
+use Rattle.media_rows.specs.Rows.{MediaRows}
 use Rattle.edit_script.specs.Keeping.{HoldsEdits}
 use Rattle.edit_script.specs.Runs.{Takes}
 use Rattle.edit_script.specs.Steps.{IsReady}

@@ -9,7 +9,7 @@ use coord::record_rate;
 use otio_model::Timeline;
 
 /// How long the first root child is, in ticks; 0 where there is none.
-fn track_ticks(timeline: &Timeline) -> u128
+pub fn track_ticks(timeline: &Timeline) -> u128
     requires few { count timeline.now.tracks.children < 2 ^ 32 }
     ensures value { result ≡ frames.track_ticks timeline.now }
     ensures small { result < 2 ^ 127 }
@@ -21,7 +21,7 @@ fn track_ticks(timeline: &Timeline) -> u128
 }
 
 /// The ticks of a record frame.
-fn frame_ticks(timeline: &Timeline) -> u128
+pub fn frame_ticks(timeline: &Timeline) -> u128
     ensures value { result ≡ programs.frame_ticks (programs.record_rate timeline.now) }
     ensures some { 1 ≤ result }
 {

@@ -6,5 +6,5 @@ mod frames;
 mod rounds;
 mod steps;
 
-pub use frames::track_frames;
+pub use frames::{frame_ticks, track_frames, track_ticks};
 pub use rounds::{run_edits, undo_all};

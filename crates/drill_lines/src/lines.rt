@@ -120,7 +120,7 @@ fn put_tally<W: Out>(buffer: &mut OutBuffer, out: &mut W, tally: Tally)
 /// of the reason stands in place of `events`, `frames` and `shown`.
 ///
 /// It answers `Sink` where a write failed, and then a prefix of the text was sent and the count of
-/// faults rose. It takes no memory.
+/// faults rose, or stands at 2^64 - 1. It takes no memory.
 pub fn write_tally<W: Out>(tally: Tally, out: &mut W) -> Result<(), WriteFault>
     ensures told { Tells (SendsAll (tally_text tally) result) (W.known out.old) (W.known out.new) }
     ensures cause { HasCause (W.faults out.old) (W.faults out.new) result }

@@ -18,9 +18,9 @@ use pieces::sound_ticks;
 /// How far the head and the tail of an item move, in ticks; a positive number is later.
 #[derive(Clone, Copy, Debug, PartialEq, Eq)]
 pub struct Moves {
-    /// How far the head moves.
+    /// How far the head moves, in ticks.
     pub head: i128,
-    /// How far the tail moves.
+    /// How far the tail moves, in ticks.
     pub tail: i128,
 }
 
@@ -42,7 +42,8 @@ fn slip_in(frame: i128, room: Room, by: i128) -> i128
 }
 
 /// How far a slip of an item goes that is asked to go so far: no further than its unused media, in
-/// whole frames.
+/// whole frames. `by` and the answer are in ticks, positive to later media; `frame` is the ticks of
+/// a record frame.
 pub fn slip_by(frame: i128, item: &Item, by: i128) -> i128
     requires frame { pos 1 ≤ℤ frame }
     requires item { IsCuttable item.now }
@@ -99,7 +100,8 @@ fn spare_behind(frame: i128, item: &Item, head: i128) -> i128
 }
 
 /// How far a slide goes that is asked to go so far: the item before keeps a tick or more, and its
-/// tail goes no further than its unused media.
+/// tail goes no further than its unused media. `by` and the answer are in ticks, positive to later;
+/// `frame` is the ticks of a record frame.
 pub fn slide_by(frame: i128, before: &Item, by: i128) -> i128
     requires frame { pos 1 ≤ℤ frame }
     requires before { IsCuttable before.now }
@@ -141,7 +143,8 @@ fn ripple_tail(frame: i128, item: &Item, head: i128, by: i128) -> i128
 }
 
 /// How far a ripple moves the edges of an item that is asked to move them so far: a tick or more is
-/// left, and no edge goes further than its unused media.
+/// left, and no edge goes further than its unused media. `by` and the answer are in ticks, and
+/// `frame` is the ticks of a record frame.
 pub fn ripple_by(frame: i128, item: &Item, by: Moves) -> Moves
     requires frame { pos 1 ≤ℤ frame }
     requires item { IsCuttable item.now }
@@ -234,7 +237,8 @@ fn trim_tail(frame: i128, item: &Item, head: i128, behind: Option<&Item>, by: i1
 
 /// How far a trim moves the edges of an item that is asked to move them so far, where these stand
 /// beside it: no edge goes further than the gap there or than its unused media, and a tick or more
-/// is left. At the end of the track the tail isn't held by a gap.
+/// is left. At the end of the track the tail isn't held by a gap. `by` and the answer are in ticks,
+/// and `frame` is the ticks of a record frame.
 pub fn trim_by(
     frame: i128,
     before: Option<&Item>,
@@ -346,7 +350,8 @@ fn roll_tail(frame: i128, item: &Item, head: i128, behind: Option<&Item>, by: i1
 
 /// How far a roll moves the edges of an item that is asked to move them so far, where these stand
 /// beside it: each item keeps a tick or more, and no edge goes further than its unused media. An
-/// edge with no item beside it isn't moved.
+/// edge with no item beside it isn't moved. `by` and the answer are in ticks, and `frame` is the
+/// ticks of a record frame.
 pub fn roll_by(
     frame: i128,
     before: Option<&Item>,

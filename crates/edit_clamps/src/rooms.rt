@@ -2,18 +2,17 @@
 
 ghost use Rattle.limits.specs.Limits.{most_ticks};
 ghost use Rattle.std.specs.Prelude.{◌≡◌, IfSome, None, Some, cond, int_lt, option_map, pos};
-ghost use Rattle.std.specs.Prelude.{◌≤ℤ◌, ◌-ℤ◌, ◌+ℤ◌, ◌*ℤ◌};
+ghost use Rattle.std.specs.Prelude.{◌≤ℤ◌, ◌-ℤ◌, ◌+ℤ◌};
 ghost use Rattle.std.specs.Int.{int_div_euclid, int_max, int_min};
-ghost use Rattle.otio_model.specs.Lengths as lengths;
 ghost use Rattle.edits.specs.Edges as edges;
 ghost use Rattle.pieces.specs.Short.{IsCuttable};
 ghost use Rattle.edit_clamps.specs.Bounds.{IsRoom};
 ghost use Rattle.edit_clamps.specs.Parts.{room_of};
 
 use crate::clamps::whole_limit;
-use coord::{speed, trimmed_start};
+use coord::{media_ticks, speed};
 use otio_model::{Item, ItemOf};
-use pieces::sound_ticks;
+use pieces::{sound_ticks, start_ticks};
 use tick_time::Span;
 
 /// Unused media before and behind what a clip uses, in ticks of the media.
@@ -21,19 +20,6 @@ use tick_time::Span;
 pub(crate) struct Room {
     pub before: i128,
     pub behind: i128,
-}
-
-/// How much media so many ticks play, in millionths of a tick; negative where they play backwards.
-fn media_ticks(ticks: i128, speed: i64) -> i128
-    requires low { pos 0 ≤ℤ ticks }
-    requires high { ticks ≤ℤ pos most_ticks }
-    requires speed_low { (pos 0 -ℤ pos 1000000000) ≤ℤ speed }
-    requires speed_high { speed ≤ℤ pos 1000000000 }
-    ensures value { result ≡ (ticks *ℤ speed) }
-    ensures least { (pos 0 -ℤ pos 1000000000000000000000000000000000) ≤ℤ result }
-    ensures most { result ≤ℤ pos 1000000000000000000000000000000000 }
-{
-    ticks * i128::from(speed)
 }
 
 /// How far before its start media are reached that so many millionths of a tick play, in whole
@@ -152,16 +138,6 @@ fn room_in(media: Span, start: i128, ticks: i128, speed: i64) -> Room
         before: room_before(media, start, played),
         behind: room_behind(media, start, played),
     }
-}
-
-#[tactic(auto, using(pieces::proofs::Faultless::starts_near))]
-/// Where the trimmed range of an item starts, in ticks.
-fn start_ticks(item: &Item) -> i128
-    ensures value { result ≡ lengths.trimmed_start item.now }
-    ensures low { (pos 0 -ℤ pos most_ticks) ≤ℤ result }
-    ensures high { result ≤ℤ pos most_ticks }
-{
-    trimmed_start(item)
 }
 
 /// The unused media round a clip; none where its media have no range, or where it is no clip.

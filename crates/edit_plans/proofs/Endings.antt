@@ -43,7 +43,8 @@ use Rattle.edit_plans.specs.Planned.{IsMiddle, IsPlan}
 use Rattle.edit_plans.specs.Ways.{has_long, is_long_fault, is_way_long}
 use Rattle.edit_plans.proofs.EachMade.{All, Keeps, OfItem, each_made, list_near}
 use Rattle.edit_plans.proofs.TrackLemmas.{OnTrack, child_at, list_is, list_sound, on_track}
-use Rattle.edit_plans.proofs.WayMeaning.{LongIn, NotLong, Tested, all_known, fine_length, tested}
+use Rattle.depths.proofs.Premises.{fine_length}
+use Rattle.edit_plans.proofs.WayMeaning.{LongIn, NotLong, Tested, all_known, tested}
 
 -- ---- what each item of the edited list is
 

@@ -1,7 +1,7 @@
 -- The track that a place leads to.
 use Rattle.std.proofs.Common.{◌≡◌, refl, sym, ap, subst, ◌∙◌, ℕ, ◌<◌, ◌^◌}
 use Rattle.std.proofs.Common.{List, [], ◌∷◌, ◌++◌, Option, Some, None, length, arith}
-use Rattle.std.specs.Prelude.{slice_get, option_and_then, cond}
+use Rattle.std.specs.Prelude.{option_and_then, cond}
 use Rattle.otio_model.specs.declared.compositions.ItemOf.{ItemOf}
 use Rattle.otio_model.specs.declared.compositions.ItemOf.TheVariants.{Clip, Gap, Transition, Stack}
 use Rattle.otio_model.specs.declared.compositions.ItemOf.TheVariants.{Track}
@@ -21,6 +21,7 @@ use Rattle.coord.specs.Soundness.{IsSound}
 use Rattle.edits.specs.After.{list_of, place_of}
 use Rattle.edits.specs.Refusals.{is_track, place_fault}
 use Rattle.edits_law.proofs.Anywhere.{count_at}
+use Rattle.depths.proofs.Premises.{step}
 use Rattle.pieces.specs.Short.{AreCuttable}
 
 -- a place without a fault leads to a track
@@ -91,27 +92,6 @@ list_few place l c e h =
     omega (arith, k, n, h)
 
 -- ---- each child stands at a place
-
-record Step (i : ℕ) (place : List ℕ) (l d : Listed) : Type 0 where
-  child : ItemOf Listed
-  children : Listed
-  there : slice_get (items_of l) i ≡ Some child
-  inside : children_of child ≡ Some children
-  leads : list_at place children ≡ Some d
-
-step : (i : ℕ) (place : List ℕ) (l d : Listed) → list_at (i ∷ place) l ≡ Some d → Step i place l d
-step i place l d e = of (slice_get (items_of l) i) refl e
-  where
-    by : (x : ItemOf Listed) (o : Option Listed) → slice_get (items_of l) i ≡ Some x
-        → children_of x ≡ o → option_and_then (list_at place) o ≡ Some d → Step i place l d
-    by x None f g h = absurd (cc h)
-    by x (Some b) f g h = record { child = x; children = b; there = f; inside = g; leads = h }
-
-    of : (o : Option (ItemOf Listed)) → slice_get (items_of l) i ≡ o
-        → option_and_then (λ x. option_and_then (list_at place) (children_of x)) o ≡ Some d
-        → Step i place l d
-    of None f h = absurd (cc h)
-    of (Some x) f h = by x (children_of x) f refl h
 
 pub child_at : (place : List ℕ) (l d : Listed) (j : ℕ) (q : List ℕ) (x : ItemOf Listed)
     → list_at place l ≡ Some d → item_at (j ∷ q) d ≡ Some x → item_at (place ++ (j ∷ q)) l ≡ Some x

@@ -29,6 +29,7 @@ use Rattle.coord.specs.Soundness.{AreFaultless, IsFaultlessItem, fault_of, is_lo
 use Rattle.coord.specs.Soundness.{media_end, most_end, ranged_fault}
 use Rattle.coord.specs.Speeds.{effects_of}
 use Rattle.edits.specs.Everywhere.{OnTheWay}
+use Rattle.depths.proofs.Premises.{fine_length}
 use Rattle.edit_plans.specs.Ways.{available_with, is_long_with, is_way_long, short_ticks}
 use Rattle.edit_plans.specs.Ways.{ticks_with, way_ticks, with_ticks}
 use Rattle.edit_plans.proofs.WayLemmas.{lengths_map}
@@ -228,13 +229,6 @@ all_known (x ∷ l) h = by (length_of x) refl (all_known l (λ i y f. h (suc i) 
         → are_known (o ∷ map length_of l) ≡ true
     by None e k = absurd (h zero x refl e)
     by (Some n) e k = k
-
-pub fine_length : (x : ItemOf Listed) → fault_of x ≡ None → length_of x ≡ None → ⊥
-fine_length (Clip c) e f = cc (rw f at e)
-fine_length (Gap c) e f = cc (rw f at e)
-fine_length (Transition c) e f = cc f
-fine_length (Stack c) e f = cc (rw f at e)
-fine_length (Track c) e f = cc (rw f at e)
 
 pub sound_known : (l : Listed) → AreFaultless l → are_known (lengths l) ≡ true
 sound_known l h = ap are_known (lengths_map l) ∙ all_known (items_of l)

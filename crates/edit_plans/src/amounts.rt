@@ -1,12 +1,12 @@
 //! How long items are together, and how many they are.
 
-ghost use Rattle.std.specs.Prelude.{◌≡◌, ◌+◌, ◌<◌, ◌≤◌, ◌^◌, Some, drop, length, slice_get, take};
+ghost use Rattle.std.specs.Prelude.{◌≡◌, ◌+◌, ◌<◌, ◌≤◌, ◌^◌, drop, length, take};
 ghost use Rattle.otio_model.specs.Counts.{count, count_of};
-ghost use Rattle.otio_model.specs.Lengths.{length_of, or_zero};
 ghost use Rattle.otio_model.specs.Trees.{items_of};
 ghost use Rattle.edit_plans.specs.Amounts.{AreFew, amount_in, more};
 
 use otio_model::{Children, Item, ItemOf};
+use pieces::{known_ticks, member};
 
 /// What items come to, up to the greatest numbers.
 #[derive(Clone, Copy, Debug)]
@@ -15,17 +15,6 @@ pub(crate) struct Amount {
     pub(crate) ticks: u128,
     /// How many they are, with all below them.
     pub(crate) items: usize,
-}
-
-/// The item at an index.
-pub(crate) fn member(list: &[Item], index: usize) -> &Item
-    requires { index < length list.now }
-    ensures { slice_get list.now index ≡ Some result.now }
-{
-    match list.get(index) {
-        Some(item) => item,
-        None => unreachable!(),
-    }
 }
 
 /// How many items an item and all below it are.
@@ -37,17 +26,6 @@ fn item_count(item: &Item) -> usize
         ItemOf::Stack(stack) => stack.children.items_below() + 1,
         ItemOf::Track(track) => track.children.items_below() + 1,
         _ => 1,
-    }
-}
-
-/// How long an item is, in ticks, 0 where it has no length.
-pub(crate) fn known_ticks(item: &Item) -> u128
-    requires { count_of item.now < 2 ^ 32 }
-    ensures { result ≡ or_zero (length_of item.now) }
-{
-    match item.length() {
-        Some(ticks) => ticks.unsigned_abs(),
-        None => 0,
     }
 }
 

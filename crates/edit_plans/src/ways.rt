@@ -14,11 +14,11 @@ ghost use Rattle.edit_plans.specs.Amounts.{AreFew};
 ghost use Rattle.edit_plans.specs.Ways as ways;
 ghost use Rattle.edit_plans.specs.Ways.{with_ticks};
 
-use crate::amounts::{known_ticks, member};
 use crate::pins::{first_index, source_range};
 use coord::{ItemFault, item_fault, speed, trimmed_start};
 use limits::MOST_TICKS;
 use otio_model::{Children, Item, ItemOf, Place, Timeline};
+use pieces::{known_ticks, member};
 
 /// A million seconds in ticks.
 const MOST_LENGTH: u128 = MOST_TICKS as u128;

@@ -19,7 +19,8 @@ use Rattle.script_text.specs.declared.commands.Act.TheVariants as A
 use Rattle.script_text.specs.declared.commands.Command.{Command}
 use Rattle.edit_script.specs.declared.faults.CommandFault.{CommandFault}
 use Rattle.edit_script.specs.declared.faults.CommandFault.TheVariants as F
-use Rattle.edit_script.specs.Items.{MediaRows, is_far, is_wrong_put}
+use Rattle.edit_script.specs.Items.{is_far, is_wrong_put}
+use Rattle.media_rows.specs.Rows.{MediaRows}
 use Rattle.script_text.specs.declared.commands.Put.{Put}
 use Rattle.edit_script.specs.Acts.{IsEditOf, is_beyond, is_unlisted}
 use Rattle.edit_script.specs.Plans.{IsPlanOf, IsRefusalOf}

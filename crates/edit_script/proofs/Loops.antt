@@ -7,7 +7,7 @@ use Rattle.undo_log.specs.Histories.{History}
 use Rattle.undo_log.specs.States.{state_of}
 use Rattle.script_text.specs.declared.commands.Command.{Command}
 use Rattle.edit_script.specs.declared.faults.CommandFault.{CommandFault}
-use Rattle.edit_script.specs.Items.{MediaRows}
+use Rattle.media_rows.specs.Rows.{MediaRows}
 use Rattle.edit_script.specs.Runs.{Halts, IsHalted, Runs, Takes}
 use Rattle.edit_script.specs.Steps.{HasRun, IsDone, IsSame}
 

@@ -22,7 +22,9 @@ use Rattle.script_text.specs.declared.commands.Put.{Put}
 use Rattle.script_text.specs.declared.commands.Put.TheVariants as P
 use Rattle.edit_script.specs.declared.faults.CommandFault.{CommandFault}
 use Rattle.edit_script.specs.declared.faults.CommandFault.TheVariants as F
-use Rattle.edit_script.specs.Items.{IsClip, IsFrames, IsItem, IsSpan, MediaRows, clip_with, media_at, row_of}
+use Rattle.edit_script.specs.Items.{IsClip, IsItem, IsSpan, clip_with, media_at}
+use Rattle.tick_time.specs.Frames.{IsFrames}
+use Rattle.media_rows.specs.Rows.{MediaRows, row_of}
 use Rattle.edit_script.specs.Acts.{IsEditOf, Puts, is_beyond, is_unlisted}
 use Rattle.edit_script.specs.Runs.{AsksFor, IsHalted, Takes, moved_on}
 use Rattle.edit_script.specs.Runs.{edits, undoes, redoes, unlisted, far, refused, nothing_done, nothing_undone}
@@ -38,7 +40,7 @@ both_ways b e f = let g : true ≡ false = sym e ∙ f in cc g
 
 -- ---- edits
 
-one_time : (r : Rate) (n : ℤ) (t u : Time) → IsFrames r n t → IsFrames r n u → t ≡ u
+pub one_time : (r : Rate) (n : ℤ) (t u : Time) → IsFrames r n t → IsFrames r n u → t ≡ u
 one_time r n t u i j = same_time t u (i.ticks ∙ sym j.ticks) (i.kept ∙ sym j.kept)
 
 one_span : (r : Rate) (m : ℤ) (q : Rate) (n : ℤ) (s t : Span) → IsSpan r m q n s → IsSpan r m q n t
@@ -56,7 +58,7 @@ one_clip r row name m n x y i j =
     (one_span row.rate row.start row.rate row.count i.available j.available i.listed j.listed)
     ∙ sym j.is
 
-one_item : (r : Rate) (media : MediaRows) (put : Put) (x y : ItemOf Listed)
+pub one_item : (r : Rate) (media : MediaRows) (put : Put) (x y : ItemOf Listed)
     → IsItem r media put x → IsItem r media put y → x ≡ y
 one_item r media (P.Gap n) x y i j = one_some _ x y i j
 one_item r media (P.Clip name reel m n) x y i j =

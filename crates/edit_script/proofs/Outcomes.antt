@@ -6,7 +6,7 @@ use Rattle.std.proofs.lemmas.Option.{slice_get_within}
 use Rattle.undo_log.specs.States.{State}
 use Rattle.script_text.specs.declared.commands.Command.{Command}
 use Rattle.edit_script.specs.declared.faults.CommandFault.{CommandFault}
-use Rattle.edit_script.specs.Items.{MediaRows}
+use Rattle.media_rows.specs.Rows.{MediaRows}
 use Rattle.edit_script.specs.Runs.{Halts, IsHalted, Runs, Takes}
 use Rattle.edit_script.proofs.Once.{kept_on, one_fault, one_result}
 

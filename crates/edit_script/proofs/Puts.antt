@@ -25,7 +25,9 @@ use Rattle.cuts.specs.Children.{made, new_gap, plain_gap, with_range}
 use Rattle.depths.specs.Editable.{IsEditItem}
 use Rattle.script_text.specs.declared.commands.Put.{Put}
 use Rattle.script_text.specs.declared.commands.Put.TheVariants as P
-use Rattle.edit_script.specs.Items.{IsClip, IsFrames, IsItem, MediaRows, clip_with, in_ticks, is_far, is_wrong, media_at, row_of}
+use Rattle.edit_script.specs.Items.{IsClip, IsItem, clip_with, is_far, is_wrong, media_at}
+use Rattle.tick_time.specs.Frames.{IsFrames, in_ticks}
+use Rattle.media_rows.specs.Rows.{MediaRows, row_of}
 
 -- ---- counts that aren't wrong
 

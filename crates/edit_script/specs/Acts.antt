@@ -9,7 +9,8 @@ use Rattle.script_text.specs.declared.commands.Act.{Act}
 use Rattle.script_text.specs.declared.commands.Act.TheVariants as A
 use Rattle.script_text.specs.declared.commands.Put.{Put}
 use Rattle.edit_script.specs.Items as I
-use Rattle.edit_script.specs.Items.{MediaRows, IsItem, is_far, is_wrong_put}
+use Rattle.edit_script.specs.Items.{IsItem, is_far, is_wrong_put}
+use Rattle.media_rows.specs.Rows.{MediaRows}
 
 -- some item is what is put in, and the edit is the one with it
 abbrev pub Puts : Rate → MediaRows → Put → (ItemOf Listed → Edit) → Edit → Type 0

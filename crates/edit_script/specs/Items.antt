@@ -2,10 +2,9 @@
 use Rattle.std.specs.Prelude.{◌≡◌, ℕ, ℤ, pos, ◌*ℤ◌, Bool, true, false, ◌||◌, not, int_lt, List, [], ◌∷◌, Option, Some, None, is_none, codes}
 use Rattle.tick_time.specs.declared.rates.Rate.{Rate}
 use Rattle.tick_time.specs.declared.spans.Span.{Span}
-use Rattle.tick_time.specs.declared.times.Time.{Time}
-use Rattle.tick_time.specs.Rates.{frame}
+use Rattle.tick_time.specs.Frames.{IsFrames, in_ticks}
 use Rattle.media_rows.specs.declared.row.MediaRow.{MediaRow}
-use Rattle.media_rows.specs.Rows.{by_reel}
+use Rattle.media_rows.specs.Rows.{MediaRows, row_of}
 use Rattle.otio_model.specs.declared.sources.Media.{Media}
 use Rattle.otio_model.specs.declared.sources.Media.TheVariants.{External}
 use Rattle.otio_model.specs.declared.compositions.ItemOf.{ItemOf}
@@ -16,29 +15,11 @@ use Rattle.cuts.specs.Children.{made, new_gap}
 use Rattle.script_text.specs.declared.commands.Put.{Put}
 use Rattle.script_text.specs.declared.commands.Put.TheVariants as P
 
--- the rows of a media list, where there is one
-abbrev pub MediaRows : Type 0
-MediaRows = Option (List MediaRow)
-
--- the row that is listed of a reel
-abbrev pub row_of : MediaRows → List ℕ → Option MediaRow
-row_of None reel = None
-row_of (Some rows) reel = by_reel reel rows
-
 -- ---- times
-
--- so many frames of a rate, in ticks
-abbrev pub in_ticks : Rate → ℤ → ℤ
-in_ticks rate n = n *ℤ pos (frame rate.num rate.den)
 
 -- they pass a million seconds, either way
 abbrev pub is_far : Rate → ℤ → Bool
 is_far rate n = not (in_range (in_ticks rate n))
-
--- the time is so many frames of the rate
-pub record IsFrames (rate : Rate) (n : ℤ) (t : Time) : Type 0 where
-  pub ticks : t.ticks ≡ in_ticks rate n
-  pub kept : t.rate ≡ rate
 
 -- the span starts at so many frames of one rate and is so many frames of another one long
 pub record IsSpan (start_rate : Rate) (start : ℤ) (length_rate : Rate) (length : ℤ) (s : Span)

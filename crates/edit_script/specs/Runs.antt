@@ -12,7 +12,7 @@ use Rattle.script_text.specs.declared.commands.Act.TheVariants as A
 use Rattle.script_text.specs.declared.commands.Command.{Command}
 use Rattle.edit_script.specs.declared.faults.CommandFault.{CommandFault}
 use Rattle.edit_script.specs.declared.faults.CommandFault.TheVariants as F
-use Rattle.edit_script.specs.Items.{MediaRows}
+use Rattle.media_rows.specs.Rows.{MediaRows}
 use Rattle.edit_script.specs.Acts.{IsEditOf, is_unlisted, is_beyond}
 
 -- an edit drops the timelines behind the position, adds the one that it gives and moves on to it

@@ -5,7 +5,7 @@ use Rattle.undo_log.specs.Histories.{History}
 use Rattle.undo_log.specs.States.{IsKept, state_of}
 use Rattle.script_text.specs.declared.commands.Act.{Act}
 use Rattle.script_text.specs.declared.commands.Command.{Command}
-use Rattle.edit_script.specs.Items.{MediaRows}
+use Rattle.media_rows.specs.Rows.{MediaRows}
 use Rattle.edit_script.specs.Runs.{Runs, Takes}
 use Rattle.edit_script.specs.Keeping.{HoldsEdits, IsEditableState}
 

@@ -8,7 +8,7 @@ ghost use Rattle.edit_script.specs.Acts as acts;
 ghost use Rattle.edit_script.specs.Acts.{IsEditOf};
 ghost use Rattle.tick_time.specs.declared.rates.Rate.{Rate as AnyRate};
 ghost use Rattle.edit_script.specs.Items as items;
-ghost use Rattle.edit_script.specs.Items.{MediaRows};
+ghost use Rattle.media_rows.specs.Rows.{MediaRows};
 ghost use Rattle.edit_script.specs.Groups.{group, moves_cuts, OfEdges, OfLists};
 
 use crate::items::{is_far, is_unlisted as is_unlisted_put, is_wrong_put, item_of};

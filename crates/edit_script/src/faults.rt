@@ -11,9 +11,19 @@ pub enum CommandFault {
     /// P1: one of its times is more than a million seconds from 0.
     Line(u32),
     /// Its edit is refused. The fault is never [`EditFault::Memory`].
-    Edit { line: u32, fault: EditFault },
-    /// There is nothing to undo or to redo.
-    Undo { line: u32, fault: UndoFault },
+    Edit {
+        /// The line of the command, counted from 1.
+        line: u32,
+        /// Why the edit is refused.
+        fault: EditFault,
+    },
+    /// H1: there is nothing to undo. H2: there is nothing to redo.
+    Undo {
+        /// The line of the command, counted from 1.
+        line: u32,
+        /// Which of the two.
+        fault: UndoFault,
+    },
     /// Memory ran out.
     Memory,
 }

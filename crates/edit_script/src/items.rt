@@ -4,10 +4,12 @@ ghost use Rattle.std.specs.Prelude.{◌≡◌, ◌∷◌, [], false, IfOk, Some,
 ghost use Rattle.std.specs.Option.{option_copied};
 ghost use Rattle.cuts.specs.Children.{made, new_gap as new_gap_of};
 ghost use Rattle.depths.specs.Editable.{IsEditItem};
+ghost use Rattle.media_rows.specs.Rows as rows;
 ghost use Rattle.media_rows.specs.Rows.{IsRowInRange};
 ghost use Rattle.tick_time.specs.declared.spans.Span.{Span as AnySpan};
 ghost use Rattle.edit_script.specs.Items as items;
-ghost use Rattle.edit_script.specs.Items.{IsClip, IsFrames, IsItem, IsSpan};
+ghost use Rattle.edit_script.specs.Items.{IsClip, IsItem, IsSpan};
+ghost use Rattle.tick_time.specs.Frames.{IsFrames, in_ticks};
 
 use media_list::MediaList;
 use media_rows::MediaRow;
@@ -20,7 +22,7 @@ use tick_time::{Rate, Span, Time};
 
 /// The row that is listed of a reel.
 fn row_of<'a>(media: Option<&'a MediaList>, reel: &Text) -> Option<&'a MediaRow>
-    ensures row { option_copied result ≡ items.row_of (option_copied media.entry) reel.now }
+    ensures row { option_copied result ≡ rows.row_of (option_copied media.entry) reel.now }
     ensures range { IfSome result (λ row. IsRowInRange row.now) }
 {
     match media {
@@ -164,7 +166,7 @@ fn clip_of(
 /// A gap so many record frames long.
 fn gap_of(alloc: Global, rate: Rate, length: i64) -> Result<Item, AllocError>
     requires { items.is_wrong rate length ≡ false }
-    ensures { IfOk result (λ gap. made rate (new_gap_of (items.in_ticks rate length)) ≡ Some gap) }
+    ensures { IfOk result (λ gap. made rate (new_gap_of (in_ticks rate length)) ≡ Some gap) }
 {
     match new_gap(alloc, frames(length, rate).ticks, rate) {
         Ok(gap) => Ok(gap),
@@ -173,8 +175,9 @@ fn gap_of(alloc: Global, rate: Rate, length: i64) -> Result<Item, AllocError>
     }
 }
 
-/// The item that is put in.
-pub(crate) fn item_of(
+/// The item that a command puts in, where the record rate is `rate`. An error comes where memory
+/// runs out.
+pub fn item_of(
     alloc: Global,
     rate: Rate,
     media: Option<&MediaList>,

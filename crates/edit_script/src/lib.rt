@@ -9,4 +9,5 @@ mod running;
 mod steps;
 
 pub use faults::CommandFault;
+pub use items::item_of;
 pub use running::{apply_script, one_run};

@@ -5,7 +5,7 @@ ghost use Rattle.std.specs.Option.{option_copied};
 ghost use Rattle.undo_log.specs.States.{IsKept, State, state_of};
 ghost use Rattle.script_text.specs.declared.commands.Command.{Command as AnyCommand};
 ghost use Rattle.edit_script.specs.declared.faults.CommandFault.{CommandFault as AnyFault};
-ghost use Rattle.edit_script.specs.Items.{MediaRows};
+ghost use Rattle.media_rows.specs.Rows.{MediaRows};
 ghost use Rattle.edit_script.specs.Runs.{Halts, Runs};
 ghost use Rattle.edit_script.specs.Keeping.{HoldsEdits, IsEditableState};
 

@@ -10,7 +10,7 @@ ghost use Rattle.edits.specs.After.{rate_of};
 ghost use Rattle.script_text.specs.declared.commands.Act.{Act as AnyAct};
 ghost use Rattle.undo_log.specs.declared.faults.UndoFault.TheVariants.{NothingDone, NothingUndone};
 ghost use Rattle.undo_log.specs.States.{State, back, forth, state_of};
-ghost use Rattle.edit_script.specs.Items.{MediaRows};
+ghost use Rattle.media_rows.specs.Rows.{MediaRows};
 ghost use Rattle.edit_script.specs.Acts as acts;
 ghost use Rattle.edit_script.specs.Groups.{group, Back, Forth, OfEdges, OfLists};
 ghost use Rattle.edit_script.specs.Plans.{IsPlanOf, IsRefusalOf};

@@ -7,7 +7,7 @@ use Rattle.otio_model.specs.declared.compositions.ItemOf.{ItemOf}
 use Rattle.otio_model.specs.declared.compositions.Listed.{Listed}
 use Rattle.otio_model.specs.Trees.{is_transition}
 use Rattle.edits.specs.Edges.{first_item, last_item}
-use Rattle.pieces.proofs.Grown.{next, none_left}
+use Rattle.coord.proofs.Members.{next, none_left}
 use Rattle.edit_tests.specs.Neighbours.{IsAfter, IsBefore}
 
 -- ---- before

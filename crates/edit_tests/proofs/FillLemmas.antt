@@ -5,7 +5,6 @@ use Rattle.std.proofs.lemmas.Int.{ints}
 use Rattle.limits.specs.Limits.{most_ticks}
 use Rattle.otio_model.specs.declared.compositions.ItemOf.{ItemOf}
 use Rattle.otio_model.specs.declared.compositions.Listed.{Listed}
-use Rattle.cuts.specs.Finest.{in_range}
 use Rattle.tick_time.specs.declared.rates.Rate.{Rate}
 use Rattle.otio_model.specs.declared.editing.FillMode.{FillMode}
 use Rattle.otio_model.specs.declared.editing.FillMode.TheVariants as M
@@ -18,9 +17,7 @@ use Rattle.pieces.proofs.Tests.{lt_no, lt_yes}
 use Rattle.edit_tests.specs.Filled.{IsFilling, IsMisfit}
 use Rattle.edit_tests.specs.declared.fillings.FillFault.{FillFault}
 use Rattle.edit_tests.specs.declared.fillings.FillFault.TheVariants as F
-
-range_yes : (z : ℤ) → (pos 0 -ℤ pos most_ticks) ≤ℤ z → z ≤ℤ pos most_ticks → in_range z ≡ true
-range_yes z l h = grind (arith, ints)
+use Rattle.pieces.proofs.SameTimes.{range_yes}
 
 -- a start and a length in range aren't far
 pub not_far : (x : ItemOf Listed) (s n : ℤ) → (pos 0 -ℤ pos most_ticks) ≤ℤ s → s ≤ℤ pos most_ticks

@@ -1,9 +1,8 @@
 //! What fills a gap.
 
-ghost use Rattle.std.specs.Prelude.{◌≡◌, ◌%◌, ◌==◌, true, false, pos, ◌≤ℤ◌, ◌<ℤ◌, ◌-ℤ◌, ◌*ℤ◌};
-ghost use Rattle.std.specs.Prelude.{IfErr, IfOk, Some, unsigned_abs};
+ghost use Rattle.std.specs.Prelude.{◌≡◌, ◌==◌, true, false, pos, ◌≤ℤ◌, ◌<ℤ◌, ◌-ℤ◌};
+ghost use Rattle.std.specs.Prelude.{IfErr, IfOk, Some};
 ghost use Rattle.limits.specs.Limits.{most_ticks};
-ghost use Rattle.otio_model.specs.Lengths as lengths;
 ghost use Rattle.cuts.specs.Children as children;
 ghost use Rattle.cuts.specs.Cuts as cuts;
 ghost use Rattle.depths.specs.Editable.{IsEditItem};
@@ -13,11 +12,11 @@ ghost use Rattle.pieces.specs.Short.{IsShort};
 ghost use Rattle.edit_tests.specs.Filled.{IsFilling, IsMisfit};
 ghost use Rattle.edit_tests.specs.Filled as filled;
 
-use crate::fits::{edit_speed, fit_speed, kept_speed};
+use crate::fits::{edit_speed, fit_speed};
 use crate::warping::warped;
-use coord::trimmed_start;
+use coord::item_speed;
 use otio_model::{FillMode, Item};
-use pieces::{RangedFault, ranged, ticks_of};
+use pieces::{RangedFault, is_whole, ranged, start_ticks, ticks_of};
 use std::alloc::{AllocError, Global};
 use tick_time::Rate;
 
@@ -53,30 +52,6 @@ pub fn filling_ticks(mode: FillMode, item: &Item, room: i128) -> i128
     }
 }
 
-/// How far so many ticks go in the media, in millionths of a tick.
-fn media_ticks(ticks: i128, speed: i64) -> i128
-    requires low { pos 0 ≤ℤ ticks }
-    requires high { ticks ≤ℤ pos most_ticks }
-    requires speed_low { (pos 0 -ℤ pos 1000000000) ≤ℤ speed }
-    requires speed_high { speed ≤ℤ pos 1000000000 }
-    ensures value { result ≡ (ticks *ℤ speed) }
-    ensures least { (pos 0 -ℤ pos 1000000000000000000000000000000000) ≤ℤ result }
-    ensures most { result ≤ℤ pos 1000000000000000000000000000000000 }
-{
-    ticks * i128::from(speed)
-}
-
-/// Whether so many ticks are whole ticks of the media.
-fn is_whole(ticks: i128, speed: i64) -> bool
-    requires low { pos 0 ≤ℤ ticks }
-    requires high { ticks ≤ℤ pos most_ticks }
-    requires speed_low { (pos 0 -ℤ pos 1000000000) ≤ℤ speed }
-    requires speed_high { speed ≤ℤ pos 1000000000 }
-    ensures { result ≡ (unsigned_abs (ticks *ℤ speed) % 1000000 == 0) }
-{
-    media_ticks(ticks, speed).unsigned_abs() % 1_000_000 == 0
-}
-
 /// Whether an item can be cut at so many ticks from its start.
 fn is_whole_at(item: &Item, ticks: i128) -> bool
     requires item { IsEditItem item.now }
@@ -103,16 +78,6 @@ fn sized(alloc: Global, item: &Item, start: i128, len: i128, rate: Rate) -> Resu
             RangedFault::Range => unreachable!(),
         },
     }
-}
-
-/// Where the trimmed range of an item starts, in ticks.
-#[tactic(auto, using(pieces::proofs::Faultless::starts_near))]
-fn start_ticks(item: &Item) -> i128
-    ensures value { result ≡ lengths.trimmed_start item.now }
-    ensures low { (pos 0 -ℤ pos most_ticks) ≤ℤ result }
-    ensures high { result ≤ℤ pos most_ticks }
-{
-    trimmed_start(item)
 }
 
 /// The item, or the piece of it that fills a gap where it is longer. [`FillFault::Phase`] comes
@@ -144,7 +109,7 @@ fn cut_to(alloc: Global, item: Item, room: i128, rate: Rate) -> Result<Item, Fil
 fn stands_still(item: &Item) -> bool
     ensures { result ≡ filled.stands_still item.now }
 {
-    match kept_speed(item) {
+    match item_speed(item) {
         Some(speed) => speed == 0,
         None => true,
     }

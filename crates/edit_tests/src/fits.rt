@@ -1,29 +1,14 @@
 //! The speed at which an item fills a gap.
 
-ghost use Rattle.std.specs.Prelude.{◌≡◌, ◌≤◌, ◌<◌, ◌*◌, ℤ, pos, ◌≤ℤ◌, ◌<ℤ◌, IfSome, unsigned_abs};
+ghost use Rattle.std.specs.Prelude.{◌≡◌, ◌≤◌, ◌<◌, ◌*◌, ℤ, pos, ◌≤ℤ◌, ◌<ℤ◌, unsigned_abs};
 ghost use Rattle.limits.specs.Limits.{most_ticks};
 ghost use Rattle.tick_time.specs.Times.{IsSpeed};
-ghost use Rattle.otio_model.specs.Speeds.{kept_speed};
 ghost use Rattle.coord.specs.Speeds as speeds;
 ghost use Rattle.depths.specs.Editable.{IsEditItem};
 ghost use Rattle.edits.specs.Edits as edits;
 
-use otio_model::{Item, ItemOf};
-
-/// The speed that the effects of an item come to, in millionths; `None` exactly where it passes
-/// 1000 times, either way, after one of them.
-pub(crate) fn kept_speed(item: &Item) -> Option<i64>
-    ensures speed { result ≡ kept_speed (pos 1000000) (speeds.effects_of item.now) }
-    ensures range { IfSome result IsSpeed }
-{
-    match item {
-        ItemOf::Clip(clip) => clip.effects.speed(),
-        ItemOf::Gap(gap) => gap.effects.speed(),
-        ItemOf::Transition(_) => Some(1_000_000),
-        ItemOf::Stack(stack) => stack.effects.speed(),
-        ItemOf::Track(track) => track.effects.speed(),
-    }
-}
+use coord::item_speed;
+use otio_model::Item;
 
 /// The speed of an item that may be put into a track, in millionths.
 #[tactic(auto, using(crate::proofs::FitLemmas::edit_speeds))]
@@ -32,7 +17,7 @@ pub(crate) fn edit_speed(item: &Item) -> i64
     ensures value { result ≡ speeds.speed_of item.now }
     ensures range { IsSpeed result }
 {
-    match kept_speed(item) {
+    match item_speed(item) {
         Some(speed) => speed,
         None => unreachable!(),
     }

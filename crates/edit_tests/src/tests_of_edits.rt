@@ -31,7 +31,7 @@ pub fn is_gap(item: &Item) -> bool
 
 /// The fault of the place of an edit: [`EditFault::Place`] where it leads to nothing, and
 /// [`EditFault::NotTrack`] where it leads to something else than a track; the empty place leads to
-/// the root stack.
+/// the root stack. `None` where the place leads to a track.
 #[tactic(auto, using(crate::proofs::Places::places))]
 pub fn place_fault(timeline: &Timeline, place: &Place) -> Option<EditFault>
     ensures { result ≡ refusals.place_fault place.now timeline.now }

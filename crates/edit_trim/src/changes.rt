@@ -17,11 +17,11 @@ ghost use Rattle.edit_clamps.specs.Bounds.{IsMove};
 ghost use Rattle.edit_trim.specs.Changes as changes;
 ghost use Rattle.edit_trim.specs.Changes.{IsChange, Leaves};
 
-use coord::{speed, trimmed_start};
+use coord::speed;
 use edit_clamps::is_zero;
 use edit_tests::is_gap;
 use otio_model::{Item, copy_item};
-use pieces::{RangedFault, new_gap, ranged, sound_ticks};
+use pieces::{RangedFault, new_gap, ranged, sound_ticks, start_ticks};
 use std::alloc::Global;
 use tick_time::Rate;
 
@@ -42,16 +42,6 @@ fn media_ticks(ticks: i128, speed: i64) -> Option<i128>
     ensures none { IfNone result (FitsSigned w128 (ticks *ℤ speed) → ⊥) }
 {
     ticks.checked_mul(i128::from(speed))
-}
-
-/// Where the trimmed range of an item starts, in ticks.
-#[tactic(auto, using(pieces::proofs::Faultless::starts_near))]
-fn start_ticks(item: &Item) -> i128
-    ensures value { result ≡ lengths.trimmed_start item.now }
-    ensures low { (pos 0 -ℤ pos most_ticks) ≤ℤ result }
-    ensures high { result ≤ℤ pos most_ticks }
-{
-    trimmed_start(item)
 }
 
 /// So many millionths of a tick in whole ticks, rounded down.

@@ -23,7 +23,7 @@ ghost use Rattle.edit_trim.specs.Seats.{LeavesAll, zone_of};
 
 use crate::changes::{Change, changed, gap_of};
 use otio_model::{Children, Item, ItemOf, Seat};
-use pieces::{RangedFault, sound_ticks};
+use pieces::{RangedFault, member, sound_ticks};
 use plan_parts::{Middle, ahead, child, kept, touched};
 use std::alloc::{AllocError, Global};
 use tick_time::Rate;
@@ -48,17 +48,6 @@ pub(crate) struct Shape {
 pub(crate) struct Stretch {
     pub from: i128,
     pub to: i128,
-}
-
-/// The item at an index.
-fn member(list: &[Item], index: usize) -> &Item
-    requires { index < length list.now }
-    ensures { slice_get list.now index ≡ Some result.now }
-{
-    match list.get(index) {
-        Some(item) => item,
-        None => unreachable!(),
-    }
 }
 
 /// Whether an item is no transition, so that it takes time.

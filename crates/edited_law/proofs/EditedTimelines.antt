@@ -1,14 +1,12 @@
 -- A writable timeline is writable after an accepted edit.
-use Rattle.std.proofs.Common.{◌≡◌, refl, sym, ap, subst, ◌∙◌, Bool, true, false, ℕ, ◌+◌, ◌≤◌}
-use Rattle.std.proofs.Common.{List, [], ◌∷◌, ◌++◌, Option, Some, None, append-nil, not, ◌&&◌, ◌*ℤ◌}
-use Rattle.std.proofs.Common.{pos, ℤ, drop, length, arith}
-use Rattle.std.specs.Prelude.{IsSomeAnd, int_lt, is_none, option_and_then, slice_get}
+use Rattle.std.proofs.Common.{◌≡◌, refl, sym, ap, subst, ◌∙◌, false, ℕ, ◌+◌, ◌≤◌}
+use Rattle.std.proofs.Common.{List, [], ◌∷◌, ◌++◌, Option, Some, None, append-nil, ◌*ℤ◌}
+use Rattle.std.proofs.Common.{drop, length, arith}
+use Rattle.std.specs.Prelude.{IsSomeAnd, option_and_then, slice_get}
 use Rattle.otio_model.specs.declared.compositions.ItemOf.{ItemOf}
 use Rattle.otio_model.specs.declared.compositions.ItemOf.TheVariants.{Track}
 use Rattle.otio_model.specs.declared.compositions.Listed.{Listed}
 use Rattle.otio_model.specs.declared.editing.Edit.{Edit}
-use Rattle.otio_model.specs.declared.editing.EditFault.{EditFault}
-use Rattle.otio_model.specs.declared.editing.EditFault.TheVariants as F
 use Rattle.otio_model.specs.declared.patches.Patch.{Patch}
 use Rattle.otio_model.specs.declared.timelines.Timeline.{Timeline}
 use Rattle.otio_model.specs.Edits.{IsTrack, list_at, replaced}
@@ -18,11 +16,11 @@ use Rattle.otio_model.specs.Trees.{children_of, item_at, items_of}
 use Rattle.coord.specs.Soundness.{IsSound}
 use Rattle.cuts.specs.Cuts.{olds}
 use Rattle.edits.specs.After.{at_of, frame_of, list_of, place_of, rate_of, with_items}
-use Rattle.edits.specs.Edges.{Held, held_at}
+use Rattle.edits.specs.Edges.{held_at}
 use Rattle.edits.specs.Edits.{edited}
-use Rattle.edits.specs.Refusals.{IsAfter, asks_item, first_fault, has_no_neighbour, is_empty}
-use Rattle.edits.specs.Refusals.{is_filled_item, is_phased, is_wrong_speed, list_fault, pin_fault}
-use Rattle.edits.specs.Refusals.{place_fault, test}
+use Rattle.edits.specs.Refusals.{IsAfter}
+use Rattle.edits.specs.Refusals.{place_fault}
+use Rattle.edits_law.proofs.Accepted.{later, passed}
 use Rattle.depths.specs.Editable.{HasEditItem}
 use Rattle.depths.proofs.AnyDepth.{made}
 use Rattle.depths.proofs.Depth.{leads}
@@ -67,34 +65,6 @@ list_in [] = λ l found h e. let same : l ≡ found = cc e in
 list_in (i ∷ place) = λ l found h e.
     at_index place (items_of l) i found (slice_get (items_of l) i) refl h (list_in place) e
 
--- ---- what the tests leave
-
-rest_of : (b : Bool) (fault : EditFault) (o : Option EditFault) → test b fault o ≡ None
-    → (b ≡ false) × (o ≡ None)
-rest_of true fault o e = absurd (cc e)
-rest_of false fault o e = (refl, e)
-
-later : (o p : Option EditFault) → first_fault o p ≡ None → p ≡ None
-later None p e = e
-later (Some fault) p e = absurd (cc e)
-
--- an edit that fits doesn't pass the greatest speed
-right_speed : (t : Timeline) (e : Edit) (f : ℤ) (l : List (ItemOf Listed)) (h : Option Held)
-    → list_fault t e f l h ≡ None → is_wrong_speed e h ≡ false
-right_speed t e f l h k =
-    let o7 : Option EditFault = test (not (is_phased f e l)) F.Phase (pin_fault t e) in
-    let o6 : Option EditFault = test (is_wrong_speed e h) F.Speed o7 in
-    let o5 : Option EditFault = test (has_no_neighbour e h) F.NoNeighbour o6 in
-    let o4 : Option EditFault = test (is_empty e) F.Empty o5 in
-    let o3 : Option EditFault = test (is_filled_item e h) F.NotGap o4 in
-    let o2 : Option EditFault = test (asks_item e && is_none h) F.NoItem o3 in
-    let a = rest_of (int_lt (at_of e) (pos 0)) F.Negative o2 k in
-    let b = rest_of (asks_item e && is_none h) F.NoItem o3 a.1 in
-    let c = rest_of (is_filled_item e h) F.NotGap o4 b.1 in
-    let d = rest_of (is_empty e) F.Empty o5 c.1 in
-    let g = rest_of (has_no_neighbour e h) F.NoNeighbour o6 d.1 in
-    (rest_of (is_wrong_speed e h) F.Speed o7 g.1).0
-
 -- ---- the new list
 
 past : {A : Type 0} (l : List A) → drop (length l) l ≡ []
@@ -124,9 +94,9 @@ stays_writable t e new s h i v a =
     let old : AreWritable (list_of t e) = subst AreWritable (sym same)
     (each_item (items_of l) (list_in (place_of e) t.tracks.children l
     (stack_items t.tracks h.1) found)) in
-    let w = right_speed t e (frame_of t) (list_of t e)
+    let w = (passed t e (frame_of t) (list_of t e)
     (held_at (list_of t e) (at_of e *ℤ frame_of t))
-    (later (place_fault (place_of e) t) _ a.early) in
+    (later (place_fault (place_of e) t) _ a.early)).speed in
     let items = made_are (rate_of t) (edited (frame_of t) e (list_of t e)) d.items d.are
     (edited_are (frame_of t) e (list_of t e) old v w) in
     let calm : Apart false (olds (list_of t e)) = apart_items (list_of t e)

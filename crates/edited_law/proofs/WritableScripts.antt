@@ -20,7 +20,9 @@ use Rattle.script_text.specs.declared.commands.Command.{Command}
 use Rattle.script_text.specs.declared.commands.Put.{Put}
 use Rattle.script_text.specs.declared.commands.Put.TheVariants as P
 use Rattle.edit_script.specs.Acts.{IsEditOf, Puts}
-use Rattle.edit_script.specs.Items.{MediaRows, clip_with, in_ticks, media_at}
+use Rattle.edit_script.specs.Items.{clip_with, media_at}
+use Rattle.tick_time.specs.Frames.{in_ticks}
+use Rattle.media_rows.specs.Rows.{MediaRows}
 use Rattle.edit_script.specs.Items as put
 use Rattle.edit_script.specs.Runs.{AsksFor, Runs, Takes, edits, undoes, redoes, moved_on}
 use Rattle.script_law.specs.Shown.{opened}

@@ -9,7 +9,7 @@ ghost use Rattle.depths.specs.Editable.{HasEditItem};
 ghost use Rattle.edits.specs.Refusals.{IsAfter};
 ghost use Rattle.undo_log.specs.States.{State};
 ghost use Rattle.script_text.specs.declared.commands.Command.{Command};
-ghost use Rattle.edit_script.specs.Items.{MediaRows};
+ghost use Rattle.media_rows.specs.Rows.{MediaRows};
 ghost use Rattle.edit_script.specs.Runs.{Runs};
 ghost use Rattle.script_law.specs.Shown.{opened};
 ghost use Rattle.schema_rows.specs.Stands.{Stands};

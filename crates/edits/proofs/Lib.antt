@@ -1,1 +1,3 @@
+pub mod NextStarts
 pub mod RecordRates
+pub mod FairItems

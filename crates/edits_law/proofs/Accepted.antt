@@ -15,7 +15,7 @@ use Rattle.edits.specs.Edges.{Held, held_at, held_behind, start, end, added}
 use Rattle.edits.specs.Good.{AreFair, IsPut, IsHeld}
 use Rattle.edits.specs.After.{at_of}
 use Rattle.otio_model.specs.declared.editing.EditFault.TheVariants as F
-use Rattle.edits.specs.Refusals.{test, list_fault, pin_fault, asks_item, has_no_neighbour, is_filled_item, is_empty, is_wrong_speed, is_phased}
+use Rattle.edits.specs.Refusals.{first_fault, test, list_fault, pin_fault, asks_item, has_no_neighbour, is_filled_item, is_empty, is_wrong_speed, is_phased}
 use Rattle.edits_law.proofs.Parted.{added_low, added_strip, lt_yes, le_yes}
 use Rattle.edits_law.proofs.Beside.{strip_append}
 use Rattle.cuts_law.proofs.Sorts.{point, thing, sort, strip_thing}
@@ -84,11 +84,17 @@ rest_of : (b : Bool) (fault : EditFault) (o : Option EditFault) → test b fault
 rest_of true fault o e = absurd (cc e)
 rest_of false fault o e = (refl, e)
 
+-- behind no fault there is none
+pub later : (o p : Option EditFault) → first_fault o p ≡ None → p ≡ None
+later None p e = e
+later (Some fault) p e = absurd (cc e)
+
 -- an edit that passed the tests
 pub record Passed (t : Timeline) (e : Edit) (f : ℤ) (l : List (ItemOf Listed)) (h : Option Held) : Type 0 where
   pub at : int_lt (at_of e) (pos 0) ≡ false
   pub item : (asks_item e && is_none h) ≡ false
   pub neighbour : has_no_neighbour e h ≡ false
+  pub speed : is_wrong_speed e h ≡ false
   pub phase : is_phased f e l ≡ true
 
 pub not_false : (b : Bool) → not b ≡ false → b ≡ true
@@ -111,7 +117,7 @@ passed t e f l h k =
     let g = rest_of (has_no_neighbour e h) F.NoNeighbour o6 d.1 in
     let i = rest_of (is_wrong_speed e h) F.Speed o7 g.1 in
     let j = rest_of (not (is_phased f e l)) F.Phase p i.1 in
-    record { at = a.0; item = b.0; neighbour = g.0; phase = not_false (is_phased f e l) j.0 }
+    record { at = a.0; item = b.0; neighbour = g.0; speed = i.0; phase = not_false (is_phased f e l) j.0 }
 
 -- ---- each edit
 

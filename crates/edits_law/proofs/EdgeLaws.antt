@@ -15,7 +15,8 @@ use Rattle.cuts.specs.Cuts.{strip, olds, is_whole_at}
 use Rattle.edits.specs.Edges.{Held, start, end, Zone, Moves, moved, is_zero, left_before, left_behind, item_zone, rippled}
 use Rattle.edits.specs.Laws.{ripple_law}
 use Rattle.edits.specs.Good.{IsHeld, IsMoved}
-use Rattle.cuts_law.proofs.Splice.{AreClear, item_hit, good_strip, clear_strip, cases}
+use Rattle.coord.proofs.LookSteps.{item_hit}
+use Rattle.cuts_law.proofs.Splice.{AreClear, good_strip, clear_strip, cases}
 use Rattle.cuts_law.proofs.Seams.{seam_before, seam_behind, items_later, items_show}
 use Rattle.cuts_law.proofs.Pieces.{media_sum, whole_rest, strip_looks, looks_append, append_looks, olds_look}
 use Rattle.edits_law.proofs.ListLaws.{good_looks}

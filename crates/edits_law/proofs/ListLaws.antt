@@ -17,7 +17,7 @@ use Rattle.edits.specs.Edges.{Held, start, end}
 use Rattle.edits.specs.Edits.{overwritten, inserted, sliced, removed}
 use Rattle.edits.specs.Laws.{child_at, stripped, overwrite_law, insert_law, remove_law}
 use Rattle.edits.specs.Good.{IsFair, AreFair, IsPut, AllPut}
-use Rattle.cuts_law.proofs.Splice.{item_hit}
+use Rattle.coord.proofs.LookSteps.{item_hit}
 use Rattle.cuts_law.proofs.Seams.{IsReady, ready, spliced_before, spliced_in, spliced_behind}
 use Rattle.cuts_law.proofs.Pieces.{strip_looks, between_looks}
 

@@ -20,11 +20,9 @@ use Rattle.cuts.specs.Finest.{in_range}
 use Rattle.cuts.specs.Nears.{is_whole, near_by, near, span_by, span_of}
 use Rattle.cuts.specs.Children.{Child, Old, Ranged, seen_child, child_looks, with_range, start_rate, length_rate, made, all_made, with_first}
 use Rattle.edits.specs.Steady.{steady_start, is_steady, are_steady, IsBlind, Sees, IsRangedBefore, AreRangedBefore}
+use Rattle.coord.proofs.Members.{same_some}
 
 -- ---- times that are near
-
-same_some : {A : Type 0} (x y : A) → Some x ≡ Some y → x ≡ y
-same_some x y e = cc e
 
 near_ticks : (z : ℤ) (r : Rate) (b : Bool) (e : in_range z ≡ b) (c : Bool) (f : is_whole z r ≡ c) (t : Time) → near_by z r b e c f ≡ Some t → t.ticks ≡ z
 near_ticks z r false e c f t g = absurd (cc g)
@@ -120,7 +118,7 @@ made_look v r (Ranged (Track c) s n) y e b k =
     let m = mapped (Track c) y (span_of (near s (start_rate r (Track c))) (near n (length_rate r (Track c)))) e in let g = ranges s n (start_rate r (Track c)) (length_rate r (Track c)) m.0 m.1 in
     ap (λ z. seen v (sight z)) (sym m.2) ∙ look_of _ _ _ _ _ g.len (λ u. ap (λ z. shows_inside sights (Track c) v (media_at z (speed_of (Track c)) u)) g.start)
 
-first_of_two : {A : Type 0} (o : Option A) (p : Option (List A)) (m : List A) → with_first o p ≡ Some m → (x : A) × (l : List A) × (o ≡ Some x) × (p ≡ Some l) × (m ≡ x ∷ l)
+pub first_of_two : {A : Type 0} (o : Option A) (p : Option (List A)) (m : List A) → with_first o p ≡ Some m → (x : A) × (l : List A) × (o ≡ Some x) × (p ≡ Some l) × (m ≡ x ∷ l)
 first_of_two None p m e = absurd (cc e)
 first_of_two (Some x) None m e = absurd (cc e)
 first_of_two (Some x) (Some l) m e = (x, l, refl, refl, sym (same_some (x ∷ l) m e))

@@ -96,22 +96,24 @@ first_ready f (x ∷ l) g r = elim (sort x) [
   | thing t e ↦ rw t (join (f x) (olds l) (g x r.0 e) (all_olds l))
 ]
 
+-- what is no transition has no overlap
+pub no_overlap_last : (b : Bool) (y : ItemOf Listed) → (b || is_transition y) ≡ false
+    → overlap_of y ≡ None
+no_overlap_last b (Clip c) e = refl
+no_overlap_last b (Gap c) e = refl
+no_overlap_last b (Transition c) e = absurd (never b e)
+  where
+    never : (d : Bool) → (d || true) ≡ false → ⊥
+    never true z = cc z
+    never false z = cc z
+no_overlap_last b (Stack c) e = refl
+no_overlap_last b (Track c) e = refl
+
 last_ready : (f : ItemOf Listed → List Child) (l : List (ItemOf Listed)) → ((x : ItemOf Listed) → IsReady x → overlap_of x ≡ None → AreRangedBefore (f x)) → AreReady l → AreRangedBefore (last_changed f l)
 last_ready f [] g r = tt
 last_ready f (x ∷ l) g r = cases (is_some (last_item l) || is_transition x)
     (λ s. rw s (tt, last_ready f l g r.1))
-    (λ s. rw s (join (f x) (olds l) (g x r.0 (item x s)) (all_olds l)))
-  where
-    item : (y : ItemOf Listed) → (is_some (last_item l) || is_transition y) ≡ false → overlap_of y ≡ None
-    item (Clip c) e = refl
-    item (Gap c) e = refl
-    item (Transition c) e = absurd (never (is_some (last_item l)) e)
-      where
-        never : (b : Bool) → (b || true) ≡ false → ⊥
-        never true z = cc z
-        never false z = cc z
-    item (Stack c) e = refl
-    item (Track c) e = refl
+    (λ s. rw s (join (f x) (olds l) (g x r.0 (no_overlap_last (is_some (last_item l)) x s)) (all_olds l)))
 
 ready_first : (l m : List (ItemOf Listed)) → AreReady (l ++ m) → AreReady l
 ready_first [] m r = tt

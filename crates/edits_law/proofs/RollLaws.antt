@@ -11,7 +11,8 @@ use Rattle.cuts.specs.Cuts.{strip, olds}
 use Rattle.edits.specs.Edges.{Held, start, end, Moves, moved, left_before, left_behind, moves_zone, last_item, first_item, rolled, one, last_changed, first_changed}
 use Rattle.edits.specs.Laws.{item_at, item_or, ticks_or, zoned, roll_law}
 use Rattle.edits.specs.Good.{IsHeld, IsMoved, IsBefore, IsBehind}
-use Rattle.cuts_law.proofs.Splice.{AreClear, below, above, yes}
+use Rattle.coord.proofs.LookSteps.{missed_before, missed_behind, is_within}
+use Rattle.cuts_law.proofs.Splice.{AreClear}
 use Rattle.cuts_law.proofs.Seams.{items_clear}
 use Rattle.cuts_law.proofs.Pieces.{looks_append, append_looks, olds_look}
 use Rattle.edits_law.proofs.Shaped.{longer, shifted, shifted_item, clear_later, clear_first, good_first, total_join}
@@ -164,11 +165,11 @@ roll_shows v l h m w k i b e =
     let f : Facts v l h m (last_changed (λ y. one (moved (pos 0) m.head y)) (left_before h (moves_zone h m))) (first_changed (λ z. one (moved m.tail (pos 0) z)) (left_behind h (moves_zone h m))) (beside_head v (last_item h.before)) (item_or v (first_item h.behind)) =
     facts v l h m _ _ _ _ k i (roll_new_before v l h m k b) (roll_new_behind v l h m k i e) in
     by_lt_z w (moves_zone h m).from
-    (λ s. rw (below (start h) (start h +ℤ m.head) w (omega (arith, ints, clamps)), below (start h +ℤ m.head) (end h +ℤ m.tail) w (omega (arith, ints, clamps)), below (end h +ℤ m.tail) (end h) w (omega (arith, ints, clamps))) (f.before w s))
+    (λ s. rw (missed_before (start h) (start h +ℤ m.head) w (omega (arith, ints, clamps)), missed_before (start h +ℤ m.head) (end h +ℤ m.tail) w (omega (arith, ints, clamps)), missed_before (end h +ℤ m.tail) (end h) w (omega (arith, ints, clamps))) (f.before w s))
     (λ s. by_lt_z w (moves_zone h m).to
     (λ t. by_lt_z w (start h +ℤ m.head)
-    (λ n. rw (yes (start h) (start h +ℤ m.head) w (omega (arith, ints, clamps)) n) (f.head w (omega (arith, ints, clamps)) n ∙ ap (item_or v (last_item h.before)) (omega (arith, ints))))
+    (λ n. rw (is_within (start h) (start h +ℤ m.head) w (omega (arith, ints, clamps)) n) (f.head w (omega (arith, ints, clamps)) n ∙ ap (item_or v (last_item h.before)) (omega (arith, ints))))
     (λ n. by_lt_z w (end h +ℤ m.tail)
-    (λ o. rw (above (start h) (start h +ℤ m.head) w n, yes (start h +ℤ m.head) (end h +ℤ m.tail) w n o) (f.middle w n o))
-    (λ o. rw (above (start h) (start h +ℤ m.head) w n, above (start h +ℤ m.head) (end h +ℤ m.tail) w o, yes (end h +ℤ m.tail) (end h) w o (omega (arith, ints, clamps))) (f.tail w o (omega (arith, ints, clamps))))))
-    (λ t. rw (above (start h) (start h +ℤ m.head) w (omega (arith, ints, clamps)), above (start h +ℤ m.head) (end h +ℤ m.tail) w (omega (arith, ints, clamps)), above (end h +ℤ m.tail) (end h) w (omega (arith, ints, clamps))) (f.behind w t)))
+    (λ o. rw (missed_behind (start h) (start h +ℤ m.head) w n, is_within (start h +ℤ m.head) (end h +ℤ m.tail) w n o) (f.middle w n o))
+    (λ o. rw (missed_behind (start h) (start h +ℤ m.head) w n, missed_behind (start h +ℤ m.head) (end h +ℤ m.tail) w o, is_within (end h +ℤ m.tail) (end h) w o (omega (arith, ints, clamps))) (f.tail w o (omega (arith, ints, clamps))))))
+    (λ t. rw (missed_behind (start h) (start h +ℤ m.head) w (omega (arith, ints, clamps)), missed_behind (start h +ℤ m.head) (end h +ℤ m.tail) w (omega (arith, ints, clamps)), missed_behind (end h +ℤ m.tail) (end h) w (omega (arith, ints, clamps))) (f.behind w t)))

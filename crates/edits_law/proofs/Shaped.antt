@@ -5,7 +5,8 @@ use Rattle.std.proofs.lemmas.Int.{ints, by_lt_z}
 use Rattle.coord.specs.Looks.{Show, Look, item_shows, next_shows, from_end, mix_shows, blank, list_shows, total}
 use Rattle.otio_model.specs.Overlaps.{within}
 use Rattle.cuts.specs.Splices.{AreGood, IsItem}
-use Rattle.cuts_law.proofs.Splice.{kind_of, item, transition, IsLater, AreClear, item_past, item_hit, mix_item, mix_miss, mix_step, side_item, side_transition, above, below, shows_same, quiet, not_held}
+use Rattle.coord.proofs.LookSteps.{look_kind, item, transition, item_past, item_hit, mix_item, mix_miss, side_item, missed_behind, missed_before}
+use Rattle.cuts_law.proofs.Splice.{IsLater, AreClear, mix_step, side_transition, shows_same, quiet, not_held}
 use Rattle.cuts_law.proofs.Seams.{total_low}
 
 -- ---- what keeps clear of a zone
@@ -60,10 +61,10 @@ total_join (x ∷ l) r = let e = total_join l r in omega (arith, ints)
 -- no overlap holds an instant of the zone
 pub clear_within : (p : ℤ → Show) (l : List Look) (a b w : ℤ) → AreGood l → AreClear a b l → a ≤ℤ w → w <ℤ b → mix_shows p l w ≡ None
 clear_within p [] a b w g k h m = refl
-clear_within p (x ∷ l) a b w g k h m = let good = g.0 in let len = good.whole in elim (kind_of x) [
+clear_within p (x ∷ l) a b w g k h m = let good = g.0 in let len = good.whole in elim (look_kind x) [
   | item e ↦ mix_item p x l w e ∙ clear_within (from_end x) l (a -ℤ x.length) (b -ℤ x.length) (w -ℤ x.length) g.1 k.1 (omega (arith, ints)) (omega (arith, ints))
   | transition o e ↦ let zero_length = good.point o e in
-      mix_miss p x o l w e (elim (k.0.side o e) [ inl f ↦ above _ _ w (omega (arith, ints, f.1)) | inr f ↦ below _ _ w (omega (arith, ints, f.1)) ])
+      mix_miss p x o l w e (elim (k.0.side o e) [ inl f ↦ missed_behind _ _ w (omega (arith, ints, f.1)) | inr f ↦ missed_before _ _ w (omega (arith, ints, f.1)) ])
       ∙ clear_within p l (a -ℤ x.length) (b -ℤ x.length) w g.1 k.1 (omega (arith, ints)) (omega (arith, ints))
 ]
 
@@ -80,7 +81,7 @@ later_clear l a b g k h m = record {
   where
     side : (r : List Look) → AreGood r → AreClear a b r → (p q : ℤ → Show) (v : ℤ) → mix_shows p r v ≡ mix_shows q r v
     side [] u c p q v = refl
-    side (x ∷ r) u c p q v = elim (kind_of x) [
+    side (x ∷ r) u c p q v = elim (look_kind x) [
       | item e ↦ mix_item p x r v e ∙ sym (mix_item q x r v e)
       | transition o e ↦ elim (c.0.side o e) [ inl f ↦ absurd (omega (arith, ints, f.0)) | inr f ↦ absurd (omega (arith, ints, f.0)) ]
     ]
@@ -89,7 +90,7 @@ later_clear l a b g k h m = record {
 
 next_to : (l : List Look) (y z : Look) (r s : List Look) (w : ℤ) → y.overlap ≡ None → z.overlap ≡ None → ((u : ℤ) → y.shows u ≡ z.shows u) → next_shows (l ++ (y ∷ r)) w ≡ next_shows (l ++ (z ∷ s)) w
 next_to [] y z r s w e f same = side_item y r w e ∙ same w ∙ sym (side_item z s w f)
-next_to (x ∷ l) y z r s w e f same = elim (kind_of x) [
+next_to (x ∷ l) y z r s w e f same = elim (look_kind x) [
   | item k ↦ side_item x (l ++ (y ∷ r)) w k ∙ sym (side_item x (l ++ (z ∷ s)) w k)
   | transition o k ↦ side_transition x o (l ++ (y ∷ r)) w k ∙ next_to l y z r s w e f same ∙ sym (side_transition x o (l ++ (z ∷ s)) w k)
 ]
@@ -99,7 +100,7 @@ mix_to : (p : ℤ → Show) (l : List Look) (y z : Look) (r s : List Look) (w : 
 mix_to p [] y z r s w g e f same a b h k =
     mix_item p y r w e ∙ a.no_mix (from_end y) (w -ℤ y.length) (omega (arith, ints))
     ∙ sym (mix_item p z s w f ∙ b.no_mix (from_end z) (w -ℤ z.length) (omega (arith, ints)))
-mix_to p (x ∷ l) y z r s w g e f same a b h k = let good = g.0 in elim (kind_of x) [
+mix_to p (x ∷ l) y z r s w g e f same a b h k = let good = g.0 in elim (look_kind x) [
   | item m ↦ mix_item p x (l ++ (y ∷ r)) w m ∙ mix_to (from_end x) l y z r s (w -ℤ x.length) g.1 e f same a b (omega (arith, ints)) (omega (arith, ints)) ∙ sym (mix_item p x (l ++ (z ∷ s)) w m)
   | transition o m ↦ let zero_length = good.point o m in
       mix_step p x o (l ++ (y ∷ r)) (l ++ (z ∷ s)) w m (next_to l y z r s w e f same) (mix_to p l y z r s w g.1 e f same a b (omega (arith, ints)) (omega (arith, ints)))
@@ -108,7 +109,7 @@ mix_to p (x ∷ l) y z r s w g e f same a b h k = let good = g.0 in elim (kind_o
 item_to : (l : List Look) (y z : Look) (r s : List Look) (w : ℤ) → ((u : ℤ) → y.shows u ≡ z.shows u) → pos 0 ≤ℤ y.length → pos 0 ≤ℤ z.length → IsLater r → IsLater s → w <ℤ (total l +ℤ y.length) → w <ℤ (total l +ℤ z.length)
     → item_shows (l ++ (y ∷ r)) w ≡ item_shows (l ++ (z ∷ s)) w
 item_to [] y z r s w same m n a b h k = by_lt_z w (pos 0)
-    (λ t. rw (below (pos 0) y.length w t, below (pos 0) z.length w t) (a.no_item (w -ℤ y.length) (omega (arith, ints)) ∙ sym (b.no_item (w -ℤ z.length) (omega (arith, ints)))))
+    (λ t. rw (missed_before (pos 0) y.length w t, missed_before (pos 0) z.length w t) (a.no_item (w -ℤ y.length) (omega (arith, ints)) ∙ sym (b.no_item (w -ℤ z.length) (omega (arith, ints)))))
     (λ t. item_hit y r w t (omega (arith, ints)) ∙ same w ∙ sym (item_hit z s w t (omega (arith, ints))))
 item_to (x ∷ l) y z r s w same m n a b h k = ap (cond (within (pos 0) x.length w) (x.shows w)) (item_to l y z r s (w -ℤ x.length) same m n a b (omega (arith, ints)) (omega (arith, ints)))
 

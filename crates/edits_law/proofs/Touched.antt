@@ -13,7 +13,7 @@ use Rattle.edits.specs.Narrow.{is_met, any_met, ahead, onward, up_to_met, past_m
 use Rattle.edits_law.proofs.Parted.{IsApart, le_yes}
 use Rattle.cuts_law.proofs.Splice.{cases}
 
-or_false : (a b : Bool) → (a || b) ≡ false → (a ≡ false) × (b ≡ false)
+pub or_false : (a b : Bool) → (a || b) ≡ false → (a ≡ false) × (b ≡ false)
 or_false true b e = absurd (cc e)
 or_false false b e = (refl, e)
 

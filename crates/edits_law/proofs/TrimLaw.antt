@@ -16,7 +16,8 @@ use Rattle.cuts.specs.Cuts.{olds}
 use Rattle.edits.specs.Edges.{Held, start, end, Moves, left_before, left_behind, moves_zone, last_item, first_item, trimmed, trimmed_before, trimmed_behind, grown, gap_of, gap_ticks, is_gap, is_zero, last_changed, first_changed}
 use Rattle.edits.specs.Laws.{trim_law}
 use Rattle.edits.specs.Good.{IsHeld, IsMoved, IsTrimmedBefore, IsTrimmedBehind}
-use Rattle.cuts_law.proofs.Splice.{AreClear, below, above, yes, cases}
+use Rattle.coord.proofs.LookSteps.{missed_before, missed_behind, is_within}
+use Rattle.cuts_law.proofs.Splice.{AreClear, cases}
 use Rattle.cuts_law.proofs.Seams.{items_clear}
 use Rattle.cuts_law.proofs.Pieces.{looks_append, append_looks, olds_look}
 use Rattle.edits_law.proofs.Shaped.{longer, shifted, clear_earlier, clear_later, clear_first, good_first, total_join, later_clear}
@@ -284,11 +285,11 @@ trim_shows v l h m w k i b e =
     let left = i.left in
     let f : Facts v l h m (trimmed_before h m) (trimmed_behind h m) blank blank = facts v l h m _ _ _ _ k i (trim_new_before v l h m k b) (trim_new_behind v l h m k i e) in
     by_lt_z w (moves_zone h m).from
-    (λ s. rw (below (start h +ℤ m.head) (end h +ℤ m.tail) w (omega (arith, ints, clamps)), below (start h) (start h +ℤ m.head) w (omega (arith, ints, clamps)), below (end h +ℤ m.tail) (end h) w (omega (arith, ints, clamps))) (f.before w s))
+    (λ s. rw (missed_before (start h +ℤ m.head) (end h +ℤ m.tail) w (omega (arith, ints, clamps)), missed_before (start h) (start h +ℤ m.head) w (omega (arith, ints, clamps)), missed_before (end h +ℤ m.tail) (end h) w (omega (arith, ints, clamps))) (f.before w s))
     (λ s. by_lt_z w (moves_zone h m).to
     (λ t. by_lt_z w (start h +ℤ m.head)
-    (λ n. rw (below (start h +ℤ m.head) (end h +ℤ m.tail) w n, yes (start h) (start h +ℤ m.head) w (omega (arith, ints, clamps)) n) (f.head w (omega (arith, ints, clamps)) n))
+    (λ n. rw (missed_before (start h +ℤ m.head) (end h +ℤ m.tail) w n, is_within (start h) (start h +ℤ m.head) w (omega (arith, ints, clamps)) n) (f.head w (omega (arith, ints, clamps)) n))
     (λ n. by_lt_z w (end h +ℤ m.tail)
-    (λ o. rw (yes (start h +ℤ m.head) (end h +ℤ m.tail) w n o) (f.middle w n o))
-    (λ o. rw (above (start h +ℤ m.head) (end h +ℤ m.tail) w o, yes (end h +ℤ m.tail) (end h) w o (omega (arith, ints, clamps)), always (within (start h) (start h +ℤ m.head) w)) (f.tail w o (omega (arith, ints, clamps))))))
-    (λ t. rw (above (start h +ℤ m.head) (end h +ℤ m.tail) w (omega (arith, ints, clamps)), above (start h) (start h +ℤ m.head) w (omega (arith, ints, clamps)), above (end h +ℤ m.tail) (end h) w (omega (arith, ints, clamps))) (f.behind w t)))
+    (λ o. rw (is_within (start h +ℤ m.head) (end h +ℤ m.tail) w n o) (f.middle w n o))
+    (λ o. rw (missed_behind (start h +ℤ m.head) (end h +ℤ m.tail) w o, is_within (end h +ℤ m.tail) (end h) w o (omega (arith, ints, clamps)), always (within (start h) (start h +ℤ m.head) w)) (f.tail w o (omega (arith, ints, clamps))))))
+    (λ t. rw (missed_behind (start h +ℤ m.head) (end h +ℤ m.tail) w (omega (arith, ints, clamps)), missed_behind (start h) (start h +ℤ m.head) w (omega (arith, ints, clamps)), missed_behind (end h +ℤ m.tail) (end h) w (omega (arith, ints, clamps))) (f.behind w t)))

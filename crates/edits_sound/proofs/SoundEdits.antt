@@ -1,8 +1,8 @@
 -- The timeline after an accepted edit of a sound one is sound.
-use Rattle.std.proofs.Common.{◌≡◌, refl, sym, ap, subst, ◌∙◌, Bool, true, false, ℕ, zero, suc, List}
-use Rattle.std.proofs.Common.{[], ◌∷◌, ◌++◌, Option, Some, None, append-nil, ◌&&◌, inr, not, ℤ}
-use Rattle.std.proofs.Common.{◌*ℤ◌, pos}
-use Rattle.std.specs.Prelude.{is_none, int_lt, option_and_then, slice_get}
+use Rattle.std.proofs.Common.{◌≡◌, refl, sym, ap, subst, ◌∙◌, false, ℕ, zero, suc, List}
+use Rattle.std.proofs.Common.{[], ◌∷◌, ◌++◌, Option, Some, None, append-nil, inr}
+use Rattle.std.proofs.Common.{◌*ℤ◌}
+use Rattle.std.specs.Prelude.{option_and_then, slice_get}
 use Rattle.std.specs.List.{list_any}
 use Rattle.otio_model.specs.declared.compositions.TrackOf.{TrackOf}
 use Rattle.otio_model.specs.declared.compositions.ItemOf.{ItemOf}
@@ -10,8 +10,6 @@ use Rattle.otio_model.specs.declared.compositions.ItemOf.TheVariants.{Track}
 use Rattle.otio_model.specs.declared.compositions.Listed.{Listed}
 use Rattle.otio_model.specs.declared.timelines.Timeline.{Timeline}
 use Rattle.otio_model.specs.declared.editing.Edit.{Edit}
-use Rattle.otio_model.specs.declared.editing.EditFault.{EditFault}
-use Rattle.otio_model.specs.declared.editing.EditFault.TheVariants as F
 use Rattle.otio_model.specs.Edits.{deeper, list_at, with_at}
 use Rattle.otio_model.specs.Misplaced.{has_misplaced, side_by_side}
 use Rattle.otio_model.specs.Trees.{below, is_transition, item_at, items_of, listed}
@@ -22,13 +20,12 @@ use Rattle.coord.specs.Soundness.{IsSound, fault_of}
 use Rattle.cuts.specs.Children.{Child, all_made}
 use Rattle.cuts.specs.Cuts.{olds}
 use Rattle.edits.specs.After.{at_of, frame_of, list_of, place_of, rate_of}
-use Rattle.edits.specs.Edges.{Held, held_at}
+use Rattle.edits.specs.Edges.{held_at}
 use Rattle.edits.specs.Edits.{edited}
 use Rattle.edits.specs.Everywhere.{Everywhere, OnTheWay}
-use Rattle.edits.specs.Refusals.{HasLong, IsAfter, asks_item, early_fault, first_fault}
-use Rattle.edits.specs.Refusals.{has_no_neighbour, is_empty, is_filled_item, is_phased}
-use Rattle.edits.specs.Refusals.{is_wrong_speed}
-use Rattle.edits.specs.Refusals.{list_fault, pin_fault, place_fault, test}
+use Rattle.edits.specs.Refusals.{HasLong, IsAfter, early_fault}
+use Rattle.edits.specs.Refusals.{place_fault}
+use Rattle.edits_law.proofs.Accepted.{later, passed}
 use Rattle.edits_law.proofs.Anywhere.{everywhere}
 use Rattle.depths.specs.Editable.{HasEditItem}
 use Rattle.depths.proofs.AnyDepth.{made}
@@ -43,35 +40,6 @@ use Rattle.edits_sound.proofs.MadeParts.{made_apart, made_none, made_parts, same
 use Rattle.edits_sound.proofs.OnWay.{HaveLengths, any_changed, deeper_clean, on_way, way_calm}
 use Rattle.edits_sound.proofs.OnWay.{way_length}
 use Rattle.edits_sound.proofs.Places.{below_at, children_at}
-
--- ---- what the tests leave
-
-rest_of : (b : Bool) (fault : EditFault) (o : Option EditFault) → test b fault o ≡ None
-    → (b ≡ false) × (o ≡ None)
-rest_of true fault o e = absurd (cc e)
-rest_of false fault o e = (refl, e)
-
-later : (o p : Option EditFault) → first_fault o p ≡ None → p ≡ None
-later None p e = e
-later (Some fault) p e = absurd (cc e)
-
--- an edit that fits doesn't pass the greatest speed
-right_speed : (t : Timeline) (e : Edit) (f : ℤ) (l : List (ItemOf Listed)) (h : Option Held)
-    → list_fault t e f l h ≡ None → is_wrong_speed e h ≡ false
-right_speed t e f l h k =
-    let o7 : Option EditFault = test (not (is_phased f e l)) F.Phase (pin_fault t e) in
-    let o6 : Option EditFault = test (is_wrong_speed e h) F.Speed o7 in
-    let o5 : Option EditFault = test (has_no_neighbour e h) F.NoNeighbour o6 in
-    let o4 : Option EditFault = test (is_empty e) F.Empty o5 in
-    let o3 : Option EditFault = test (is_filled_item e h) F.NotGap o4 in
-    let o2 : Option EditFault = test (asks_item e && is_none h) F.NoItem o3 in
-    let a = rest_of (int_lt (at_of e) (pos 0)) F.Negative o2 k in
-    let b = rest_of (asks_item e && is_none h) F.NoItem o3 a.1 in
-    let c = rest_of (is_filled_item e h) F.NotGap o4 b.1 in
-    let d = rest_of (is_empty e) F.Empty o5 c.1 in
-    let g = rest_of (has_no_neighbour e h) F.NoNeighbour o6 d.1 in
-    let i = rest_of (is_wrong_speed e h) F.Speed o7 g.1 in
-    i.0
 
 -- ---- the old timeline
 
@@ -126,9 +94,9 @@ new_clean : (t : Timeline) (e : Edit) (m : List (ItemOf Listed)) → IsSound t �
     → early_fault t e ≡ None → all_made (rate_of t) (edited (frame_of t) e (list_of t e)) ≡ Some m
     → AreClean m
 new_clean t e m s i f k =
-    let w = right_speed t e (frame_of t) (list_of t e)
+    let w = (passed t e (frame_of t) (list_of t e)
     (held_at (list_of t e) (at_of e *ℤ frame_of t))
-    (later (place_fault (place_of e) t) _ f) in
+    (later (place_fault (place_of e) t) _ f)).speed in
     made_clean t (edited (frame_of t) e (list_of t e)) m k
     (edited_clean (frame_of t) e (list_of t e) (clean_children t e s) i w)
 

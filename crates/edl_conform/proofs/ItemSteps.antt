@@ -9,7 +9,8 @@ use Rattle.otio_model.specs.declared.compositions.Listed.{Listed}
 use Rattle.edl_list.specs.declared.list.Channel.{Channel}
 use Rattle.edl_list.specs.declared.list.Event.{Event}
 use Rattle.edl_list.specs.declared.list.EventList.{EventList}
-use Rattle.edl_frames.specs.Shown.{MediaRows, is_on, on_channel}
+use Rattle.edl_frames.specs.Shown.{is_on, on_channel}
+use Rattle.media_rows.specs.Rows.{MediaRows}
 use Rattle.edl_frames.specs.Conformed.{external, Pair, pair_of, IsGap, IsItem, IsItemOf, IsTransition, IsTrackOf, serves, has_track}
 use Rattle.edl_frames.specs.Conformed.{AreItems, end, gap, cut, pair, pair_with_side, AreTracks, none, used, unused}
 use Rattle.edl_conform.specs.Fits.{AreAhead}

@@ -18,7 +18,8 @@ use Rattle.edl_frames.specs.declared.faults.ConformFault.{ConformFault}
 use Rattle.edl_frames.specs.declared.faults.ConformFault.TheVariants as F
 use Rattle.edl_frames.specs.Faults.{IsConformFault}
 use Rattle.media_rows.specs.declared.row.MediaRow.{MediaRow}
-use Rattle.edl_frames.specs.Shown.{MediaRows, is_on, on_channel, source_frame}
+use Rattle.edl_frames.specs.Shown.{is_on, on_channel, source_frame}
+use Rattle.media_rows.specs.Rows.{MediaRows}
 use Rattle.edl_frames.specs.Conformed.{AreItems}
 use Rattle.edl_frames.specs.Refused.{Use, use_of, outgoing_use, event_fault, first_fault}
 use Rattle.edl_frames.specs.Refused.{has_other_rate, if_listed, is_outside, is_row_outside, is_same_rate, is_unlisted, reel_row, uses_of}

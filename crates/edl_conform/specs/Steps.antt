@@ -10,7 +10,8 @@ use Rattle.edl_list.specs.declared.list.Channel.{Channel}
 use Rattle.edl_list.specs.declared.list.Event.{Event}
 use Rattle.edl_list.specs.declared.list.EventList.{EventList}
 use Rattle.edl_frames.specs.Counted.{channel_count}
-use Rattle.edl_frames.specs.Shown.{MediaRows, on_channel}
+use Rattle.edl_frames.specs.Shown.{on_channel}
+use Rattle.media_rows.specs.Rows.{MediaRows}
 use Rattle.edl_frames.specs.Conformed.{Pair, IsGap, IsItem, IsTransition, serves, AreItems, AreTracks}
 use Rattle.edl_conform.specs.Fits.{AreAhead}
 

@@ -4,7 +4,7 @@ use Rattle.std.specs.List.{list_any}
 use Rattle.tick_time.specs.declared.rates.Rate.{Rate}
 use Rattle.edl_frames.specs.declared.faults.ConformFault.{ConformFault}
 use Rattle.edl_frames.specs.declared.faults.ConformFault.TheVariants as F
-use Rattle.edl_frames.specs.Shown.{MediaRows}
+use Rattle.media_rows.specs.Rows.{MediaRows}
 use Rattle.edl_frames.specs.Refused.{Use, is_unlisted, has_other_rate, is_outside}
 
 -- the first reason that holds, for an event at a line

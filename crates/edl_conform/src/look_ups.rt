@@ -2,8 +2,8 @@
 
 ghost use Rattle.std.specs.Prelude.{◌≡◌, IfSome};
 ghost use Rattle.std.specs.Option.{option_copied};
+ghost use Rattle.media_rows.specs.Rows as rows;
 ghost use Rattle.media_rows.specs.Rows.{IsRowInRange};
-ghost use Rattle.edl_frames.specs.Shown as shown;
 ghost use Rattle.edl_frames.specs.Refused as refused;
 
 use edl_list::Reel;
@@ -13,7 +13,7 @@ use sequences::Text;
 
 /// The row of a reel, where there is a media list that lists it.
 pub(crate) fn row_of<'a>(media: Option<&'a MediaList>, reel: &Text) -> Option<&'a MediaRow>
-    ensures row { option_copied result ≡ shown.row_of (option_copied media.entry) reel.now }
+    ensures row { option_copied result ≡ rows.row_of (option_copied media.entry) reel.now }
     ensures range { IfSome result (λ row. IsRowInRange row.now) }
 {
     match media {

@@ -1,7 +1,7 @@
 //! The first event that a media list doesn't hold.
 
 ghost use Rattle.std.specs.Prelude.{◌≡◌, ◌≤◌, ◌≤ℤ◌, ◌<ℤ◌, ◌-ℤ◌, ◌+ℤ◌, ◌*ℤ◌, ◌||◌, [], ◌∷◌};
-ghost use Rattle.std.specs.Prelude.{ℤ, pos, false, not, All, int_lt, int_le};
+ghost use Rattle.std.specs.Prelude.{ℤ, pos, false, not, All};
 ghost use Rattle.std.specs.Int.{int_div_euclid};
 ghost use Rattle.std.specs.Option.{option_copied};
 ghost use Rattle.edl_list.specs.Laws.{IsTimed};
@@ -17,7 +17,7 @@ ghost use Rattle.edl_conform.specs.Uses.{uses_fault};
 use crate::look_ups::reel_row;
 use crate::outgoing::product;
 use crate::speeds::speed_of;
-use edl_frames::ConformFault;
+use edl_frames::{ConformFault, is_row_outside};
 use edl_list::{Cross, Event, Reel, Side};
 use media_list::MediaList;
 use media_rows::MediaRow;
@@ -92,36 +92,6 @@ fn source_frame(rate: Rate, side: &Side, k: i64) -> i128
     ensures { result ≡ shown.source_frame rate side.now k }
 {
     behind(side.src_in, advance(k, speed_of(rate, side)))
-}
-
-/// Whether a frame lies before another one.
-fn is_before(a: i128, b: i64) -> bool
-    ensures { result ≡ int_lt a b }
-{
-    a < i128::from(b)
-}
-
-/// Whether a frame lies behind so many frames from one on.
-fn is_past(start: i64, count: i64, frame: i128) -> bool
-    ensures { result ≡ int_le (start +ℤ count) frame }
-{
-    i128::from(start) + i128::from(count) <= frame
-}
-
-fn any_of(a: bool, b: bool) -> bool
-    ensures { result ≡ (a || b) }
-{
-    a || b
-}
-
-/// Whether the first frame lies before the media, or the last one behind them.
-fn is_row_outside(row: &MediaRow, first: i128, last: i128) -> bool
-    ensures { result ≡ refused.is_row_outside first last row.now }
-{
-    any_of(
-        is_before(first, row.start),
-        is_past(row.start, row.count, last),
-    )
 }
 
 /// The last of so many frames.

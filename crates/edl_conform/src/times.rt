@@ -3,7 +3,8 @@
 ghost use Rattle.std.specs.Prelude.{◌≤ℤ◌, ◌*ℤ◌, pos};
 ghost use Rattle.tick_time.specs.Rates.{frame};
 ghost use Rattle.tick_time.specs.Times.{IsInRange};
-ghost use Rattle.edl_frames.specs.Conformed.{IsFrames, IsSpanOf};
+ghost use Rattle.edl_frames.specs.Conformed.{IsSpanOf};
+ghost use Rattle.tick_time.specs.Frames.{IsFrames};
 
 use tick_time::{Rate, Span, Time};
 

@@ -18,7 +18,8 @@ use Rattle.coord.specs.Programs.{record_rate}
 use Rattle.edl_frames.specs.declared.reasons.Why.TheVariants as W
 use Rattle.edl_frames.specs.declared.reasons.NotCarried.{NotCarried}
 use Rattle.edl_frames.specs.declared.reasons.NotCarried.TheVariants.{At, Memory}
-use Rattle.edl_frames.specs.Shown.{MediaRows, on_channel}
+use Rattle.edl_frames.specs.Shown.{on_channel}
+use Rattle.media_rows.specs.Rows.{MediaRows}
 use Rattle.edl_frames.specs.Channels.{channel_track}
 use Rattle.edl_frames.specs.Jobs.{Job, job_of, mode_in}
 use Rattle.edl_frames.specs.Seats.{is_there}

@@ -13,7 +13,7 @@ use Rattle.edl_list.specs.declared.list.Channel.{Channel}
 use Rattle.edl_list.specs.declared.list.Event.{Event}
 use Rattle.coord.specs.Programs.{record_rate}
 use Rattle.coord.specs.Sights.{overlap_of}
-use Rattle.edl_frames.specs.Shown.{MediaRows}
+use Rattle.media_rows.specs.Rows.{MediaRows}
 use Rattle.edl_frames.specs.Jobs.{mode_in}
 use Rattle.edl_frames.specs.Seats.{length_in, past_by, is_there}
 use Rattle.edl_frames.specs.ChildEvents.{event_of}

@@ -14,7 +14,8 @@ use Rattle.edl_list.specs.declared.list.EventList.{EventList}
 use Rattle.edl_list.specs.Formed.{AreInOrder}
 use Rattle.coord.specs.Keys.{frame_rate}
 use Rattle.coord.specs.Programs.{record_rate}
-use Rattle.edl_frames.specs.Shown.{MediaRows, on_channel}
+use Rattle.edl_frames.specs.Shown.{on_channel}
+use Rattle.media_rows.specs.Rows.{MediaRows}
 use Rattle.edl_frames.specs.Channels.{channel_track}
 use Rattle.edl_list.specs.Layouts.{most_events}
 use Rattle.edl_frames.specs.declared.reasons.Why.{Why}

@@ -6,7 +6,7 @@ use Rattle.std.specs.Str.{bytes_eq}
 use Rattle.tick_time.specs.declared.rates.Rate.{Rate}
 use Rattle.tick_time.specs.declared.spans.Span.{Span}
 use Rattle.tick_time.specs.declared.times.Time.{Time}
-use Rattle.tick_time.specs.Rates.{frame}
+use Rattle.tick_time.specs.Frames.{IsFrames}
 use Rattle.json_value.specs.declared.Json.{Json, out-Json}
 use Rattle.json_value.specs.declared.Json.TheOpen.{Json-F}
 use Rattle.otio_model.specs.declared.sources.Media.{Media}
@@ -33,14 +33,10 @@ use Rattle.edl_list.specs.declared.list.Cross.TheVariants.{Cut, Dissolve, Wipe}
 use Rattle.edl_list.specs.declared.list.Event.{Event}
 use Rattle.edl_list.specs.Speeds.{side_speed}
 use Rattle.media_rows.specs.declared.row.MediaRow.{MediaRow}
-use Rattle.edl_frames.specs.Shown.{MediaRows, row_of, on_channel}
+use Rattle.edl_frames.specs.Shown.{on_channel}
+use Rattle.media_rows.specs.Rows.{MediaRows, row_of}
 
 -- ---- times
-
--- the time is so many frames of the rate
-pub record IsFrames (rate : Rate) (n : ℤ) (t : Time) : Type 0 where
-  pub ticks : t.ticks ≡ n *ℤ pos (frame rate.num rate.den)
-  pub kept : t.rate ≡ rate
 
 -- the span is so many frames of the rate, from one on
 pub record IsSpanOf (rate : Rate) (start count : ℤ) (s : Span) : Type 0 where

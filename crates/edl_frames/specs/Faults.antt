@@ -4,7 +4,7 @@ use Rattle.limits.specs.Limits.{most_items}
 use Rattle.edl_list.specs.declared.list.EventList.{EventList}
 use Rattle.edl_frames.specs.declared.faults.ConformFault.{ConformFault}
 use Rattle.edl_frames.specs.declared.faults.ConformFault.TheVariants.{NoReel, Rate, Outside, Items, Memory}
-use Rattle.edl_frames.specs.Shown.{MediaRows}
+use Rattle.media_rows.specs.Rows.{MediaRows}
 use Rattle.edl_frames.specs.Refused.{first_fault, IsAccepted}
 use Rattle.edl_frames.specs.Counted.{item_count}
 

@@ -9,7 +9,7 @@ use Rattle.smpte_tc.specs.declared.modes.Mode.{Mode}
 use Rattle.edl_list.specs.Speeds.{half_even}
 use Rattle.coord.specs.Looks.{FrameRate}
 use Rattle.coord.specs.Programs.{record_rate, start_frame, frame_ticks}
-use Rattle.edl_frames.specs.Shown.{MediaRows}
+use Rattle.media_rows.specs.Rows.{MediaRows}
 use Rattle.std.specs.Ordering.{int_eq}
 use Rattle.edl_list.specs.declared.layout.Layout.{Layout}
 use Rattle.edl_list.specs.Layouts.{layout_of}

@@ -11,10 +11,10 @@ use Rattle.edl_list.specs.declared.list.Cross.TheVariants.{Cut, Dissolve, Wipe}
 use Rattle.edl_list.specs.declared.list.Event.{Event}
 use Rattle.edl_list.specs.declared.list.EventList.{EventList}
 use Rattle.media_rows.specs.declared.row.MediaRow.{MediaRow}
-use Rattle.media_rows.specs.Rows.{by_reel}
+use Rattle.media_rows.specs.Rows.{by_reel, MediaRows, row_of}
 use Rattle.edl_frames.specs.declared.faults.ConformFault.{ConformFault}
 use Rattle.edl_frames.specs.declared.faults.ConformFault.TheVariants as F
-use Rattle.edl_frames.specs.Shown.{MediaRows, row_of, source_frame}
+use Rattle.edl_frames.specs.Shown.{source_frame}
 
 -- a side, and in how many frames of the record it is shown
 pub record Use : Type 0 where

@@ -14,7 +14,7 @@ use Rattle.edl_list.specs.declared.list.EventList.{EventList}
 use Rattle.edl_list.specs.Formed.{rank}
 use Rattle.edl_list.specs.Speeds.{side_speed}
 use Rattle.media_rows.specs.declared.row.MediaRow.{MediaRow}
-use Rattle.media_rows.specs.Rows.{by_reel}
+use Rattle.media_rows.specs.Rows.{MediaRows, row_of}
 use Rattle.coord.specs.Looks.{Key, Url, Reel as ReelKey, weight}
 use Rattle.coord.specs.Images.{Image, Empty, Single, Mixture, Kind, Dissolve as IsDissolve, Wipe as IsWipe, is_empty}
 
@@ -23,15 +23,6 @@ use Rattle.coord.specs.Images.{Image, Empty, Single, Mixture, Kind, Dissolve as 
 abbrev pub mix_of : Kind → Image → Image → ℤ → ℤ → Image
 mix_of kind from to part whole = cond (is_empty from && is_empty to) Empty
     (Mixture kind from to (weight (unsigned_abs part) (unsigned_abs whole)))
-
--- the rows of a media list, where there is one
-abbrev pub MediaRows : Type 0
-MediaRows = Option (List MediaRow)
-
--- the row of a reel
-abbrev pub row_of : MediaRows → List ℕ → Option MediaRow
-row_of None reel = None
-row_of (Some rows) reel = by_reel reel rows
 
 -- the URL that is listed of a reel, else the reel itself
 abbrev pub url_or_reel : Option MediaRow → List ℕ → Key

@@ -12,11 +12,10 @@ use Rattle.edl_list.specs.declared.list.Side.{Side}
 use Rattle.edl_list.specs.declared.list.Cross.{Cross}
 use Rattle.edl_list.specs.declared.list.Cross.TheVariants.{Cut, Dissolve, Wipe}
 use Rattle.media_rows.specs.declared.row.MediaRow.{MediaRow}
-use Rattle.media_rows.specs.Rows.{by_url}
+use Rattle.media_rows.specs.Rows.{by_url, MediaRows}
 use Rattle.coord.specs.Keys.{reel_of}
 use Rattle.coord.specs.Speeds.{speed_of, media_at}
 use Rattle.coord.specs.Images.{Kind, Dissolve as IsDissolve, Wipe as IsWipe, Other, kind_of}
-use Rattle.edl_frames.specs.Shown.{MediaRows}
 use Rattle.std.specs.Ordering.{int_eq}
 use Rattle.edl_list.specs.declared.layout.Layout.{Layout}
 use Rattle.text_lines.specs.ReelNames.{is_reel_name}

@@ -5,6 +5,8 @@
 
 mod faults;
 mod reasons;
+mod rows;
 
 pub use faults::ConformFault;
 pub use reasons::{NotCarried, Why};
+pub use rows::is_row_outside;

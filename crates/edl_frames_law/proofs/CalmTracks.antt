@@ -19,7 +19,7 @@ use Rattle.edl_list.specs.declared.list.Side.{Side}
 use Rattle.edl_list.specs.declared.list.Event.{Event}
 use Rattle.edl_list.specs.declared.list.EventList.{EventList}
 use Rattle.coord.specs.Soundness.{IsCalm}
-use Rattle.edl_frames.specs.Shown.{MediaRows}
+use Rattle.media_rows.specs.Rows.{MediaRows}
 use Rattle.edl_frames.specs.Conformed.{HasFrames, IsGap, IsItem, IsReelItem, IsTransition, IsTimelineOf, AreItems, end, gap, cut, pair, pair_with_side, AreTracks, none, used, unused}
 
 -- ---- items without children

@@ -18,14 +18,16 @@ use Rattle.coord.specs.Speeds.{media_at, speed_of}
 use Rattle.coord.specs.Keys.{key_of, reel_of, media_rate}
 use Rattle.coord.specs.Sights.{framed}
 use Rattle.coord.specs.Images.{Image, Empty, Kind, Dissolve as IsDissolve, Wipe as IsWipe, Other, image, kind_of}
-use Rattle.edl_frames.specs.Shown.{MediaRows, mix_of, side_shows, crossing_shows, cross_shows, event_shows, events_show}
+use Rattle.edl_frames.specs.Shown.{mix_of, side_shows, crossing_shows, cross_shows, event_shows, events_show}
+use Rattle.media_rows.specs.Rows.{MediaRows}
 use Rattle.edl_frames.specs.ChildReasons.{event_side, event_part, lap_part, parts_of, is_other_kind, is_between}
 use Rattle.edl_frames.specs.Jobs.{Job, frames_in, record_at}
 use Rattle.edl_frames.specs.Seats.{Lap, ItemAt, Past, Seat, lap_at, length_in, begin_or, past_by, seats, next_lap, lap_behind, begin_of, end_of, clip_in, is_item, clip_before, is_there}
 use Rattle.edl_frames.specs.Sides.{side_of, black_side, side_out, crossing, cross_in, speed_in}
 use Rattle.edl_frames.specs.ChildEvents.{event_by, black_event, clip_event, item_event, tail_event, event_of}
 use Rattle.edl_frames_law.proofs.ListedRates.{any_last, any_first}
-use Rattle.edl_frames_law.proofs.LookSteps.{yes, below, above, times_le, times-minus}
+use Rattle.coord.proofs.LookSteps.{is_within, missed_before, missed_behind}
+use Rattle.edl_frames_law.proofs.LookSteps.{times_le, times-minus}
 use Rattle.edl_frames_law.proofs.FrameQuotients.{sum-times}
 use Rattle.edl_frames_law.specs.Premises.{KnowsKeys}
 use Rattle.edl_frames_law.proofs.CalmItems.{AreCalm}
@@ -47,18 +49,18 @@ stretches_before low at m last ((piece n gives) ∷ l) g h e =
     let n_low = g.0 in let late = front_late at (at +ℤ n) l g.1 (omega (arith, ints, n_low)) in
     ap (λ b. cond b (gives (m -ℤ at))
     (stretches_show (stretches (at +ℤ n) (λ k. gives (k +ℤ n)) l) m))
-    (below at (front_of (at +ℤ n) l) m e)
+    (missed_before at (front_of (at +ℤ n) l) m e)
     ∙ stretches_before at (at +ℤ n) m (λ k. gives (k +ℤ n)) l g.1 (omega (arith, ints, n_low))
     (omega (arith, ints, e, late))
 stretches_before low at m last ((cross type b a) ∷ []) g h e =
     ap (λ t. cond t (crossed type b a at last nothing m) Empty)
-    (below (at -ℤ pos b) (at +ℤ pos a) m e)
+    (missed_before (at -ℤ pos b) (at +ℤ pos a) m e)
 stretches_before low at m last ((cross type b a) ∷ (piece n gives) ∷ l) g h e =
     let n_low = g.1 in let late = front_late (at +ℤ pos a) (at +ℤ n) l g.2
     (omega (arith, ints, n_low)) in
     ap (λ t. cond t (crossed type b a at last gives m)
     (stretches_show (stretches (at +ℤ n) (λ k. gives (k +ℤ n)) l) m))
-    (below (at -ℤ pos b) (front_of (at +ℤ n) l) m e)
+    (missed_before (at -ℤ pos b) (front_of (at +ℤ n) l) m e)
     ∙ stretches_before (at +ℤ pos a) (at +ℤ n) m (λ k. gives (k +ℤ n)) l g.2
     (omega (arith, ints, n_low)) (omega (arith, ints, e, late))
 stretches_before low at m last ((cross type b a) ∷ (cross type' b' a') ∷ l) g h e = absurd g
@@ -83,29 +85,29 @@ module _ (rate : Rate) (first : ℤ) (media : MediaRows) (drop wide : Bool) wher
   covers e b d m shows es rest i o in_event behind = by_lt_z m b
       (λ h. ap (λ t. cond t (event_shows rate media e ((first +ℤ m) -ℤ e.rec_in))
       (events_show rate media es (first +ℤ m)))
-      (below e.rec_in e.rec_out (first +ℤ m) (omega (arith, ints, i, h)))
-      ∙ behind ∙ sym (ap (λ t. cond t shows rest) (below b d m h)))
+      (missed_before e.rec_in e.rec_out (first +ℤ m) (omega (arith, ints, i, h)))
+      ∙ behind ∙ sym (ap (λ t. cond t shows rest) (missed_before b d m h)))
       (λ h. by_lt_z m d
       (λ k. ap (λ t. cond t (event_shows rate media e ((first +ℤ m) -ℤ e.rec_in))
       (events_show rate media es (first +ℤ m)))
-      (yes e.rec_in e.rec_out (first +ℤ m) (omega (arith, ints, i, h))
+      (is_within e.rec_in e.rec_out (first +ℤ m) (omega (arith, ints, i, h))
       (omega (arith, ints, o, k)))
       ∙ (let z : (first +ℤ m) -ℤ e.rec_in ≡ m -ℤ b = omega (arith, ints, i) in
       ap (event_shows rate media e) z) ∙ in_event h k
-      ∙ sym (ap (λ t. cond t shows rest) (yes b d m h k)))
+      ∙ sym (ap (λ t. cond t shows rest) (is_within b d m h k)))
       (λ k. ap (λ t. cond t (event_shows rate media e ((first +ℤ m) -ℤ e.rec_in))
       (events_show rate media es (first +ℤ m)))
-      (above e.rec_in e.rec_out (first +ℤ m) (omega (arith, ints, o, k)))
-      ∙ behind ∙ sym (ap (λ t. cond t shows rest) (above b d m k))))
+      (missed_behind e.rec_in e.rec_out (first +ℤ m) (omega (arith, ints, o, k)))
+      ∙ behind ∙ sym (ap (λ t. cond t shows rest) (missed_behind b d m k))))
 
   -- a stretch without an event, which shows nothing up to the next front
   no_event : (b d m : ℤ) (shows rest : Image) → (b ≤ℤ m → m <ℤ d → shows ≡ rest)
       → rest ≡ cond (within b d m) shows rest
   no_event b d m shows rest same = by_lt_z m b
-      (λ h. sym (ap (λ t. cond t shows rest) (below b d m h)))
+      (λ h. sym (ap (λ t. cond t shows rest) (missed_before b d m h)))
       (λ h. by_lt_z m d
-      (λ k. sym (same h k) ∙ sym (ap (λ t. cond t shows rest) (yes b d m h k)))
-      (λ k. sym (ap (λ t. cond t shows rest) (above b d m k))))
+      (λ k. sym (same h k) ∙ sym (ap (λ t. cond t shows rest) (is_within b d m h k)))
+      (λ k. sym (ap (λ t. cond t shows rest) (missed_behind b d m k))))
 
 -- where the next event begins, in ticks
 pub front_is : (rate : Rate) (kind : Watch) (at u : ℤ) (l : List (ItemOf Listed)) (bits : List Bit)
@@ -462,15 +464,15 @@ black_step rate first media drop wide c past o u at front m b a l last gives es 
         ≡ cond (within (at -ℤ pos b) front m) (crossed o.kind b a at last gives m) rest
     shorter = by_lt_z m (at -ℤ pos b)
         (λ h. ap (λ t. cond t (crossed o.kind b a at last gives m) rest)
-        (below (at -ℤ pos b) (at +ℤ pos a) m h)
+        (missed_before (at -ℤ pos b) (at +ℤ pos a) m h)
         ∙ sym (ap (λ t. cond t (crossed o.kind b a at last gives m) rest)
-        (below (at -ℤ pos b) front m h)))
+        (missed_before (at -ℤ pos b) front m h)))
         (λ h. by_lt_z m (at +ℤ pos a)
         (λ k. ap (λ t. cond t (crossed o.kind b a at last gives m) rest)
-        (yes (at -ℤ pos b) (at +ℤ pos a) m h k
-        ∙ sym (yes (at -ℤ pos b) front m h (omega (arith, ints, k, late)))))
+        (is_within (at -ℤ pos b) (at +ℤ pos a) m h k
+        ∙ sym (is_within (at -ℤ pos b) front m h (omega (arith, ints, k, late)))))
         (λ k. ap (λ t. cond t (crossed o.kind b a at last gives m) rest)
-        (above (at -ℤ pos b) (at +ℤ pos a) m k) ∙ no_event rate first media drop wide (at -ℤ pos b)
+        (missed_behind (at -ℤ pos b) (at +ℤ pos a) m k) ∙ no_event rate first media drop wide (at -ℤ pos b)
         front m (crossed o.kind b a at last gives m) rest (λ low high. after_lap k high)))
 
     empty_mix : (x y : Image) (p w : ℤ) → x ≡ Empty → y ≡ Empty → mix_of (kind_of o.kind) x y p w ≡

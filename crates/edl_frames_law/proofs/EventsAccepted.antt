@@ -24,10 +24,10 @@ use Rattle.edl_list.specs.Labelled.{outgoing}
 use Rattle.edl_list.specs.Alike.{IsEvenEvent}
 use Rattle.edl_list.specs.Speeds.{side_speed, count_of, speed_of, half_even}
 use Rattle.media_rows.specs.declared.row.MediaRow.{MediaRow}
-use Rattle.media_rows.specs.Rows.{by_reel, by_url, AreRows}
+use Rattle.media_rows.specs.Rows.{AreRows, by_reel, by_url, MediaRows, row_of}
 use Rattle.coord.specs.Keys.{frame_rate, reel_of}
 use Rattle.otio_model.specs.Lengths.{active_media}
-use Rattle.edl_frames.specs.Shown.{MediaRows, row_of, source_frame, is_on}
+use Rattle.edl_frames.specs.Shown.{source_frame, is_on}
 use Rattle.edl_frames.specs.Refused.{Use, outgoing_use, reel_row, if_listed, is_unlisted, has_other_rate, is_outside, is_none, event_fault, first_fault}
 use Rattle.edl_frames.specs.declared.faults.ConformFault.TheVariants as F
 use Rattle.edl_frames.specs.Seats.{Seat, is_there}

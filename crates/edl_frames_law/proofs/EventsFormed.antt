@@ -18,7 +18,7 @@ use Rattle.edl_list.specs.declared.list.Event.{Event}
 use Rattle.edl_list.specs.Formed.{AreFrames}
 use Rattle.coord.specs.Looks.{Overlap}
 use Rattle.coord.specs.Images.{Kind, Dissolve as IsDissolve, Wipe as IsWipe, Other, kind_of, wipe_code, wipe_or_other, three_digits, is_digit}
-use Rattle.edl_frames.specs.Shown.{MediaRows}
+use Rattle.media_rows.specs.Rows.{MediaRows}
 use Rattle.edl_frames.specs.ChildReasons.{event_side, is_other_kind, Part, parts_of, event_part, lap_part, is_past_day, is_outside_row}
 use Rattle.edl_frames.specs.Jobs.{Job, frames_in, record_at}
 use Rattle.edl_frames.specs.Seats.{Lap, ItemAt, Past, Seat, lap_at, length_in, begin_or, past_by, next_lap, lap_behind, begin_of, end_of, clip_in, clip_before, is_there}

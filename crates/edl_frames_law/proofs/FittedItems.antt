@@ -11,7 +11,7 @@ use Rattle.otio_model.specs.declared.compositions.Listed.{Listed}
 use Rattle.edl_list.specs.declared.list.Channel.{Channel}
 use Rattle.coord.specs.Looks.{Overlap}
 use Rattle.coord.specs.Sights.{overlap_of}
-use Rattle.edl_frames.specs.Shown.{MediaRows}
+use Rattle.media_rows.specs.Rows.{MediaRows}
 use Rattle.edl_frames.specs.Seats.{Past, Seat, lap_at, length_in, end_or, past_by, begin_or}
 use Rattle.edl_frames.specs.Jobs.{is_on_frame}
 use Rattle.edl_frames_law.proofs.CalmItems.{AreCalm}

@@ -16,7 +16,8 @@ use Rattle.edl_list.specs.declared.list.Reel.TheVariants.{Black, Named}
 use Rattle.edl_list.specs.declared.list.Side.{Side}
 use Rattle.edl_list.specs.declared.list.Event.{Event}
 use Rattle.edl_list.specs.declared.list.EventList.{EventList}
-use Rattle.edl_frames.specs.Shown.{MediaRows, on_channel}
+use Rattle.edl_frames.specs.Shown.{on_channel}
+use Rattle.media_rows.specs.Rows.{MediaRows}
 use Rattle.edl_frames.specs.Conformed.{IsItem, IsReelItem, IsTimelineOf, AreItems, end, gap, cut, pair, pair_with_side, AreTracks, none, used, unused, serves, first_record, pair_of}
 use Rattle.edl_frames.specs.Counted.{gap_count, lead_count, channel_count, track_count, item_count}
 

@@ -29,7 +29,8 @@ use Rattle.otio_model.specs.Overlaps.{offset_of}
 use Rattle.coord.specs.Speeds.{speed_of, media_at}
 use Rattle.coord.specs.Sights.{View, exact, sight, seen, framed}
 use Rattle.coord.specs.Images.{Empty, Single, image, frame_number}
-use Rattle.edl_frames.specs.Shown.{MediaRows, row_of, url_or_reel, reel_key, source_frame, side_shows, reel_shows}
+use Rattle.edl_frames.specs.Shown.{url_or_reel, reel_key, source_frame, side_shows, reel_shows}
+use Rattle.media_rows.specs.Rows.{MediaRows, row_of}
 use Rattle.edl_frames.specs.Channels.{KeySeen, own_key}
 use Rattle.edl_frames.specs.Conformed.{HasSpan, HasFrames, still, warp, effects_at, TellsReel, IsReference, IsClip, IsGap, IsReelItem, IsItem, IsTransition}
 use Rattle.edl_frames_law.proofs.ListedRates.{IsListed}

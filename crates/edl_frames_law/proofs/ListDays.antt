@@ -27,7 +27,8 @@ use Rattle.smpte_tc.proofs.Labels.{labels_there}
 use Rattle.edl_list.specs.Speeds.{day_of}
 use Rattle.coord.specs.Keys.{frame_rate}
 use Rattle.coord.specs.Programs.{record_rate}
-use Rattle.edl_frames.specs.Shown.{MediaRows, is_on, on_channel}
+use Rattle.edl_frames.specs.Shown.{is_on, on_channel}
+use Rattle.media_rows.specs.Rows.{MediaRows}
 use Rattle.edl_frames.specs.Channels.{channel_track}
 use Rattle.edl_frames.specs.declared.reasons.Why.{Why}
 use Rattle.edl_frames.specs.Seats.{is_there}

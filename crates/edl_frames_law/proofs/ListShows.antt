@@ -25,7 +25,8 @@ use Rattle.coord.specs.Soundness.{IsSound, fault_of, ranged_fault}
 use Rattle.coord.specs.declared.faults.ItemFault.{ItemFault}
 use Rattle.coord.specs.declared.faults.ItemFault.TheVariants.{NoLength}
 use Rattle.coord.specs.Images.{Empty, image}
-use Rattle.edl_frames.specs.Shown.{MediaRows, events_show, event_shows, on_channel, shown}
+use Rattle.edl_frames.specs.Shown.{events_show, event_shows, on_channel, shown}
+use Rattle.media_rows.specs.Rows.{MediaRows}
 use Rattle.edl_frames.specs.Channels.{KeySeen, keyed_child_shows, is_track_of, nth_track, channel_track, keyed_shown, on_by}
 use Rattle.edl_frames.specs.declared.reasons.Why.{Why}
 use Rattle.edl_frames.specs.Jobs.{Job, job_of, mode_in}

@@ -12,7 +12,7 @@ use Rattle.edl_list.specs.declared.list.Cross.TheVariants.{Cut, Dissolve, Wipe}
 use Rattle.edl_list.specs.declared.list.Event.{Event}
 use Rattle.media_rows.specs.declared.row.MediaRow.{MediaRow}
 use Rattle.coord.specs.Keys.{frame_rate}
-use Rattle.edl_frames.specs.Shown.{MediaRows, row_of}
+use Rattle.media_rows.specs.Rows.{MediaRows, row_of}
 use Rattle.edl_frames.specs.declared.faults.ConformFault.{ConformFault}
 use Rattle.edl_frames.specs.Conformed.{Pair, pair_of, pair_as, wipe_type}
 use Rattle.edl_frames.specs.Refused.{Use, use_of, uses_of, outgoing_use, reel_row, if_listed, is_same_rate, is_unlisted, has_other_rate, is_outside, event_fault, first_fault}

@@ -1,37 +1,15 @@
 -- One step of what a list shows, at whole frames.
 use Rattle.std.proofs.Common.{◌≡◌, refl, sym, ap, ap₂, ◌∙◌, ℕ, ◌*◌, ◌<◌, ℤ, pos, negsuc, ◌+ℤ◌, ◌-ℤ◌, ◌*ℤ◌, ◌≤ℤ◌, ◌<ℤ◌, ◌&&◌, Bool, true, false, cond, List, [], ◌∷◌, Option, Some, None, arith}
-use Rattle.std.specs.Prelude.{int_lt, int_le, unsigned_abs, unwrap_or}
+use Rattle.std.specs.Prelude.{unsigned_abs, unwrap_or}
 use Rattle.std.proofs.lemmas.Int.{ints}
 use Rattle.otio_model.specs.Overlaps.{within}
 use Rattle.coord.specs.Looks.{Show, Blank, Mix, Weight, Look, Overlap, is_blank, weight, mixed, item_shows, next_shows, from_end, mix_shows}
 use Rattle.coord.specs.Images.{Image, Empty, Mixture, Kind, kind_of, image, is_empty}
 use Rattle.coord.proofs.ImageLemmas.{empty_is}
+use Rattle.coord.proofs.LookSteps.{is_within, missed_before, missed_behind, mix_item, mix_miss, item_hit, item_past, side_item}
 use Rattle.edl_frames.specs.Shown.{mix_of}
 use Rattle.edl_frames_law.proofs.FrameQuotients.{sum-times}
 use Rattle.coord.proofs.Divisors.{weight_scaled}
-
-pub yes : (a b w : ℤ) → a ≤ℤ w → w <ℤ b → within a b w ≡ true
-yes a b w h k =
-    let e : int_le a w ≡ true = grind (arith, ints) in
-    let f : int_lt w b ≡ true = grind (arith, ints) in rw (e, f)
-
-pub below : (a b w : ℤ) → w <ℤ a → within a b w ≡ false
-below a b w h = let e : int_le a w ≡ false = grind (arith, ints) in rw e
-
-pub above : (a b w : ℤ) → b ≤ℤ w → within a b w ≡ false
-above a b w h = let f : int_lt w b ≡ false = grind (arith, ints) in rw f (last_false (int_le a w))
-  where
-    last_false : (t : Bool) → (t && false) ≡ false
-    last_false true = refl
-    last_false false = refl
-
-pub mix_item : (p : ℤ → Show) (x : Look) (l : List Look) (w : ℤ) → x.overlap ≡ None
-    → mix_shows p (x ∷ l) w ≡ mix_shows (from_end x) l (w -ℤ x.length)
-mix_item p x l w e = rw e
-
-pub mix_miss : (p : ℤ → Show) (x : Look) (o : Overlap) (l : List Look) (w : ℤ) → x.overlap ≡ Some o
-    → within (pos 0 -ℤ o.before) o.after w ≡ false → mix_shows p (x ∷ l) w ≡ mix_shows p l w
-mix_miss p x o l w e m = rw (e, m)
 
 pub mix_hit : (p : ℤ → Show) (x : Look) (o : Overlap) (l : List Look) (w : ℤ) → x.overlap ≡ Some o
     → within (pos 0 -ℤ o.before) o.after w ≡ true
@@ -39,21 +17,9 @@ pub mix_hit : (p : ℤ → Show) (x : Look) (o : Overlap) (l : List Look) (w : �
     (mixed o.kind (p w) (next_shows l w) (w +ℤ o.before) (o.before +ℤ o.after))
 mix_hit p x o l w e m = rw (e, m)
 
-pub item_hit : (x : Look) (l : List Look) (w : ℤ) → pos 0 ≤ℤ w → w <ℤ x.length
-    → item_shows (x ∷ l) w ≡ x.shows w
-item_hit x l w h k = rw (yes (pos 0) x.length w h k)
-
-pub item_past : (x : Look) (l : List Look) (w : ℤ) → x.length ≤ℤ w
-    → item_shows (x ∷ l) w ≡ item_shows l (w -ℤ x.length)
-item_past x l w k = rw (above (pos 0) x.length w k)
-
 pub item_before : (x : Look) (l : List Look) (w : ℤ) → w <ℤ pos 0
     → item_shows (x ∷ l) w ≡ item_shows l (w -ℤ x.length)
-item_before x l w k = rw (below (pos 0) x.length w k)
-
-pub side_item : (x : Look) (l : List Look) (w : ℤ) → x.overlap ≡ None
-    → next_shows (x ∷ l) w ≡ x.shows w
-side_item x l w e = rw e
+item_before x l w k = rw (missed_before (pos 0) x.length w k)
 
 -- ---- frames in ticks
 
@@ -108,7 +74,7 @@ mix_before p (x ∷ l) w g h = let low = g.0.low in elim (overlap_in x) [
   | none e ↦ mix_item p x l w e ∙ mix_before (from_end x) l (w -ℤ x.length) g.1
       (omega (arith, ints))
   | some o e ↦ let z = g.0.begins o e in mix_miss p x o l w e
-      (below (pos 0 -ℤ o.before) o.after w (omega (arith, ints))) ∙ mix_before p l w g.1 h
+      (missed_before (pos 0 -ℤ o.before) o.after w (omega (arith, ints))) ∙ mix_before p l w g.1 h
 ]
 
 -- and no item is there
@@ -223,7 +189,7 @@ cross_in f last type frames (pos k) count gives t x l p c x_plays low high =
     let b = times_lt (pos k) (pos frames) f p high in
     ap (λ (o : Option Show). image (unwrap_or o (item_shows (t ∷ x ∷ l) (pos k *ℤ pos f))))
     (mix_hit last t c.overlap (x ∷ l) (pos k *ℤ pos f) c.there
-    (yes (pos 0 -ℤ c.overlap.before) c.overlap.after (pos k *ℤ pos f)
+    (is_within (pos 0 -ℤ c.overlap.before) c.overlap.after (pos k *ℤ pos f)
     (omega (arith, ints, before, a)) (omega (arith, ints, after, b))))
     ∙ seen_mixed c.overlap.kind (last (pos k *ℤ pos f)) (next_shows (x ∷ l) (pos k *ℤ pos f))
     ((pos k *ℤ pos f) +ℤ c.overlap.before) (c.overlap.before +ℤ c.overlap.after)
@@ -243,7 +209,7 @@ cross_behind f last type frames k t l c low past =
     let b = times_le (pos frames) k f past in
     ap₂ (λ (o : Option Show) (s : Show). image (unwrap_or o s))
     (mix_miss last t c.overlap l (k *ℤ pos f) c.there
-    (above (pos 0 -ℤ c.overlap.before) c.overlap.after (k *ℤ pos f)
+    (missed_behind (pos 0 -ℤ c.overlap.before) c.overlap.after (k *ℤ pos f)
     (omega (arith, ints, after, b))))
     (item_past t l (k *ℤ pos f) (omega (arith, ints, point, a))
     ∙ ap (item_shows l) (omega (arith, ints, point)))

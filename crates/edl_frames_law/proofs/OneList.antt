@@ -11,7 +11,8 @@ use Rattle.edl_list.specs.declared.list.Event.{Event}
 use Rattle.edl_list.specs.declared.list.EventList.{EventList}
 use Rattle.edl_list.specs.Formed.{rank, AreInOrder}
 use Rattle.coord.specs.Looks.{FrameRate}
-use Rattle.edl_frames.specs.Shown.{MediaRows, is_on, on_channel}
+use Rattle.edl_frames.specs.Shown.{is_on, on_channel}
+use Rattle.media_rows.specs.Rows.{MediaRows}
 use Rattle.edl_frames.specs.ChildEvents.{unnumbered}
 use Rattle.edl_frames.specs.Carried.{IsListOf}
 use Rattle.edl_frames.proofs.ChannelEvents.{tail_pairs}

@@ -1,7 +1,7 @@
 -- A timeline has one reason at most for which it has no list.
 use Rattle.std.proofs.Common.{◌≡◌, ◌≢◌, refl, sym, ap, ap₂, ◌∙◌, ℕ, Bool, List, Some, None}
 use Rattle.otio_model.specs.declared.timelines.Timeline.{Timeline}
-use Rattle.edl_frames.specs.Shown.{MediaRows}
+use Rattle.media_rows.specs.Rows.{MediaRows}
 use Rattle.edl_frames.specs.declared.reasons.Why.{Why}
 use Rattle.edl_frames.specs.declared.reasons.NotCarried.{NotCarried}
 use Rattle.edl_frames.specs.declared.reasons.NotCarried.TheVariants.{At, Memory}

@@ -26,9 +26,11 @@ use Rattle.edl_list.specs.declared.list.Side.{Side}
 use Rattle.edl_list.specs.declared.list.Event.{Event}
 use Rattle.edl_list.specs.Speeds.{side_speed}
 use Rattle.media_rows.specs.declared.row.MediaRow.{MediaRow}
-use Rattle.edl_frames.specs.Shown.{MediaRows, row_of, on_channel}
+use Rattle.edl_frames.specs.Shown.{on_channel}
+use Rattle.media_rows.specs.Rows.{MediaRows, row_of}
 use Rattle.edl_frames_law.specs.PlainItems.{clip_with, gap_with, transition_with, track_with}
-use Rattle.edl_frames.specs.Conformed.{IsFrames, IsSpanOf, HasSpan, HasFrames, effects_at, first_record, TellsReel, external, IsReference, IsClip, IsGap, IsReelItem, IsItem, IsTransition, Pair, serves, AreItems, end, gap, cut, pair, pair_with_side, IsTrackOf, AreTracks, none, used, unused, IsTimelineOf}
+use Rattle.edl_frames.specs.Conformed.{IsSpanOf, HasSpan, HasFrames, effects_at, first_record, TellsReel, external, IsReference, IsClip, IsGap, IsReelItem, IsItem, IsTransition, Pair, serves, AreItems, end, gap, cut, pair, pair_with_side, IsTrackOf, AreTracks, none, used, unused, IsTimelineOf}
+use Rattle.tick_time.specs.Frames.{IsFrames}
 
 -- ---- times and spans
 

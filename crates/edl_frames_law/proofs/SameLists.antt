@@ -17,7 +17,8 @@ use Rattle.edl_list.specs.Alike.{IsSameSide, IsSameCross, IsSameEvent, AreSame, 
 use Rattle.edl_list.specs.Formed.{IsWellFormed, rank}
 use Rattle.coord.specs.Soundness.{IsSound}
 use Rattle.coord.specs.Images.{Image, Single, Kind, Dissolve as IsDissolve, Wipe as IsWipe}
-use Rattle.edl_frames.specs.Shown.{MediaRows, reel_key, source_frame, reel_shows, side_shows, mix_of, crossing_shows, cross_shows, event_shows, events_show, is_on, on_channel, shown}
+use Rattle.edl_frames.specs.Shown.{reel_key, source_frame, reel_shows, side_shows, mix_of, crossing_shows, cross_shows, event_shows, events_show, is_on, on_channel, shown}
+use Rattle.media_rows.specs.Rows.{MediaRows}
 use Rattle.edl_frames.specs.Refused.{Use, outgoing_use, uses_of, is_unlisted, has_other_rate, is_outside, if_listed, reel_row, event_fault, first_fault, IsAccepted}
 use Rattle.edl_frames.specs.declared.faults.ConformFault.{ConformFault}
 use Rattle.edl_frames.specs.declared.faults.ConformFault.TheVariants as F

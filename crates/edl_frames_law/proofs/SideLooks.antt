@@ -20,7 +20,7 @@ use Rattle.otio_model.specs.declared.compositions.Listed.{Listed}
 use Rattle.otio_model.specs.Lengths.{active_media, trimmed_start}
 use Rattle.edl_list.specs.Speeds.{half_even, side_speed, speed_of, count_of}
 use Rattle.media_rows.specs.declared.row.MediaRow.{MediaRow}
-use Rattle.media_rows.specs.Rows.{by_reel, by_url, AreOther, AreRows}
+use Rattle.media_rows.specs.Rows.{AreOther, AreRows, by_reel, by_url, MediaRows}
 use Rattle.smpte_tc.specs.declared.modes.Mode.{Mode}
 use Rattle.smpte_tc.specs.Modes.{plain_mode}
 use Rattle.coord.specs.Looks.{Key, Url, FrameRate}
@@ -28,7 +28,7 @@ use Rattle.coord.specs.Keys.{key_of, media_key, media_rate, frame_rate, reel_or_
 use Rattle.coord.specs.Speeds.{media_at}
 use Rattle.coord.specs.Sights.{sight}
 use Rattle.coord.specs.Images.{Single, image}
-use Rattle.edl_frames.specs.Shown.{MediaRows, side_shows, reel_shows, reel_key, url_or_reel}
+use Rattle.edl_frames.specs.Shown.{side_shows, reel_shows, reel_key, url_or_reel}
 use Rattle.edl_frames.specs.Jobs.{Job, tenths_of, count_in, mode_in, job_of}
 use Rattle.edl_frames.specs.Seats.{is_there}
 use Rattle.edl_frames.specs.Sides.{clip_reel, clip_row, if_reel, reel_in, url_in, speed_in, source_at, speed_in_tenths, side_of}

@@ -6,7 +6,8 @@ use Rattle.coord.specs.Looks.{Show, Look, Overlap, item_shows, next_shows, from_
 use Rattle.coord.specs.Images.{Image, Empty, Kind, kind_of, image}
 use Rattle.edl_frames.specs.Shown.{mix_of}
 use Rattle.edl_frames_law.proofs.FrameQuotients.{sum-times}
-use Rattle.edl_frames_law.proofs.LookSteps.{yes, below, above, Plays, seen_at, mix_item, mix_miss, mix_hit, item_hit, item_past, side_item, seen_mixed, mix_frames, seen_from_end, times_le, times_lt, times-minus}
+use Rattle.coord.proofs.LookSteps.{is_within, missed_before, missed_behind, mix_item, mix_miss, item_hit, item_past, side_item}
+use Rattle.edl_frames_law.proofs.LookSteps.{Plays, seen_at, mix_hit, seen_mixed, mix_frames, seen_from_end, times_le, times_lt, times-minus}
 use Rattle.otio_model.specs.Overlaps.{within}
 
 -- a child of a track: an item of so many frames, by what is seen of it in each, or a transition
@@ -105,7 +106,7 @@ missed f p x xs type b a at m z c e =
     let s = times-minus (pos 0) (pos b) f in
     let begins = c.begins in
     mix_miss p x c.overlap xs ((m -ℤ at) *ℤ pos f) c.there
-    (below (pos 0 -ℤ c.overlap.before) c.overlap.after ((m -ℤ at) *ℤ pos f)
+    (missed_before (pos 0 -ℤ c.overlap.before) c.overlap.after ((m -ℤ at) *ℤ pos f)
     (omega (arith, ints, t, s, begins)))
 
 -- nothing is mixed before the front
@@ -170,7 +171,7 @@ mixed_at f p last gives x xs type b a at m z c before next low high =
     omega (arith, ints, w, begins, ends) in
     ap (λ (o : Option Show). image (unwrap_or o (item_shows (x ∷ xs) ((m -ℤ at) *ℤ pos f))))
     (mix_hit p x c.overlap xs ((m -ℤ at) *ℤ pos f) c.there
-    (yes (pos 0 -ℤ c.overlap.before) c.overlap.after ((m -ℤ at) *ℤ pos f)
+    (is_within (pos 0 -ℤ c.overlap.before) c.overlap.after ((m -ℤ at) *ℤ pos f)
     (omega (arith, ints, s, u, begins)) (omega (arith, ints, t, ends))))
     ∙ seen_mixed c.overlap.kind (p ((m -ℤ at) *ℤ pos f)) (next_shows xs ((m -ℤ at) *ℤ pos f))
     (((m -ℤ at) *ℤ pos f) +ℤ c.overlap.before) (c.overlap.before +ℤ c.overlap.after)
@@ -197,7 +198,7 @@ is_mixed f p (x ∷ xs) ((cross type b a) ∷ l) low at m z k e h =
     let u = times-minus (pos 0) (pos b) f in (
       _,
       mix_hit p x c.overlap xs ((m -ℤ at) *ℤ pos f) c.there
-          (yes (pos 0 -ℤ c.overlap.before) c.overlap.after ((m -ℤ at) *ℤ pos f)
+          (is_within (pos 0 -ℤ c.overlap.before) c.overlap.after ((m -ℤ at) *ℤ pos f)
           (omega (arith, ints, s, u, begins)) (omega (arith, ints, t, r, ends))),
     )
 
@@ -205,8 +206,8 @@ is_mixed f p (x ∷ xs) ((cross type b a) ∷ l) low at m z k e h =
 
 pub within_low : (a b m : ℤ) → a ≤ℤ m → within a b m ≡ int_lt m b
 within_low a b m h = by_lt_z m b
-    (λ k. let e : int_lt m b ≡ true = grind (arith, ints, k) in yes a b m h k ∙ sym e)
-    (λ k. let e : int_lt m b ≡ false = grind (arith, ints, k) in above a b m k ∙ sym e)
+    (λ k. let e : int_lt m b ≡ true = grind (arith, ints, k) in is_within a b m h k ∙ sym e)
+    (λ k. let e : int_lt m b ≡ false = grind (arith, ints, k) in missed_behind a b m k ∙ sym e)
 
 -- an item up to the next front, and then the rest
 piece_shows : (f : ℕ) (p : ℤ → Show) (gives : ℤ → Image) (x : Look) (xs : List Look) (l : List Bit)
@@ -276,7 +277,7 @@ cross_past f p x xs type b a at m c h =
     let t = times_le (pos 0) (m -ℤ at) f (omega (arith, ints, h)) in
     ap₂ (λ (o : Option Show) (s : Show). image (unwrap_or o s))
     (mix_miss p x c.overlap xs ((m -ℤ at) *ℤ pos f) c.there
-    (above (pos 0 -ℤ c.overlap.before) c.overlap.after ((m -ℤ at) *ℤ pos f)
+    (missed_behind (pos 0 -ℤ c.overlap.before) c.overlap.after ((m -ℤ at) *ℤ pos f)
     (omega (arith, ints, s, ends))))
     (item_past x xs ((m -ℤ at) *ℤ pos f) (omega (arith, ints, t, point))
     ∙ ap (item_shows xs) (omega (arith, ints, point)))
@@ -304,10 +305,10 @@ stretches_are_shown f p last (x ∷ []) ((cross type b a) ∷ []) low at m z k g
     (λ j. mixed_at f p last nothing x [] type b a at m z k.0 before refl begin j
     ∙ sym (crossed_in type b a at last nothing m j)
     ∙ ap (λ s. cond s (crossed type b a at last nothing m) Empty)
-    (sym (yes (at -ℤ pos b) (at +ℤ pos a) m begin j)))
+    (sym (is_within (at -ℤ pos b) (at +ℤ pos a) m begin j)))
     (λ j. cross_past f p x [] type b a at m k.0 j
     ∙ ap (λ s. cond s (crossed type b a at last nothing m) Empty)
-    (sym (above (at -ℤ pos b) (at +ℤ pos a) m j)))
+    (sym (missed_behind (at -ℤ pos b) (at +ℤ pos a) m j)))
 stretches_are_shown f p last (x ∷ y ∷ xs) ((cross type b a) ∷ []) low at m z k g h before begin =
     absurd k.1
 stretches_are_shown f p last (x ∷ []) ((cross type b a) ∷ (piece n gives) ∷ l) low at m z k g h
@@ -322,7 +323,7 @@ stretches_are_shown f p last (x ∷ y ∷ xs) ((cross type b a) ∷ (piece n giv
     (ap image (side_item y xs ((m -ℤ at) *ℤ pos f) k.1.0.item) ∙ k.1.0.shows (m -ℤ at)) begin j
     ∙ sym (crossed_in type b a at last gives m j)
     ∙ ap (λ s. cond s (crossed type b a at last gives m) rest)
-    (sym (yes (at -ℤ pos b) (front_of (at +ℤ n) l) m begin (omega (arith, ints, j, late)))))
+    (sym (is_within (at -ℤ pos b) (front_of (at +ℤ n) l) m begin (omega (arith, ints, j, late)))))
     (λ j. cross_past f p x (y ∷ xs) type b a at m k.0 j
     ∙ piece_shows f p gives y xs l (at +ℤ pos a) at n m rest z k.1.0 (omega (arith, ints, n_low))
     k.1.1 g.2 (omega (arith, ints, n_low)) (omega (arith, ints, j))

@@ -39,7 +39,8 @@ use Rattle.coord.specs.Sights.{View, Sight, exact, sight, sights, seen, looks, l
 use Rattle.coord.specs.Programs.{instant, child_shows, clip_rate, first_clip, frame_ticks}
 use Rattle.coord.proofs.SightLemmas.{sights-items, looks-items}
 use Rattle.coord.specs.Images.{Empty, image, kind_of, is_digit, Wipe as IsWipe}
-use Rattle.edl_frames.specs.Shown.{MediaRows, crossing_shows, cross_shows, event_shows, events_show, is_on, on_channel, shown}
+use Rattle.edl_frames.specs.Shown.{crossing_shows, cross_shows, event_shows, events_show, is_on, on_channel, shown}
+use Rattle.media_rows.specs.Rows.{MediaRows}
 use Rattle.edl_frames.specs.Conformed.{Pair, pair_of, pair_as, wipe_type, HasSpan, IsGap, IsTransition, IsItem, IsItemOf, IsReelItem, AreItems, end, gap, cut, pair, pair_with_side, channel_kind, first_record, IsTrackOf, has_events, AreTracks, none, used, unused, IsTimelineOf}
 use Rattle.edl_frames.specs.Refused.{event_fault, IsAccepted}
 use Rattle.edl_frames.specs.Channels.{own_key, keyed_shown, is_track_of, nth_track, channel_track, on}
@@ -48,7 +49,8 @@ use Rattle.edl_list.proofs.ChannelLemmas.{runs_on}
 use Rattle.edl_frames.proofs.ChannelEvents.{all_on, BeginsFrom, channel_begins, tail_pairs}
 use Rattle.edl_frames_law.proofs.FrameQuotients.{sum-times}
 use Rattle.edl_frames_law.proofs.ListedRates.{HasNoFault, to_listed, from_listed, all_accepted}
-use Rattle.edl_frames_law.proofs.LookSteps.{yes, below, above, times_le, times_lt}
+use Rattle.coord.proofs.LookSteps.{is_within, missed_before, missed_behind}
+use Rattle.edl_frames_law.proofs.LookSteps.{times_le, times_lt}
 use Rattle.edl_frames_law.proofs.ItemLooks.{ticks, ticks_some, item_plays, gap_plays, transition_crosses}
 use Rattle.edl_frames_law.proofs.TrackShows.{IsPairIn, IsFrom, AreFrom, events_before, head_leaves, track_plays, from_in}
 
@@ -156,7 +158,7 @@ events_behind rate media at [] m g h = refl
 events_behind rate media at (e ∷ es) m g h =
     let l = ends_late rate media e.rec_out es g.1 in
     ap (λ t. cond t (event_shows rate media e (m -ℤ e.rec_in)) (events_show rate media es m))
-    (above e.rec_in e.rec_out m (omega (arith, ints, l, h)))
+    (missed_behind e.rec_in e.rec_out m (omega (arith, ints, l, h)))
     ∙ events_behind rate media e.rec_out es m g.1 h
 
 longer : (rate : Rate) (a b c : ℤ) (x : Look) (l : List Look) → x.length ≡ a *ℤ pos (ticks rate)
@@ -322,13 +324,13 @@ track_shows_list rate media first es t n a b c i g =
     let z : (n -ℤ first) +ℤ first ≡ n = omega (arith, ints) in
     let e = ap (λ w. w *ℤ pos (ticks rate)) z in
     ap (λ s. image (cond s (track_shows l u) Blank))
-    (below (pos 0) (total l) u (omega (arith, ints, low, d, e)))
+    (missed_before (pos 0) (total l) u (omega (arith, ints, low, d, e)))
     ∙ sym (events_before rate media first es n g h))
     (λ h. by_lt_z n (ends_at first es)
     (λ k. let low = times_le (pos 0) (n -ℤ first) (ticks rate) (omega (arith, ints)) in
     let high = times_lt (n -ℤ first) (ends_at first es -ℤ first) (ticks rate) (ticks_some rate)
     (omega (arith, ints)) in
-    let in_all = yes (pos 0) (total l) u (omega (arith, ints, low))
+    let in_all = is_within (pos 0) (total l) u (omega (arith, ints, low))
     (omega (arith, ints, high, all)) in
     ap (λ s. image (cond s (cond s (list_shows l u) Blank) Blank)) in_all
     ∙ track_plays rate media t.kind None first es (items_of t.children) blank n i g
@@ -336,7 +338,7 @@ track_shows_list rate media first es t n a b c i g =
     (λ k. let high = times_le (ends_at first es -ℤ first) (n -ℤ first) (ticks rate)
     (omega (arith, ints)) in
     ap (λ s. image (cond s (track_shows l u) Blank))
-    (above (pos 0) (total l) u (omega (arith, ints, high, all)))
+    (missed_behind (pos 0) (total l) u (omega (arith, ints, high, all)))
     ∙ sym (events_behind rate media first es n g k)))
 
 -- ---- the whole timeline

@@ -16,11 +16,13 @@ use Rattle.coord.specs.Sights.{View, Sight, sight, seen, looks, lengths_seen}
 use Rattle.edl_frames.specs.Channels.{keyed_child_shows, KeySeen}
 use Rattle.coord.proofs.SightLemmas.{length_seen, sights-items, looks-items}
 use Rattle.coord.specs.Images.{Image, Empty, image}
-use Rattle.edl_frames.specs.Shown.{MediaRows, events_show}
+use Rattle.edl_frames.specs.Shown.{events_show}
+use Rattle.media_rows.specs.Rows.{MediaRows}
 use Rattle.edl_frames.specs.Seats.{head, length_in}
 use Rattle.edl_frames.specs.ChildEvents.{track_events}
 use Rattle.edl_frames_law.proofs.FrameQuotients.{sum-times}
-use Rattle.edl_frames_law.proofs.LookSteps.{yes, below, above, seen_at, times_le, times_lt}
+use Rattle.coord.proofs.LookSteps.{is_within, missed_before, missed_behind}
+use Rattle.edl_frames_law.proofs.LookSteps.{seen_at, times_le, times_lt}
 use Rattle.edl_frames_law.specs.Premises.{KnowsKeys}
 use Rattle.edl_frames_law.proofs.CalmItems.{AreCalm}
 use Rattle.edl_frames_law.proofs.ItemLooks.{Watch, exactly, ticks, ticks_some}
@@ -110,16 +112,16 @@ stretches_behind low at m last ((piece n gives) ∷ l) g h =
     let e = end_late at (at +ℤ n) l g.1 in let f = front_early (at +ℤ n) l in
     ap (λ b. cond b (gives (m -ℤ at))
     (stretches_show (stretches (at +ℤ n) (λ k. gives (k +ℤ n)) l) m))
-    (above at (front_of (at +ℤ n) l) m (omega (arith, ints, e, f, h)))
+    (missed_behind at (front_of (at +ℤ n) l) m (omega (arith, ints, e, f, h)))
     ∙ stretches_behind at (at +ℤ n) m (λ k. gives (k +ℤ n)) l g.1 h
 stretches_behind low at m last ((cross type b a) ∷ []) g h = let z = g.1 in
     ap (λ t. cond t (crossed type b a at last nothing m) Empty)
-    (above (at -ℤ pos b) (at +ℤ pos a) m (omega (arith, ints, h, z)))
+    (missed_behind (at -ℤ pos b) (at +ℤ pos a) m (omega (arith, ints, h, z)))
 stretches_behind low at m last ((cross type b a) ∷ (piece n gives) ∷ l) g h =
     let e = end_late (at +ℤ pos a) (at +ℤ n) l g.2 in let f = front_early (at +ℤ n) l in
     ap (λ t. cond t (crossed type b a at last gives m)
     (stretches_show (stretches (at +ℤ n) (λ k. gives (k +ℤ n)) l) m))
-    (above (at -ℤ pos b) (front_of (at +ℤ n) l) m (omega (arith, ints, e, f, h)))
+    (missed_behind (at -ℤ pos b) (front_of (at +ℤ n) l) m (omega (arith, ints, e, f, h)))
     ∙ stretches_behind (at +ℤ pos a) (at +ℤ n) m (λ k. gives (k +ℤ n)) l g.2 h
 stretches_behind low at m last ((cross type b a) ∷ (cross type' b' a') ∷ l) g h = absurd g
 
@@ -181,7 +183,7 @@ track_is_written rate first media drop wide c key t long n keys a b d known_long
     (λ h. let low = times_lt m (pos 0) (ticks rate) (ticks_some rate) h in
     let late = front_late (pos 0) (pos 0) f.bits f.fit (omega (arith, ints)) in
     ap (λ s. image (cond s (track_shows l u) Blank))
-    (below (pos 0) (total l) u (omega (arith, ints, low)))
+    (missed_before (pos 0) (total l) u (omega (arith, ints, low)))
     ∙ sym (stretches_before (pos 0) (pos 0) m nothing f.bits f.fit (omega (arith, ints))
     (omega (arith, ints, h, late))))
     (λ h. by_lt_z m (bits_end (pos 0) f.bits)
@@ -189,7 +191,7 @@ track_is_written rate first media drop wide c key t long n keys a b d known_long
     let high = times_lt m (bits_end (pos 0) f.bits -ℤ pos 0) (ticks rate) (ticks_some rate)
     (omega (arith, ints, k)) in
     let early = front_early (pos 0) f.bits in
-    let in_all = yes (pos 0) (total l) u (omega (arith, ints, low)) (omega (arith, ints, high, all))
+    let in_all = is_within (pos 0) (total l) u (omega (arith, ints, low)) (omega (arith, ints, high, all))
     in
     let z : m ≡ m -ℤ pos 0 = omega (arith, ints) in
     ap (λ s. image (cond s (cond s (list_shows l u) Blank) Blank)) in_all
@@ -200,7 +202,7 @@ track_is_written rate first media drop wide c key t long n keys a b d known_long
     (λ k. let high = times_le (bits_end (pos 0) f.bits -ℤ pos 0) m (ticks rate)
     (omega (arith, ints, k)) in
     ap (λ s. image (cond s (track_shows l u) Blank))
-    (above (pos 0) (total l) u (omega (arith, ints, high, all)))
+    (missed_behind (pos 0) (total l) u (omega (arith, ints, high, all)))
     ∙ sym (stretches_behind (pos 0) (pos 0) m nothing f.bits f.fit k)))
     ∙ sym events
   where

@@ -19,13 +19,15 @@ use Rattle.otio_model.specs.Overlaps.{within}
 use Rattle.coord.specs.Looks.{Show, Look, blank, from_end}
 use Rattle.coord.specs.Sights.{exact, looks, sight, seen}
 use Rattle.coord.specs.Images.{Empty, Single, Kind, kind_of, image}
-use Rattle.edl_frames.specs.Shown.{MediaRows, reel_key, source_frame, mix_of, side_shows, reel_shows, crossing_shows, cross_shows, event_shows, events_show}
+use Rattle.edl_frames.specs.Shown.{reel_key, source_frame, mix_of, side_shows, reel_shows, crossing_shows, cross_shows, event_shows, events_show}
+use Rattle.media_rows.specs.Rows.{MediaRows}
 use Rattle.edl_frames.specs.Conformed.{Pair, pair_of, serves, leaves_gap, goes_on, is_black, is_same_reel, AreItems, end, gap, cut, pair, pair_with_side}
 use Rattle.std.specs.Ordering.{int_eq}
 use Rattle.std.proofs.lemmas.Bool.Decides.{Decides-int_eq}
 use Rattle.edl_frames_law.proofs.ListedRates.{IsListed}
 use Rattle.edl_frames_law.proofs.FrameQuotients.{floor, quotient_is, sum-times}
-use Rattle.edl_frames_law.proofs.LookSteps.{yes, below, above, AreForward, Plays, Crosses, plays_forward, crosses_forward, seen_at, item_in, item_behind, cross_in, cross_behind, seen_from_end}
+use Rattle.coord.proofs.LookSteps.{is_within, missed_before, missed_behind}
+use Rattle.edl_frames_law.proofs.LookSteps.{AreForward, Plays, Crosses, plays_forward, crosses_forward, seen_at, item_in, item_behind, cross_in, cross_behind, seen_from_end}
 use Rattle.edl_frames_law.proofs.ItemLooks.{is_number, ticks, ticks_some, item_plays, gap_plays, transition_crosses}
 
 -- ---- events of a channel in order
@@ -59,18 +61,18 @@ from_in rate media at e es g =
 pub event_in : (rate : Rate) (media : MediaRows) (e : Event) (es : List Event) (m : ℤ)
     → e.rec_in ≤ℤ m → m <ℤ e.rec_out → events_show rate media (e ∷ es) m ≡ event_shows rate media e
     (m -ℤ e.rec_in)
-event_in rate media e es m low high = rw (yes e.rec_in e.rec_out m low high)
+event_in rate media e es m low high = rw (is_within e.rec_in e.rec_out m low high)
 
 pub event_past : (rate : Rate) (media : MediaRows) (e : Event) (es : List Event) (m : ℤ)
     → e.rec_out ≤ℤ m → events_show rate media (e ∷ es) m ≡ events_show rate media es m
-event_past rate media e es m past = rw (above e.rec_in e.rec_out m past)
+event_past rate media e es m past = rw (missed_behind e.rec_in e.rec_out m past)
 
 pub events_before : (rate : Rate) (media : MediaRows) (at : ℤ) (es : List Event) (m : ℤ)
     → AreFrom rate media at es → m <ℤ at → events_show rate media es m ≡ Empty
 events_before rate media at [] m g h = refl
 events_before rate media at (e ∷ es) m g h =
     let b = g.0.begins in let s = g.0.some in
-    let out : within e.rec_in e.rec_out m ≡ false = below e.rec_in e.rec_out m
+    let out : within e.rec_in e.rec_out m ≡ false = missed_before e.rec_in e.rec_out m
     (omega (arith, ints, b, h)) in
     ap (λ t. cond t (event_shows rate media e (m -ℤ e.rec_in)) (events_show rate media es m)) out
     ∙ events_before rate media e.rec_out es m g.1 (omega (arith, ints, b, s, h))

@@ -22,7 +22,8 @@ use Rattle.coord.specs.Keys.{frame_rate}
 use Rattle.edl_frames.specs.Channels.{own_key}
 use Rattle.coord.specs.Sights.{overlap_of}
 use Rattle.coord.specs.Programs.{start_frame}
-use Rattle.edl_frames.specs.Shown.{MediaRows, is_on, on_channel}
+use Rattle.edl_frames.specs.Shown.{is_on, on_channel}
+use Rattle.media_rows.specs.Rows.{MediaRows}
 use Rattle.edl_frames.specs.Channels.{channel_track}
 use Rattle.edl_frames.specs.Refused.{IsAccepted}
 use Rattle.edl_frames.specs.declared.reasons.Why.{Why}

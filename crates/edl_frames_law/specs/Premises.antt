@@ -10,8 +10,8 @@ use Rattle.edl_list.specs.Alike.{IsEven}
 use Rattle.edl_frames.specs.Refused.{IsAccepted}
 use Rattle.coord.specs.Keys.{key_of, reel_of}
 use Rattle.edl_frames.specs.Channels.{KeySeen}
-use Rattle.media_rows.specs.Rows.{AreRows}
-use Rattle.edl_frames.specs.Shown.{MediaRows, reel_key}
+use Rattle.media_rows.specs.Rows.{AreRows, MediaRows}
+use Rattle.edl_frames.specs.Shown.{reel_key}
 use Rattle.edl_frames.specs.Sides.{clip_reel}
 
 -- the reel of a clip tells its key

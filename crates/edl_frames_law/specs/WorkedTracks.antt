@@ -16,7 +16,7 @@ use Rattle.edl_list.specs.declared.list.Event.{Event}
 use Rattle.edl_list.specs.declared.layout.Layout.{Layout}
 use Rattle.edl_list.specs.Layouts.{narrow, wide_layout}
 use Rattle.coord.specs.Worked.{frames}
-use Rattle.edl_frames.specs.Shown.{MediaRows}
+use Rattle.media_rows.specs.Rows.{MediaRows}
 use Rattle.edl_frames.specs.Conformed.{external, warp}
 use Rattle.edl_frames_law.specs.PlainItems.{clip_with, gap_with, transition_with, track_with}
 use Rattle.edl_frames.specs.declared.reasons.Why.{Why}

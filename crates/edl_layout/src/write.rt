@@ -132,7 +132,7 @@ fn mode_line(drop: bool) -> &'static [u8]
 /// rate's own, and then the notes of their names.
 ///
 /// It takes no memory. `Sink` comes only where a write failed, and then a prefix of the text was
-/// sent.
+/// sent and the count of faults rose, or stands at 2^64 - 1.
 #[tactic(auto, using(crate::proofs::Widths::widths_of))]
 pub fn write_event<W: Out>(
     event: &Event,
@@ -163,7 +163,7 @@ pub fn write_event<W: Out>(
 /// numbered from 1.
 ///
 /// It takes no memory. `Sink` comes only where a write failed, and then a prefix of the text was
-/// sent.
+/// sent and the count of faults rose, or stands at 2^64 - 1.
 #[tactic(auto, using(crate::proofs::Widths::widths_of, crate::proofs::Widths::few_events))]
 pub fn write_list<W: Out>(
     list: &EventList,

@@ -4,7 +4,7 @@ use Rattle.std.specs.Option.{option_copied, option_to_list}
 use Rattle.otio_model.specs.declared.timelines.Timeline.{Timeline}
 use Rattle.coord.specs.Keys.{frame_rate}
 use Rattle.coord.specs.Programs.{record_rate}
-use Rattle.edl_frames.specs.Shown.{MediaRows}
+use Rattle.media_rows.specs.Rows.{MediaRows}
 use Rattle.edl_frames.specs.Jobs as D
 use Rattle.edl_frames.specs.Jobs.{mode_in}
 use Rattle.edl_frames.specs.Seats as T

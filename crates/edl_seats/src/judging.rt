@@ -288,8 +288,8 @@ fn transition_reason(job: &Job<'_>, seat: &Seat<'_>, overlap: Overlap<'_>) -> Op
     None
 }
 
-/// The first reason for which a child isn't carried, whatever channel its track stands for. It
-/// takes no memory.
+/// The first reason for which a child isn't carried, whatever channel its track stands for; `None`
+/// exactly where the child is carried. It takes no memory.
 pub fn reason_of(job: &Job<'_>, seat: &Seat<'_>) -> Option<Why>
     requires seated { IsSeated seat.now }
     requires past { IsPast job.now.ticks seat.now.past }

@@ -1,6 +1,6 @@
 //! The sides that a clip has: that of its event, and that which goes out at its end.
 
-ghost use Rattle.std.specs.Prelude.{◌≡◌, [], ◌∷◌, ◌++◌, ◌*◌, ◌+ℤ◌, ◌-ℤ◌, ◌*ℤ◌, ◌≤ℤ◌, ◌||◌, not, pos, int_lt, int_le, IfSome, option_map};
+ghost use Rattle.std.specs.Prelude.{◌≡◌, [], ◌∷◌, ◌++◌, ◌*◌, ◌+ℤ◌, ◌-ℤ◌, ◌*ℤ◌, ◌≤ℤ◌, not, pos, IfSome, option_map};
 ghost use Rattle.std.specs.List.{list_any};
 ghost use Rattle.std.specs.Option.{option_copied, option_to_list};
 ghost use Rattle.std.specs.Int.{int_rem_euclid};
@@ -19,6 +19,7 @@ use crate::frames::{frames_in, is_in_day};
 use crate::job::Job;
 use crate::seat::Lap;
 use crate::shots::{Shot, played, product, source_at};
+use edl_frames::is_row_outside;
 use media_rows::MediaRow;
 
 /// A side of a clip: the instant of the track at which it begins, how many record frames it has,
@@ -136,31 +137,6 @@ fn is_past_day(job: &Job<'_>, shot: &Shot<'_>, start: i128, part: Part) -> bool
     let first = source_at(job, shot, start, part.at);
     let end = first + played(part.counted, shot.speed);
     !both(is_in_day(job, first), is_in_day(job, end))
-}
-
-/// Whether a frame lies before another one.
-fn is_before(a: i128, b: i64) -> bool
-    ensures { result ≡ int_lt a b }
-{
-    a < i128::from(b)
-}
-
-/// Whether a frame lies behind so many frames from one on.
-fn is_past(start: i64, count: i64, frame: i128) -> bool
-    ensures { result ≡ int_le (start +ℤ count) frame }
-{
-    i128::from(start) + i128::from(count) <= frame
-}
-
-/// Whether the first frame lies before the listed ones, or the last one behind them.
-fn is_row_outside(row: &MediaRow, first: i128, last: i128) -> bool
-    ensures { result ≡ (int_lt first row.now.start
-        || int_le (row.now.start +ℤ row.now.count) last) }
-{
-    any_of(
-        is_before(first, row.start),
-        is_past(row.start, row.count, last),
-    )
 }
 
 /// Whether a frame that the side shows lies outside the listed ones.

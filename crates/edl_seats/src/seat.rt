@@ -48,7 +48,7 @@ pub struct Seat<'a> {
     pub item: &'a Item,
     /// Where it starts, in ticks of the track.
     pub start: i128,
-    /// Where it ends.
+    /// Where it ends, in ticks of the track.
     pub end: i128,
     /// What stands before it.
     pub past: Past<'a>,

@@ -84,8 +84,9 @@ impl EdlReader {
     ///
     /// # Errors
     /// The fault of the last line where that has no end, and then the first of
-    /// [`EdlFault::Unequal`] and [`EdlFault::Overlap`] by line, on one line in this order. After a
-    /// fault of [`EdlReader::feed`] the same fault.
+    /// [`EdlFault::Unequal`] and [`EdlFault::Overlap`] by line, on one line in this order.
+    /// [`EdlFault::Memory`] where memory runs out. After a fault of [`EdlReader::feed`] the same
+    /// fault.
     pub fn finish(self) -> Result<EventList, EdlFault>
         ensures list { IfOk result (λ list. (rate : RateSaid) (bytes : List ℕ)
             → HasRead rate bytes self → IsList rate bytes list) }

@@ -14,7 +14,7 @@ use Rattle.edl_text.specs.Lists.{IsList}
 use Rattle.edl_text.proofs.OneList.{one_list}
 use Rattle.edl_law.specs.Law.{HasNames, HasText, SpellingIsRead}
 use Rattle.edl_law.proofs.RoundTrip.{reading}
-use Rattle.edl_frames.specs.Shown.{MediaRows}
+use Rattle.media_rows.specs.Rows.{MediaRows}
 use Rattle.edl_frames.specs.Counted.{item_count}
 use Rattle.edl_frames.specs.Channels.{own_key, reel_first}
 use Rattle.edl_frames.specs.Refused.{IsAccepted}

@@ -8,7 +8,7 @@ use Rattle.coord.specs.Images.{Image}
 use Rattle.edl_list.specs.declared.list.Channel.{Channel}
 use Rattle.edl_list.specs.declared.list.EventList.{EventList}
 use Rattle.edl_text.specs.Lists.{IsList}
-use Rattle.edl_frames.specs.Shown.{MediaRows}
+use Rattle.media_rows.specs.Rows.{MediaRows}
 use Rattle.edl_frames.specs.Channels.{on, on_reels}
 use Rattle.edl_frames.specs.Refused.{IsAccepted}
 use Rattle.edl_frames.specs.Conformed.{IsTimelineOf}

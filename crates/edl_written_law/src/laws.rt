@@ -8,7 +8,7 @@ ghost use Rattle.edl_list.specs.declared.list.EventList.{EventList};
 ghost use Rattle.edl_layout.specs.Spelling.{spelling};
 ghost use Rattle.edl_text.specs.Lists.{IsList};
 ghost use Rattle.edl_law.specs.Law.{HasNames};
-ghost use Rattle.edl_frames.specs.Shown.{MediaRows};
+ghost use Rattle.media_rows.specs.Rows.{MediaRows};
 ghost use Rattle.edl_frames.specs.Counted.{item_count};
 ghost use Rattle.edl_frames.specs.Carried.{not_carried, IsListOf};
 ghost use Rattle.edl_frames_law.specs.Premises.{AreListed};

@@ -260,8 +260,8 @@ pub fn items_reason() -> Reason
     bare_reason("G1", "Items")
 }
 
-/// What is told of a timeline that isn't flattened, cut to a window or joined, with the place of the
-/// child, but for a window out of range; `None` exactly for want of memory.
+/// What is told of a timeline that isn't flattened, cut to a window or joined, with the place of
+/// the child, but for a window out of range; `None` exactly for want of memory.
 pub fn flat_reason(fault: FlatFault) -> Option<Reason>
     ensures { MatchOption result (fault ≡ FlatFault.Memory)
         (λ reason. (fault ≢ FlatFault.Memory)

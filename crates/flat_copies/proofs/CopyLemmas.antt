@@ -4,9 +4,7 @@ use Rattle.std.specs.Prelude.{slice_get}
 use Rattle.otio_model.specs.declared.compositions.ItemOf.{ItemOf}
 use Rattle.otio_model.specs.declared.compositions.Listed.{Listed}
 use Rattle.otio_model.specs.Trees.{items_of}
-
-same_some : {A : Type 0} (x y : A) → Some x ≡ Some y → x ≡ y
-same_some x y e = cc e
+use Rattle.coord.proofs.Members.{same_some}
 
 taken : {A : Type 0} (xs : List A) (i : ℕ) (x : A) → slice_get xs i ≡ Some x → take (suc i) xs ≡ take i xs ++ x ∷ []
 taken [] i x e = absurd (cc e)

@@ -8,7 +8,7 @@ use Rattle.otio_model.specs.declared.compositions.TrackOf.{TrackOf}
 use Rattle.otio_model.specs.Trees.{children_of, items_of}
 use Rattle.coord.specs.Looks.{Overlap}
 use Rattle.coord.specs.Sights.{overlap_of}
-use Rattle.coord.proofs.Members.{got_below}
+use Rattle.coord.proofs.Members.{got_below, same_some}
 use Rattle.flat.specs.declared.faults.Cause.{Cause}
 use Rattle.flat.specs.declared.faults.Cause.TheVariants as C
 use Rattle.flat.specs.Blocked.{IsFree, IsFirst}
@@ -18,7 +18,7 @@ use Rattle.flat.specs.Roots.{is_enabled, is_plain, items_in}
 use Rattle.flat_roots.specs.Sought.{Under, StartsBelow, IsFreeTo, inner_place}
 use Rattle.flat_roots.proofs.FirstLemmas.{first_under, free_all}
 use Rattle.flat_roots.proofs.PlaceLemmas.{head_is, next_is, one_two, two_one, none_one, none_before, starts_later}
-use Rattle.flat_roots.proofs.RootLemmas.{same_some, true_false}
+use Rattle.flat_roots.proofs.RootLemmas.{true_false}
 use Rattle.flat_join.specs.Blocking.{blocks_at, AreApartTo, IsCrossing}
 
 -- ---- a root child

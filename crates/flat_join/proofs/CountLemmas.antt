@@ -1,8 +1,7 @@
 -- How many items a joined timeline has.
 use Rattle.std.proofs.Common.{◌≡◌, refl, sym, ap, ap₂, ◌∙◌, ℕ, suc, ◌+◌, ◌-◌, ◌<◌, ◌≤◌, ◌^◌, ℤ, pos, ◌≤ℤ◌, ◌<ℤ◌, Bool, true, false, cond, Option, Some, None, List, [], ◌∷◌, ◌++◌, length, drop, arith}
-use Rattle.std.specs.Prelude.{slice_get, option_map, int_lt, nat_lt, not}
+use Rattle.std.specs.Prelude.{slice_get, option_map, nat_lt, not}
 use Rattle.std.proofs.lemmas.Bool.Decides.{nat_tests}
-use Rattle.std.proofs.lemmas.Int.{ints}
 use Rattle.tick_time.specs.declared.rates.Rate.{Rate}
 use Rattle.tick_time.specs.declared.spans.Span.{Span}
 use Rattle.otio_model.specs.declared.compositions.ItemOf.{ItemOf}
@@ -13,17 +12,17 @@ use Rattle.otio_model.specs.Counts.{count, count_of, counts_by}
 use Rattle.otio_model.specs.Falls.{count-listed}
 use Rattle.otio_model.specs.Kept.{capped_count}
 use Rattle.otio_model.specs.Trees.{items_of, listed}
-use Rattle.coord.proofs.Members.{next, none_left}
+use Rattle.coord.proofs.Members.{next, none_left, same_some}
 use Rattle.cuts.specs.Children.{Child, Old, Ranged, all_made, made, new_gap, with_first, with_range, start_rate, length_rate}
 use Rattle.cuts.specs.Nears.{near, span_of}
 use Rattle.cuts.specs.Cuts.{olds}
 use Rattle.flat.specs.Joined.{Slot, pad, joined_with}
 use Rattle.flat.specs.Roots.{is_empty, is_plain}
 use Rattle.flat_law.proofs.Joined.{AreGoodSlots}
-use Rattle.flat_roots.proofs.RootLemmas.{same_some}
 use Rattle.flat_join.specs.declared.parts.Part.{Part}
 use Rattle.flat_join.specs.Parts.{given, pad_behind, piece, children_from, track_from, tracks_from, child_count, child_counts, track_count, track_counts}
 use Rattle.flat_join.proofs.TrackLemmas.{more_is}
+use Rattle.pieces.proofs.Tests.{lt_yes, lt_no}
 
 -- ---- lists of children
 
@@ -41,12 +40,6 @@ pub piece_count : (s : Slot) (p : Part) (more : Bool)
 piece_count s p more =
     both_count (olds (given s p)) (cond more (pad_behind s p) [])
     ∙ ap (λ n. n + child_counts (cond more (pad_behind s p) [])) (olds_count (given s p))
-
-lt_yes : (a b : ℤ) → a <ℤ b → int_lt a b ≡ true
-lt_yes a b h = grind (arith, ints)
-
-lt_no : (a b : ℤ) → b ≤ℤ a → int_lt a b ≡ false
-lt_no a b h = grind (arith, ints)
 
 pub one_pad : (n : ℤ) → pos 0 <ℤ n → 1 ≡ child_counts (pad n)
 one_pad n h = ap (λ b. child_counts (cond b (new_gap n ∷ []) [])) (sym (lt_yes (pos 0) n h))

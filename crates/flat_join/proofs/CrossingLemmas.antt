@@ -12,7 +12,8 @@ use Rattle.edits.specs.Edges.{added}
 use Rattle.flat.specs.Joined.{begins_early, ends_late}
 use Rattle.flat.specs.Roots.{is_empty}
 use Rattle.flat_roots.proofs.FirstLemmas.{below_or}
-use Rattle.flat_roots.proofs.RootLemmas.{same_some, added_next}
+use Rattle.coord.proofs.Members.{same_some}
+use Rattle.edits.proofs.NextStarts.{added_next}
 use Rattle.flat_join.specs.Blocking.{early_by, late_by, blocks_at, AreApartTo, IsCrossing, IsPassed}
 
 -- ---- what stands behind a child

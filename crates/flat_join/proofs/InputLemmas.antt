@@ -15,7 +15,7 @@ use Rattle.flat.specs.Roots.{roots}
 use Rattle.flat_roots.specs.declared.spots.Spot.{Spot}
 use Rattle.flat_roots.specs.Sought.{IsSaid, spot_place}
 use Rattle.flat_roots.proofs.FirstLemmas.{named}
-use Rattle.flat_roots.proofs.RootLemmas.{same_some}
+use Rattle.coord.proofs.Members.{same_some}
 use Rattle.flat_join.specs.Blocking.{FreeTo, TellsInput, first_at, last_at}
 
 pub sound_in : (l : List Timeline) (i : ℕ) (t : Timeline) → AreSound l → slice_get l i ≡ Some t

@@ -24,7 +24,7 @@ use Rattle.flat.specs.Joined as J
 use Rattle.flat.specs.Roots.{is_plain, roots, with_roots}
 use Rattle.flat_copies.proofs.CopyLemmas.{taken_more}
 use Rattle.flat_law.proofs.Joined.{AllPlain, AreGoodSlots, ArePlain, good_slots}
-use Rattle.flat_roots.proofs.RootLemmas.{same_some}
+use Rattle.coord.proofs.Members.{same_some}
 use Rattle.flat_join.specs.declared.parts.Part.{Part}
 use Rattle.flat_join.specs.Parts.{AreParts, AreStretched, IsJoinedOf, IsPart, IsWithin, children_from, given, inputs_of, list_of, lists_of, pad_behind, track_counts, tracks_from}
 use Rattle.flat_join.proofs.CountLemmas.{tracks_made}

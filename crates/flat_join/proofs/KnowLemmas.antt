@@ -24,7 +24,7 @@ use Rattle.cuts_law.proofs.Splice.{cases}
 use Rattle.flat.specs.Joined.{slots_in, track_of}
 use Rattle.flat.specs.Roots.{is_of, is_plain, is_track}
 use Rattle.pieces.specs.Short.{AreCuttable}
-use Rattle.flat_roots.proofs.RootLemmas.{root_faultless}
+use Rattle.pieces.proofs.Inner.{root_faultless}
 use Rattle.flat_copies.proofs.CopyLemmas.{taken_more}
 use Rattle.flat_law.proofs.Joined.{ArePlain}
 use Rattle.flat_join.specs.declared.parts.Seat.{Seat}

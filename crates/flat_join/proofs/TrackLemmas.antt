@@ -1,6 +1,6 @@
 -- What inputs give to a joined track.
 use Rattle.std.proofs.Common.{◌≡◌, refl, sym, subst, ap, ap₂, ◌∙◌, ℕ, zero, suc, ◌+◌, ◌<◌, ◌≤◌, ◌^◌, ℤ, pos, ◌≤ℤ◌, ◌<ℤ◌, ◌||◌, Bool, true, false, cond, Option, Some, None, List, [], ◌∷◌, ◌++◌, length, drop, append_assoc, arith}
-use Rattle.std.specs.Prelude.{slice_get, int_lt, nat_lt, not}
+use Rattle.std.specs.Prelude.{slice_get, nat_lt, not}
 use Rattle.std.proofs.lemmas.Bool.Decides.{nat_tests}
 use Rattle.std.proofs.lemmas.Int.{ints}
 use Rattle.std.proofs.lemmas.List.{append-nil}
@@ -10,7 +10,7 @@ use Rattle.otio_model.specs.declared.compositions.ItemOf.{ItemOf}
 use Rattle.otio_model.specs.declared.compositions.Listed.{Listed}
 use Rattle.otio_model.specs.Counts.{count}
 use Rattle.otio_model.specs.Trees.{children_of, items_of}
-use Rattle.coord.proofs.Members.{child_few, next, none_left}
+use Rattle.coord.proofs.Members.{child_few, next, none_left, same_some}
 use Rattle.cuts.specs.Finest.{in_range}
 use Rattle.cuts.specs.Children.{Child, all_made, made, new_gap, is_far, with_first}
 use Rattle.cuts.specs.Cuts.{olds}
@@ -19,9 +19,10 @@ use Rattle.flat.specs.Roots.{is_empty}
 use Rattle.flat_law.proofs.Exists.{range_yes}
 use Rattle.flat_law.proofs.Fit.{kth_at}
 use Rattle.pieces.specs.Short.{AreCuttable}
-use Rattle.flat_roots.proofs.RootLemmas.{same_some, root_faultless, inner_few, inner_cuttable}
+use Rattle.pieces.proofs.Inner.{root_faultless, inner_few, inner_cuttable}
 use Rattle.flat_join.specs.declared.parts.Part.{Part}
 use Rattle.flat_join.specs.Parts.{IsPart, IsAdded, given, list_of, pad_behind, piece, children_from, track_from, tracks_from, with_front}
+use Rattle.pieces.proofs.Tests.{lt_yes, lt_no}
 
 -- ---- the children of an input's track
 
@@ -49,12 +50,6 @@ gap_near n h k e =
     let first : in_range (pos 0) ≡ true = range_yes (pos 0) (omega (arith, ints)) (omega (arith, ints)) in
     let second : in_range n ≡ true = range_yes n (omega (arith, ints, h)) k in
     absurd (cc (sym (ap₂ (λ a b. not a || not b) first second) ∙ e))
-
-lt_yes : (a b : ℤ) → a <ℤ b → int_lt a b ≡ true
-lt_yes a b h = grind (arith, ints)
-
-lt_no : (a b : ℤ) → b ≤ℤ a → int_lt a b ≡ false
-lt_no a b h = grind (arith, ints)
 
 pub no_pad : (r : Rate) (n : ℤ) (old new : List (ItemOf Listed)) → n ≤ℤ pos 0 → new ≡ old
     → IsAdded r (pad n) old new

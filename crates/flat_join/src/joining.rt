@@ -113,11 +113,11 @@ fn no_memory() -> FlatAt
 /// of the first of these. An input is as long as its longest root child, up to whole frames of the
 /// first input's record rate, and at most a million seconds. All else is the first input's. `None`
 /// comes exactly where nothing refuses the inputs and the joined timeline has more than `most`
-/// items below its root stack; then nothing is copied. Else the fault is that of the first input
-/// that has one, at its first place in document order: [`FlatFault::Nested`] for a root child that
-/// is no track or has a source_range or effects, or [`FlatFault::Transition`] for a transition of
-/// an enabled track that reaches an end of its track at which another input stands.
-/// [`FlatFault::Memory`] comes where memory runs out, and then the input is 0.
+/// items below its root stack. Else the fault is that of the first input that has one, at its first
+/// place in document order: [`FlatFault::Nested`] for a root child that is no track or has a
+/// source_range or effects, or [`FlatFault::Transition`] for a transition of an enabled track that
+/// reaches an end of its track at which another input stands. [`FlatFault::Memory`] comes where
+/// memory runs out, and then the input is 0.
 pub fn join_within(
     alloc: Global,
     inputs: &[Timeline],
@@ -143,7 +143,9 @@ pub fn join_within(
     }
 }
 
-/// The inputs one after another, as [`join_within`] says it, however many items there are.
+/// The inputs one after another, as [`join_within`] says it, however many items there are. The
+/// fault is [`FlatFault::Nested`] or [`FlatFault::Transition`] of the first input that has one, as
+/// there, or [`FlatFault::Memory`] where memory runs out, and then the input is 0.
 pub fn join(alloc: Global, inputs: &[Timeline]) -> Result<Timeline, FlatAt>
     requires some { inputs.now ≢ [] }
     requires few { (i : ℕ) (t : AnyTimeline) → slice_get inputs.now i ≡ Some t →

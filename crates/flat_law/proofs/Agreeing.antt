@@ -9,12 +9,12 @@ use Rattle.otio_model.specs.declared.timelines.Timeline.{Timeline}
 use Rattle.otio_model.specs.Trees.{listed, items_of}
 use Rattle.otio_model.specs.Lengths.{sum_of}
 use Rattle.coord.specs.Agreement.{unrated, Agree}
-use Rattle.coord.specs.Looks.{Show, Blank, Frame, Mix, FrameRate, is_blank, list_shows, total}
+use Rattle.coord.specs.Looks.{Show, Blank, FrameRate, is_blank, list_shows, total}
 use Rattle.otio_model.specs.Overlaps.{within}
 use Rattle.coord.specs.Sights.{viewer, sight, looks, lengths_seen}
 use Rattle.coord.specs.Soundness.{IsFaultless}
 use Rattle.coord.specs.Programs.{child_shows, shown_by, at, program, rate_24, start_frame, instant}
-use Rattle.coord.proofs.AgreementLemmas.{program_agrees}
+use Rattle.coord.proofs.AgreementLemmas.{blank_same, cond_same, program_agrees}
 use Rattle.flat.specs.Roots.{is_layer, roots, with_roots}
 use Rattle.flat.specs.Blocked.{IsFree, Blocks}
 use Rattle.flat.specs.Flattened.{IsFlattened, has_kind, flat_index, top_shows}
@@ -32,15 +32,6 @@ whole rate = rate
 -- one rate
 abbrev one : FrameRate → FrameRate
 one rate = rate_24
-
-blank_same : (s : Show) → is_blank (unrated s) ≡ is_blank s
-blank_same Blank = refl
-blank_same (Frame k m r) = refl
-blank_same (Mix k a b w) = refl
-
-cond_same : (b : Bool) (x y : Show) → cond b (unrated x) (unrated y) ≡ unrated (cond b x y)
-cond_same true x y = refl
-cond_same false x y = refl
 
 -- any item can be a root child
 child_agrees : (t : Timeline) (x : ItemOf Listed) (u : ℤ) → unrated (child_shows whole x u) ≡ child_shows one x u

@@ -8,11 +8,11 @@ use Rattle.otio_model.specs.declared.compositions.Listed.{Listed}
 use Rattle.otio_model.specs.Overlaps.{within}
 use Rattle.cuts.specs.Children.{ticks}
 use Rattle.edits.specs.Edges.{added}
-use Rattle.cuts_law.proofs.Splice.{yes, above}
+use Rattle.coord.proofs.LookSteps.{is_within, missed_behind}
 use Rattle.flat.specs.Roots.{is_layer, items_in}
 use Rattle.flat.specs.Pieces.{Giver, gives, holder, giver, Piece, AreLongest, no_more, one_more}
 use Rattle.flat.specs.Built.{left_of, nearer, steady_for, IsBefore, Leaves, IsOne}
-use Rattle.flat_law.proofs.Stretches.{same_some}
+use Rattle.coord.proofs.Members.{same_some}
 use Rattle.flat_law.proofs.Firsts.{giver_at, IsGivenAt}
 
 -- ---- one list
@@ -20,13 +20,13 @@ use Rattle.flat_law.proofs.Firsts.{giver_at, IsGivenAt}
 held_same : (k i : ℕ) (s : ℤ) (l : List (ItemOf Listed)) (w v : ℤ) → pos 0 ≤ℤ w → w ≤ℤ v → IsBefore (left_of l w) (v -ℤ w) → holder k i s l v ≡ holder k i s l w
 held_same k i s [] w v n h b = refl
 held_same k i s (x ∷ l) w v n h b = by_lt_z w (ticks x)
-    (λ k1. let e = yes (pos 0) (ticks x) w n k1 in
+    (λ k1. let e = is_within (pos 0) (ticks x) w n k1 in
     let c : (v -ℤ w) <ℤ (ticks x -ℤ w) = rw e at b in
-    rw (e, yes (pos 0) (ticks x) v (omega (arith, ints)) (omega (arith, ints, c))) refl)
-    (λ k1. let e = above (pos 0) (ticks x) w k1 in
+    rw (e, is_within (pos 0) (ticks x) v (omega (arith, ints)) (omega (arith, ints, c))) refl)
+    (λ k1. let e = missed_behind (pos 0) (ticks x) w k1 in
     let c : IsBefore (left_of l (w -ℤ ticks x)) (v -ℤ w) = rw e at b in
     let same : v -ℤ w ≡ (v -ℤ ticks x) -ℤ (w -ℤ ticks x) = omega (arith, ints) in
-    rw (e, above (pos 0) (ticks x) v (omega (arith, ints)))
+    rw (e, missed_behind (pos 0) (ticks x) v (omega (arith, ints)))
     (held_same k (suc i) (s +ℤ ticks x) l (w -ℤ ticks x) (v -ℤ ticks x) (omega (arith, ints)) (omega (arith, ints)) (subst (IsBefore (left_of l (w -ℤ ticks x))) same c)))
 
 -- ---- all layers

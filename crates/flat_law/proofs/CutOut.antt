@@ -11,7 +11,7 @@ use Rattle.otio_model.specs.declared.compositions.TrackOf.{TrackOf}
 use Rattle.otio_model.specs.declared.compositions.Listed.{Listed}
 use Rattle.otio_model.specs.Trees.{items_of}
 use Rattle.otio_model.specs.Lengths.{Range, range_of, sum_of, clip_range}
-use Rattle.coord.specs.Looks.{Show, Blank, Look, FrameRate, list_shows, track_shows, total}
+use Rattle.coord.specs.Looks.{Blank, Look, FrameRate, list_shows, track_shows, total}
 use Rattle.otio_model.specs.Overlaps.{within}
 use Rattle.coord.specs.Speeds.{speed_of}
 use Rattle.coord.specs.Sights.{viewer, View, sight, sights, seen, looks, lengths_seen, overlap_of}
@@ -24,13 +24,15 @@ use Rattle.cuts.specs.Children.{Child, Old, Ranged, ticks, child_looks, made, al
 use Rattle.cuts.specs.Cuts.{left_piece, right_piece, is_whole_at, strip, olds, back, cuts_whole}
 use Rattle.edits.specs.Edges.{added}
 use Rattle.edits.specs.Steady.{IsBlind, IsRangedBefore, AreRangedBefore}
-use Rattle.cuts_law.proofs.Splice.{cases, Place, place, stop, whole, inside, good_back, above, below, yes}
+use Rattle.coord.proofs.LookSteps.{missed_behind, missed_before, is_within}
+use Rattle.cuts_law.proofs.Splice.{cases, Place, place, stop, whole, inside, good_back}
 use Rattle.cuts_law.proofs.Pieces.{left_looks, no_transition, back_looks}
-use Rattle.edits_law.proofs.Made.{made_look, made_looks}
+use Rattle.coord.proofs.Members.{same_some}
+use Rattle.edits_law.proofs.Made.{made_look, made_looks, first_of_two}
 use Rattle.flat.specs.Windowed.{front_alone, window_of}
-use Rattle.flat_law.proofs.Givers.{IsBare, plain_inside, same_bytes, sights_look, sum_total, sum_parts}
-use Rattle.flat_law.proofs.Stretches.{range_of_made, sum_more, first_of_two, same_some}
-use Rattle.flat_law.proofs.Windows.{front_only, IsCutOut, cut_out, stripped_clear}
+use Rattle.flat_law.proofs.Givers.{IsBare, plain_inside, same_bytes, sights_look, sum_total, sum_parts, twice}
+use Rattle.flat_law.proofs.Stretches.{range_of_made, sum_more}
+use Rattle.flat_law.proofs.Windows.{front_only, IsCutOut, cut_out, stripped_clear, blank_both}
 
 -- ---- the front of items looks like that of their looks
 
@@ -55,7 +57,7 @@ ranged_in (Transition c) t s n h k = absurd (omega (arith, ints, h, k))
 ranged_in (Stack c) t s n h k = tt
 ranged_in (Track c) t s n h k = tt
 
-ranged_olds : (l : List (ItemOf Listed)) → AreRangedBefore (olds l)
+pub ranged_olds : (l : List (ItemOf Listed)) → AreRangedBefore (olds l)
 ranged_olds [] = tt
 ranged_olds (x ∷ l) = (tt, ranged_olds l)
 
@@ -185,7 +187,7 @@ known_made r ((Ranged x s n) ∷ c) m e k =
     let w = range_of_made r x s n two.0 two.2 in
     subst AreKnown (sym two.4) (subst (λ y. (j : ℕ) × ((sight y).length ≡ Some j)) w.1 (known_range w.0 x), known_made r c two.1 two.3 k)
 
-known_olds : (l : List (ItemOf Listed)) → AreKnown l → AreKnownChildren (olds l)
+pub known_olds : (l : List (ItemOf Listed)) → AreKnown l → AreKnownChildren (olds l)
 known_olds [] k = tt
 known_olds (x ∷ l) k = (k.0, known_olds l k.1)
 
@@ -252,14 +254,6 @@ plain_known v t n b e =
     let c : ticks (Track t) ≡ pos n = rw (b.range, h) refl in
     c ∙ sym a
 
-twice : (b : Bool) (z : Show) → cond b (cond b z Blank) Blank ≡ cond b z Blank
-twice true z = refl
-twice false z = refl
-
-blank_both : (b : Bool) → cond b Blank Blank ≡ Blank
-blank_both true = refl
-blank_both false = refl
-
 pub any_plain : (rate_kept : FrameRate → FrameRate) (t : TrackOf Listed) (n : ℕ) (u : ℤ) → IsBare t → sum_of (lengths_seen (map sight (items_of t.children))) ≡ Some n
     → child_shows rate_kept (Track t) u ≡ cond (t.enabled && within (pos 0) (total (looks (viewer rate_kept (t.kind)) (items_of t.children))) u) (list_shows (looks (viewer rate_kept (t.kind)) (items_of t.children)) u) Blank
 any_plain rate_kept t n u b e = cases t.enabled
@@ -276,23 +270,23 @@ pub same_window : (v : View) (on : Bool) (s : List (ItemOf Listed)) (a b u w : �
     ≡ cond (on && (within a b w && within (pos 0) (total (looks v s)) w)) (list_shows (looks v s) w) Blank
 same_window v false s a b u w m i e h n = refl
 same_window v true s a b u w m (early k f) e h n = rw f (by_lt_z u (pos 0)
-    (λ j. rw (below (pos 0) (pos 0) u j, below a b w (omega (arith, ints))) refl)
-    (λ j. rw (above (pos 0) (pos 0) u j) (sym (dark (within a b w) (within (pos 0) (total (looks v s)) w) (above (pos 0) (total (looks v s)) w (omega (arith, ints)))))))
+    (λ j. rw (missed_before (pos 0) (pos 0) u j, missed_before a b w (omega (arith, ints))) refl)
+    (λ j. rw (missed_behind (pos 0) (pos 0) u j) (sym (dark (within a b w) (within (pos 0) (total (looks v s)) w) (missed_behind (pos 0) (total (looks v s)) w (omega (arith, ints)))))))
   where
     dark : (c d : Bool) → d ≡ false → cond (c && d) (list_shows (looks v s) w) Blank ≡ Blank
     dark true d g = rw g refl
     dark false d g = refl
 same_window v true s a b u w m (cut k c lengths_known) e h n = by_lt_z u (pos 0)
-    (λ j. rw (below (pos 0) (total (looks v m)) u j, below a b w (omega (arith, ints))) refl)
+    (λ j. rw (missed_before (pos 0) (total (looks v m)) u j, missed_before a b w (omega (arith, ints))) refl)
     (λ j. by_lt_z (total (looks v s)) b
     (λ short. let t = c.long (omega (arith, ints)) in by_lt_z w (total (looks v s))
-    (λ g. rw (yes (pos 0) (total (looks v m)) u j (omega (arith, ints)), yes a b w (omega (arith, ints)) (omega (arith, ints)), yes (pos 0) (total (looks v s)) w (omega (arith, ints)) g)
+    (λ g. rw (is_within (pos 0) (total (looks v m)) u j (omega (arith, ints)), is_within a b w (omega (arith, ints)) (omega (arith, ints)), is_within (pos 0) (total (looks v s)) w (omega (arith, ints)) g)
     (c.shows u j (omega (arith, ints)) ∙ ap (list_shows (looks v s)) (sym e)))
-    (λ g. rw (above (pos 0) (total (looks v m)) u (omega (arith, ints))) (sym (dark (within a b w) (within (pos 0) (total (looks v s)) w) (above (pos 0) (total (looks v s)) w g)))))
+    (λ g. rw (missed_behind (pos 0) (total (looks v m)) u (omega (arith, ints))) (sym (dark (within a b w) (within (pos 0) (total (looks v s)) w) (missed_behind (pos 0) (total (looks v s)) w g)))))
     (λ long. let t = c.short long in by_lt_z w b
-    (λ g. rw (yes (pos 0) (total (looks v m)) u j (omega (arith, ints)), yes a b w (omega (arith, ints)) g, yes (pos 0) (total (looks v s)) w (omega (arith, ints)) (omega (arith, ints)))
+    (λ g. rw (is_within (pos 0) (total (looks v m)) u j (omega (arith, ints)), is_within a b w (omega (arith, ints)) g, is_within (pos 0) (total (looks v s)) w (omega (arith, ints)) (omega (arith, ints)))
     (c.shows u j (omega (arith, ints)) ∙ ap (list_shows (looks v s)) (sym e)))
-    (λ g. rw (above (pos 0) (total (looks v m)) u (omega (arith, ints)), above a b w g) refl)))
+    (λ g. rw (missed_behind (pos 0) (total (looks v m)) u (omega (arith, ints)), missed_behind a b w g) refl)))
   where
     dark : (c d : Bool) → d ≡ false → cond (c && d) (list_shows (looks v s) w) Blank ≡ Blank
     dark true d g = rw g refl

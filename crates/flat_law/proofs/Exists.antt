@@ -11,21 +11,21 @@ use Rattle.limits.specs.Limits.{most_ticks}
 use Rattle.otio_model.specs.declared.compositions.ItemOf.{ItemOf}
 use Rattle.otio_model.specs.declared.compositions.ItemOf.TheVariants.{Clip, Gap, Transition, Stack, Track}
 use Rattle.otio_model.specs.declared.compositions.Listed.{Listed}
-use Rattle.otio_model.specs.Lengths.{length_of, source_of, clip_range}
+use Rattle.otio_model.specs.Lengths.{length_of, source_of}
 use Rattle.coord.specs.declared.faults.ItemFault.{ItemFault}
-use Rattle.coord.specs.declared.faults.ItemFault.TheVariants.{NoLength, Speed, Long}
+use Rattle.coord.specs.declared.faults.ItemFault.TheVariants.{Speed, Long}
 use Rattle.coord.specs.Speeds.{speed_of, media_at, effects_of}
 use Rattle.otio_model.specs.Speeds.{keeps_speed}
-use Rattle.otio_model.specs.Lengths.{trimmed_start, range_start, range_of, from_zero}
-use Rattle.std.specs.Option.{option_or}
+use Rattle.otio_model.specs.Lengths.{trimmed_start}
 use Rattle.otio_model.specs.Trees.{is_transition}
-use Rattle.coord.specs.Soundness.{fault_of, ranged_fault, is_long, media_end, most_end, available_ticks}
+use Rattle.coord.specs.Soundness.{fault_of, is_long, media_end, most_end, available_ticks}
+use Rattle.coord.proofs.ShortItems.{trimmed_near, judged}
 use Rattle.cuts.specs.Finest.{in_range}
 use Rattle.cuts.specs.Nears.{near, near_by, span_of, span_by, is_whole}
 use Rattle.cuts.specs.Children.{Ranged, with_range, start_rate, length_rate, made}
 use Rattle.cuts.specs.Cuts.{is_whole_at}
-use Rattle.cuts_law.proofs.Pieces.{whole_rest, sum-times}
-use Rattle.flat_law.proofs.Givers.{floor_is}
+use Rattle.cuts_law.proofs.Pieces.{whole_rest, sum-times, floor_is}
+use Rattle.edits_law.proofs.Touched.{or_false}
 
 -- ---- times that there are
 
@@ -73,27 +73,8 @@ range_yes z h k =
     let b : int_le z (pos most_ticks) ≡ true = grind (arith, ints) in rw (a, b) refl
 
 -- where an item starts is in range
-abbrev IsNearZero : ℤ → Type 0
-IsNearZero z = ((pos 0 -ℤ pos 705600000000000000000000) ≤ℤ z) × (z ≤ℤ pos 705600000000000000000000)
-
-zero_near : IsNearZero (pos 0)
-zero_near = (omega (arith, ints), omega (arith, ints))
-
-span_near : (s o : Option Span) → IsNearZero (range_start (option_or (option_map range_of s) (option_map range_of o)))
-span_near None None = zero_near
-span_near None (Some s) = (s.start.low, s.start.high)
-span_near (Some s) o = (s.start.low, s.start.high)
-
-zero_span : (s : Option Span) (n : ℕ) → IsNearZero (range_start (option_or (option_map range_of s) (Some (from_zero n))))
-zero_span None n = zero_near
-zero_span (Some s) n = (s.start.low, s.start.high)
-
 pub start_low : (x : ItemOf Listed) → ((pos 0 -ℤ pos 705600000000000000000000) ≤ℤ trimmed_start x) × (trimmed_start x ≤ℤ pos 705600000000000000000000)
-start_low (Clip c) = span_near c.source_range (clip_range c)
-start_low (Gap g) = zero_span g.source_range 0
-start_low (Transition t) = zero_near
-start_low (Stack s) = zero_span s.source_range 0
-start_low (Track t) = zero_span t.source_range 0
+start_low x = ((trimmed_near x).low, (trimmed_near x).high)
 
 sign_high : (m : ℕ) (p : ℤ) → pos 0 ≤ℤ p → pos 0 ≤ℤ (pos m *ℤ p)
 sign_high m (pos s) h = omega (arith, ints)
@@ -131,20 +112,12 @@ pub record IsSoundOne (x : ItemOf Listed) : Type 0 where
   pub low : (pos 0 -ℤ most_end) ≤ℤ media_end x ticks
   pub high : media_end x ticks ≤ℤ most_end
 
-abbrev judged : ItemOf Listed → Option ℕ → Option ItemFault
-judged x None = Some NoLength
-judged x (Some n) = ranged_fault x n
-
-or_false : (a b : Bool) → (a || b) ≡ false → (a ≡ false) × (b ≡ false)
-or_false true b e = absurd (cc e)
-or_false false b e = (refl, e)
-
 and_true : (a b : Bool) → not (a && b) ≡ false → (a ≡ true) × (b ≡ true)
 and_true true true e = (refl, refl)
 and_true true false e = absurd (cc e)
 and_true false b e = absurd (cc e)
 
-nat_most : (m n : ℕ) → nat_lt m n ≡ false → n ≤ m
+pub nat_most : (m n : ℕ) → nat_lt m n ≡ false → n ≤ m
 nat_most m n e = grind arith
 
 nat_least : (m n : ℕ) → n ≤ m → nat_lt m n ≡ false

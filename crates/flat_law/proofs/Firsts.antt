@@ -1,5 +1,5 @@
 -- There is one first fault.
-use Rattle.std.proofs.Common.{◌≡◌, refl, sym, subst, ap, ◌∙◌, ◌⊎◌, inl, inr, ℕ, zero, suc, ◌+◌, ◌<◌, ℤ, pos, ◌+ℤ◌, ◌-ℤ◌, Bool, true, false, Option, Some, None, cond, List, [], ◌∷◌, length, arith}
+use Rattle.std.proofs.Common.{◌≡◌, refl, sym, subst, ap, ◌∙◌, ℕ, zero, suc, ◌+◌, ◌<◌, ℤ, pos, ◌+ℤ◌, ◌-ℤ◌, Bool, true, false, Option, Some, None, cond, List, [], ◌∷◌, length, arith}
 use Rattle.std.specs.Prelude.{slice_get, slice_index_or}
 use Rattle.std.specs.Option.{option_or}
 use Rattle.std.proofs.lemmas.Int.{ints}
@@ -7,7 +7,7 @@ use Rattle.otio_model.specs.declared.compositions.ItemOf.{ItemOf}
 use Rattle.otio_model.specs.declared.compositions.ItemOf.TheVariants.{Clip, Gap, Transition, Stack, Track}
 use Rattle.otio_model.specs.declared.compositions.Listed.{Listed}
 use Rattle.otio_model.specs.Overlaps.{within}
-use Rattle.coord.specs.Soundness.{Precedes}
+use Rattle.coord.proofs.Order.{same, before, behind, compared}
 use Rattle.otio_model.specs.Trees.{is_transition}
 use Rattle.cuts.specs.Children.{ticks}
 use Rattle.flat.specs.declared.faults.Cause.{Cause}
@@ -19,37 +19,9 @@ use Rattle.flat.specs.Windowed as W
 use Rattle.flat.specs.Joined.{JoinBlocks}
 use Rattle.flat.specs.Joined as J
 use Rattle.flat_law.proofs.Givers.{giver_given}
-use Rattle.flat_law.proofs.Stretches.{same_some}
+use Rattle.coord.proofs.Members.{same_some}
 
 -- ---- document order
-
-data Compared (p q : List ℕ) : Type 0 where
-  same : p ≡ q → Compared p q
-  before : Precedes p q → Compared p q
-  behind : Precedes q p → Compared p q
-
-under : (i : ℕ) (p q : List ℕ) → Compared p q → Compared (i ∷ p) (i ∷ q)
-under i p q (same e) = same (ap (λ l. i ∷ l) e)
-under i p q (before h) = before (inr (refl, h))
-under i p q (behind h) = behind (inr (refl, h))
-
-by_order : (i j : ℕ) → (i < j) ⊎ ((j < i) ⊎ (i ≡ j))
-by_order zero zero = inr (inr refl)
-by_order zero (suc j) = inl (omega arith)
-by_order (suc i) zero = inr (inl (omega arith))
-by_order (suc i) (suc j) = elim (by_order i j) [
-  | inl h ↦ inl (omega (arith, h))
-  | inr r ↦ elim r [ inl h ↦ inr (inl (omega (arith, h))) | inr e ↦ inr (inr (omega (arith, e))) ]
-]
-
-compared : (p q : List ℕ) → Compared p q
-compared [] [] = same refl
-compared [] (j ∷ q) = before tt
-compared (i ∷ p) [] = behind tt
-compared (i ∷ p) (j ∷ q) = elim (by_order i j) [
-  | inl h ↦ before (inl h)
-  | inr r ↦ elim r [ inl h ↦ behind (inl h) | inr e ↦ rw e (under j p q (compared p q)) ]
-]
 
 -- where there is one cause at a place, there is one first fault
 pub one_first : (has : List ℕ → Cause → Type 0) → ((p : List ℕ) (c d : Cause) → has p c → has p d → c ≡ d) → (p q : List ℕ) (c d : Cause) → IsFirst has p c → IsFirst has q d → (p ≡ q) × (c ≡ d)

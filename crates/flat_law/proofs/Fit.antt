@@ -14,14 +14,13 @@ use Rattle.otio_model.specs.declared.compositions.Listed.{Listed}
 use Rattle.otio_model.specs.declared.timelines.Timeline.{Timeline}
 use Rattle.otio_model.specs.Trees.{items_of}
 use Rattle.otio_model.specs.Lengths.{Range, from_zero, sum_of, length_of, lengths}
-use Rattle.coord.specs.declared.faults.ItemFault.{ItemFault}
-use Rattle.coord.specs.declared.faults.ItemFault.TheVariants.{NoLength, Speed, Long}
+use Rattle.coord.specs.declared.faults.ItemFault.TheVariants.{Speed, Long}
 use Rattle.coord.specs.Looks.{Blank, Overlap, FrameRate, list_shows, total}
 use Rattle.otio_model.specs.Overlaps.{within}
 use Rattle.coord.specs.Sights.{viewer, View, sight, sights, looks, lengths_seen, overlap_of}
 use Rattle.otio_model.specs.Lengths.{or_zero}
 use Rattle.otio_model.specs.Trees.{is_transition}
-use Rattle.coord.specs.Soundness.{fault_of, ranged_fault}
+use Rattle.coord.specs.Soundness.{fault_of}
 use Rattle.otio_model.specs.Speeds.{keeps_speed}
 use Rattle.coord.specs.Speeds.{effects_of}
 use Rattle.coord.specs.Programs.{child_shows, shown_by, at_by}
@@ -40,9 +39,12 @@ use Rattle.flat_law.proofs.Fair.{has_fair}
 use Rattle.flat_law.proofs.Givers.{IsBare, bare_of}
 use Rattle.flat_law.proofs.Flat.{fault_free, at_root}
 use Rattle.flat_law.proofs.CutOut.{AreKnown, sum_known, any_plain, added_total}
-use Rattle.flat_law.proofs.Windowed.{frame_low}
+use Rattle.edits_law.proofs.EditShown.{frame_low}
 use Rattle.flat_law.proofs.Joins.{AreOpen, HasHead, has_item, AreClosed}
 use Rattle.flat_law.proofs.Joined.{Ready, IsReady, AreReady, ArePlain, AllPlain, good_slots, all_joined}
+use Rattle.edits_law.proofs.Touched.{or_false}
+use Rattle.coord.proofs.ShortItems.{judged}
+use Rattle.flat_law.proofs.Exists.{nat_most}
 
 -- ---- lengths
 
@@ -54,18 +56,11 @@ rounded_low f n h =
     let c : f * (m / f) ≡ (m / f) * f = search (arith) in
     omega (arith, e, k, c)
 
-abbrev judged : ItemOf Listed → Option ℕ → Option ItemFault
-judged x None = Some NoLength
-judged x (Some n) = ranged_fault x n
-
 -- a sound item that is no transition has a length, of at most a million seconds
 pub record IsMeasured (x : ItemOf Listed) : Type 0 where
   pub ticks : ℕ
   pub length : length_of x ≡ Some ticks
   pub most : ticks ≤ most_ticks
-
-nat_most : (m n : ℕ) → nat_lt m n ≡ false → n ≤ m
-nat_most m n e = grind arith
 
 pub measured : (x : ItemOf Listed) → is_transition x ≡ false → fault_of x ≡ None → IsMeasured x
 measured x t e = of (length_of x) refl (rw t at e)
@@ -158,10 +153,6 @@ apart is_first is_last l k x f e on = record {
     all i y o s h = either_false is_first (begins_early (items_in x) i o) is_last (ends_late (items_in x) i o)
         (cases ((not is_first && begins_early (items_in x) i o) || (not is_last && ends_late (items_in x) i o))
         (λ z. absurd (f (k ∷ i ∷ []) C.Crossing (crossing (k ∷ i ∷ []) k i x y o refl e on s h z))) (λ z. z))
-
-or_false : (a b : Bool) → (a || b) ≡ false → (a ≡ false) × (b ≡ false)
-or_false true b e = absurd (cc e)
-or_false false b e = (refl, e)
 
 lt_not : (a b : ℤ) → int_lt a b ≡ false → b ≤ℤ a
 lt_not a b e = grind (arith, ints)

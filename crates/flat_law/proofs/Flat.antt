@@ -12,19 +12,17 @@ use Rattle.otio_model.specs.declared.timelines.Timeline.{Timeline}
 use Rattle.otio_model.specs.Timelines.{bare}
 use Rattle.otio_model.specs.Trees.{listed, items_of, below}
 use Rattle.otio_model.specs.Lengths.{Range, from_zero, sum_of, length_of, lengths}
-use Rattle.coord.specs.declared.faults.ItemFault.{ItemFault}
-use Rattle.coord.specs.declared.faults.ItemFault.TheVariants.{NoLength}
 use Rattle.coord.specs.Looks.{Blank, FrameRate, item_shows}
 use Rattle.otio_model.specs.Overlaps.{within}
 use Rattle.coord.specs.Sights.{viewer, View, sight, looks, lengths_seen}
-use Rattle.coord.specs.Soundness.{IsFaultless, fault_of, ranged_fault}
+use Rattle.coord.specs.Soundness.{IsFaultless, fault_of}
 use Rattle.otio_model.specs.Trees.{is_transition}
 use Rattle.coord.specs.Programs.{child_shows, shown_by, at_by}
 use Rattle.coord.proofs.SightLemmas.{seen_lengths, sights-listed}
 use Rattle.cuts.specs.Children.{ticks}
 use Rattle.edits.specs.After.{rate_of}
-use Rattle.cuts_law.proofs.Splice.{cases, not_held, above}
-use Rattle.cuts_law.proofs.Splice as S
+use Rattle.cuts_law.proofs.Splice.{cases, not_held}
+use Rattle.coord.proofs.LookSteps.{missed_before, missed_behind}
 use Rattle.cuts_law.proofs.Seams.{items_good}
 use Rattle.flat.specs.declared.faults.Cause.TheVariants as C
 use Rattle.flat.specs.Roots.{is_plain, is_nested, is_of, is_layer, items_in, roots, with_roots}
@@ -33,6 +31,7 @@ use Rattle.flat.specs.Blocked.{Blocks, not_plain, nested, transition, phase, IsF
 use Rattle.flat.specs.Flattened.{flat_track, has_kind, in_place, first_of_kind, flat_index, put_flat, AreFlat, IsFlattened, unchanged, changed, top_shows}
 use Rattle.flat_law.proofs.Givers.{IsSimple, AreSimple, giver_given, IsLayer, AreLayers, plain_shows, top_given, item_out}
 use Rattle.flat_law.proofs.Stretches.{AreCut, stretches}
+use Rattle.coord.proofs.ShortItems.{judged}
 
 -- ---- nothing is refused
 
@@ -47,10 +46,6 @@ layers_by kind (x ∷ l) f = (f 0 x refl, layers_by kind l (λ i y e. f (suc i) 
 cuts_by : (l : List Piece) → ((p : Piece) → Contains l p → (g : Giver) → p.of ≡ Some g → is_cut p g ≡ true) → AreCut l
 cuts_by [] f = tt
 cuts_by (p ∷ l) f = (f p (0, omega arith, refl), cuts_by l (λ q c. let h = c.1 in f q (suc c.0, omega arith, c.2)))
-
-abbrev judged : ItemOf Listed → Option ℕ → Option ItemFault
-judged x None = Some NoLength
-judged x (Some n) = ranged_fault x n
 
 -- an item without a fault that is no transition has a length
 pub length_known : (x : ItemOf Listed) → is_transition x ≡ false → fault_of x ≡ None → (n : ℕ) × (length_of x ≡ Some n)
@@ -146,10 +141,10 @@ flat_shows t kind items rate_kept u blind s f a =
     ∙ ap (λ l. item_shows (looks v l) u) same in
     let long = sh.long in
     own ∙ by_lt_z u (pos 0)
-    (λ h. not_held (looks v items) u (items_good (looks v items) sh.items) h ∙ sym (out_top rate_kept kind (roots t) u (λ n k. S.below (pos 0) n u h)))
+    (λ h. not_held (looks v items) u (items_good (looks v items) sh.items) h ∙ sym (out_top rate_kept kind (roots t) u (λ n k. missed_before (pos 0) n u h)))
     (λ h. by_lt_z u end
     (λ k. ap (item_shows (looks v items)) (let e : u ≡ u -ℤ pos 0 = omega (arith, ints) in e) ∙ sh.shows u h k ∙ top_given rate_kept kind 0 (roots t) u (layers t kind s f))
-    (λ k. item_out (looks v items) u (items_good (looks v items) sh.items) (omega (arith, ints)) ∙ sym (out_top rate_kept kind (roots t) u (λ n m. above (pos 0) n u (omega (arith, ints))))))
+    (λ k. item_out (looks v items) u (items_good (looks v items) sh.items) (omega (arith, ints)) ∙ sym (out_top rate_kept kind (roots t) u (λ n m. missed_behind (pos 0) n u (omega (arith, ints))))))
 
 -- ---- where it stands
 

@@ -14,11 +14,10 @@ use Rattle.otio_model.specs.declared.timelines.Timeline.{Timeline}
 use Rattle.otio_model.specs.Trees.{listed}
 use Rattle.coord.specs.Looks.{Look, total}
 use Rattle.otio_model.specs.Overlaps.{within}
-use Rattle.coord.specs.Sights.{viewer, View, sight, looks}
+use Rattle.coord.specs.Sights.{sight, looks}
 use Rattle.coord.specs.Soundness.{IsFaultless, fault_of}
 use Rattle.otio_model.specs.Trees.{is_transition}
 use Rattle.coord.specs.Soundness.{IsFaultlessItem}
-use Rattle.coord.specs.Programs.{rate_24}
 use Rattle.coord.proofs.SpareLemmas.{faultless_bare}
 use Rattle.cuts.specs.Children.{ticks, with_range, made, plain_gap, new_gap, with_first}
 use Rattle.cuts.specs.Cuts.{is_whole_at}
@@ -29,14 +28,12 @@ use Rattle.flat.specs.Pieces.{Giver, gives, holder, giver, longest, Piece, AreLo
 use Rattle.flat.specs.Blocked.{Blocks, IsFree}
 use Rattle.flat.specs.Flattened.{flat_track, has_kind, in_place, put_flat, AreFlat, IsFlattened, unchanged, changed}
 use Rattle.flat_law.proofs.Givers.{IsGiven, giver_given, both_true, IsBare}
-use Rattle.flat_law.proofs.Stretches.{IsSure, AreCut, sure, left_from, whole_in, whole_like, same_some, stretches}
+use Rattle.coord.proofs.Members.{same_some}
+use Rattle.flat_law.proofs.Stretches.{IsSure, AreCut, sure, left_from, whole_in, whole_like, stretches}
 use Rattle.flat_law.proofs.Flat.{all_cut}
 use Rattle.flat_law.proofs.Exists.{sound_one, fault_none, can_make, range_yes}
-use Rattle.flat_law.proofs.WindowKept.{AllFaultless, own_sound, ticks_is, piece_left, piece_right}
+use Rattle.flat_law.proofs.WindowKept.{AllFaultless, own_sound, ticks_is, piece_left, piece_right, blind}
 use Rattle.flat_law.proofs.WindowSound.{inside_sound, root_sound, listed_sound, track_sound}
-
-abbrev blind : View
-blind = viewer (λ r. rate_24) []
 
 -- ---- what gives an instant is sound
 

@@ -1,8 +1,7 @@
 -- What the topmost enabled track of a kind that isn't Blank shows is what its clip shows that gives the instant.
-use Rattle.std.proofs.Common.{◌≡◌, refl, sym, subst, ap, ◌∙◌, ℕ, suc, ◌+◌, ℤ, pos, negsuc, ◌+ℤ◌, ◌-ℤ◌, ◌*ℤ◌, ◌≤ℤ◌, ◌<ℤ◌, ◌&&◌, Bool, true, false, Option, Some, None, cond, List, [], ◌∷◌, map, arith}
+use Rattle.std.proofs.Common.{◌≡◌, refl, sym, subst, ap, ◌∙◌, ℕ, suc, ◌+◌, ℤ, pos, ◌+ℤ◌, ◌-ℤ◌, ◌*ℤ◌, ◌≤ℤ◌, ◌<ℤ◌, ◌&&◌, Bool, true, false, Option, Some, None, cond, List, [], ◌∷◌, map, arith}
 use Rattle.std.specs.Prelude.{int_lt, int_le, option_map, is_none}
 use Rattle.std.specs.Option.{option_or}
-use Rattle.std.specs.Int.{int_div_euclid, int_rem_euclid}
 use Rattle.std.specs.Str.{bytes_eq}
 use Rattle.std.proofs.lemmas.Slice.Eq.{bytes_eq-Decides}
 use Rattle.std.proofs.lemmas.Int.{ints, by_lt_z}
@@ -26,7 +25,9 @@ use Rattle.coord.specs.Programs.{child_shows}
 use Rattle.coord.proofs.SightLemmas.{sights-items, seen_lengths}
 use Rattle.cuts.specs.Splices.{AreGood, IsItem, AreItems}
 use Rattle.cuts.specs.Children.{ticks}
-use Rattle.cuts_law.proofs.Splice.{cases, not_held, item_past, mix_item, above, below}
+use Rattle.cuts_law.proofs.Pieces.{floor_is, floor_rest}
+use Rattle.coord.proofs.LookSteps.{item_past, mix_item, missed_behind, missed_before}
+use Rattle.cuts_law.proofs.Splice.{cases, not_held}
 use Rattle.cuts_law.proofs.Seams.{total_low, items_good}
 use Rattle.flat.specs.Roots.{is_empty, is_plain, is_nested, is_layer, items_in}
 use Rattle.flat.specs.Pieces.{Giver, gives, holder, giver}
@@ -116,7 +117,7 @@ pick : (v : View) (b : Bool) (g : Giver) (u : ℤ) → given_shows v (cond b (So
 pick v true g u = refl
 pick v false g u = refl
 
-twice : (b : Bool) (z : Show) → cond b (cond b z Blank) Blank ≡ cond b z Blank
+pub twice : (b : Bool) (z : Show) → cond b (cond b z Blank) Blank ≡ cond b z Blank
 twice true z = refl
 twice false z = refl
 
@@ -162,10 +163,10 @@ item_out (x ∷ l) w g h = let a = g.0 in let n = a.whole in let t = total_low l
 -- Blank outside its length, as it is anyway
 bounded : (n : List Look) (w : ℤ) → AreItems n → cond (within (pos 0) (total n) w) (track_shows n w) Blank ≡ item_shows n w
 bounded n w i = by_lt_z w (pos 0)
-    (λ h. rw (below (pos 0) (total n) w h) (sym (not_held n w (items_good n i) h)))
+    (λ h. rw (missed_before (pos 0) (total n) w h) (sym (not_held n w (items_good n i) h)))
     (λ h. by_lt_z w (total n)
     (λ k. rw (yes_within (pos 0) (total n) w h k) (items_alone n w i))
-    (λ k. rw (above (pos 0) (total n) w k) (sym (item_out n w (items_good n i) k))))
+    (λ k. rw (missed_behind (pos 0) (total n) w k) (sym (item_out n w (items_good n i) k))))
 
 -- ---- lengths
 
@@ -190,14 +191,6 @@ pub sights_look : (v : View) (l : Listed) → map (seen v) (sights l) ≡ looks 
 sights_look v l = ap (map (seen v)) (sights-items l) ∙ map_looks v (items_of l)
 
 -- ---- a plain track
-
-pub floor_is : (z : ℤ) → ((int_div_euclid z (pos 1000000) *ℤ pos 1000000) +ℤ int_rem_euclid z (pos 1000000)) ≡ z
-floor_is (pos a) = omega (arith, ints)
-floor_is (negsuc a) = omega (arith, ints)
-
-floor_rest : (z : ℤ) → (pos 0 ≤ℤ int_rem_euclid z (pos 1000000)) × (int_rem_euclid z (pos 1000000) <ℤ pos 1000000)
-floor_rest (pos a) = (omega (arith, ints), omega (arith, ints))
-floor_rest (negsuc a) = (omega (arith, ints), omega (arith, ints))
 
 at_once : (u : ℤ) → media_at (pos 0) (pos 1000000) u ≡ u
 at_once u = let a = floor_is (u *ℤ pos 1000000) in let b = floor_rest (u *ℤ pos 1000000) in omega (arith, ints)

@@ -23,14 +23,14 @@ use Rattle.cuts_law.proofs.Splice.{cases}
 use Rattle.cuts_law.proofs.Seams.{items_later}
 use Rattle.edits_law.proofs.Shaped.{good_join}
 use Rattle.cuts_law.proofs.Pieces.{olds_look, append_looks}
-use Rattle.edits_law.proofs.Made.{made_looks}
+use Rattle.coord.proofs.Members.{same_some}
+use Rattle.edits_law.proofs.Made.{made_looks, first_of_two}
 use Rattle.edits_law.proofs.Parted.{lt_yes}
 use Rattle.flat.specs.Roots.{is_plain}
 use Rattle.flat.specs.Joined.{track_of, own_items, stretch, pad, joined_children, Slot, slots_in, is_new, slots, joined_with, joined_track, joined_tracks, joined_shows}
 use Rattle.flat_law.proofs.Givers.{bare_of}
-use Rattle.flat_law.proofs.Stretches.{first_of_two, same_some}
 use Rattle.flat_law.proofs.Flat.{items-listed}
-use Rattle.flat_law.proofs.CutOut.{AreKnown, known_sum, AreKnownChildren, known_made, any_plain, added_total}
+use Rattle.flat_law.proofs.CutOut.{AreKnown, known_sum, AreKnownChildren, known_made, any_plain, added_total, ranged_olds, known_olds}
 use Rattle.flat_law.proofs.Joins.{AreOpen, HasHead, later_of, open_join, head_join, AreClosed, IsPadded, padded_before, padded_behind}
 
 lt_none : (a b : ℤ) → b ≤ℤ a → int_lt a b ≡ false
@@ -172,10 +172,6 @@ ranged_append : (a b : List Child) → AreRangedBefore a → AreRangedBefore b �
 ranged_append [] b e f = f
 ranged_append (c ∷ a) b e f = (e.0, ranged_append a b e.1 f)
 
-ranged_olds : (l : List (ItemOf Listed)) → AreRangedBefore (olds l)
-ranged_olds [] = tt
-ranged_olds (x ∷ l) = (tt, ranged_olds l)
-
 ranged_pad : (n : ℤ) → AreRangedBefore (pad n)
 ranged_pad n = cases (int_lt (pos 0) n) (λ e. rw e (tt, tt)) (λ e. rw e tt)
 
@@ -189,10 +185,6 @@ known_append : (a b : List Child) → AreKnownChildren a → AreKnownChildren b 
 known_append [] b e f = f
 known_append ((Old x) ∷ a) b e f = (e.0, known_append a b e.1 f)
 known_append ((Ranged x s n) ∷ a) b e f = known_append a b e f
-
-known_olds : (l : List (ItemOf Listed)) → AreKnown l → AreKnownChildren (olds l)
-known_olds [] k = tt
-known_olds (x ∷ l) k = (k.0, known_olds l k.1)
 
 known_pad : (n : ℤ) → AreKnownChildren (pad n)
 known_pad n = cases (int_lt (pos 0) n) (λ e. rw e tt) (λ e. rw e tt)

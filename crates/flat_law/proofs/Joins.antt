@@ -4,7 +4,8 @@ use Rattle.std.proofs.lemmas.Int.{ints, by_lt_z}
 use Rattle.coord.specs.Looks.{Show, Blank, Look, Overlap, item_shows, next_shows, from_end, mix_shows, blank, list_shows, track_shows, total}
 use Rattle.otio_model.specs.Overlaps.{within}
 use Rattle.cuts.specs.Splices.{AreGood, AreItems}
-use Rattle.cuts_law.proofs.Splice.{kind_of, item, transition, IsLater, mix_item, mix_miss, mix_step, side_item, side_transition, not_held, above, below, yes, shows_same}
+use Rattle.coord.proofs.LookSteps.{look_kind, item, transition, mix_item, mix_miss, side_item, missed_behind, missed_before, is_within}
+use Rattle.cuts_law.proofs.Splice.{IsLater, mix_step, side_transition, not_held, shows_same}
 use Rattle.cuts_law.proofs.Seams.{total_low, item_append, items_show, items_behind, items_good}
 use Rattle.edits_law.proofs.Shaped.{total_join}
 
@@ -22,9 +23,9 @@ HasHead (x ∷ l) = x.overlap ≡ None
 
 open_quiet : (p : ℤ → Show) (l : List Look) (b v : ℤ) → AreGood l → AreOpen b l → v <ℤ b → mix_shows p l v ≡ None
 open_quiet p [] b v g c h = refl
-open_quiet p (x ∷ l) b v g c h = let good = g.0 in elim (kind_of x) [
+open_quiet p (x ∷ l) b v g c h = let good = g.0 in elim (look_kind x) [
   | item e ↦ mix_item p x l v e ∙ open_quiet (from_end x) l (b -ℤ x.length) (v -ℤ x.length) g.1 c.1 (omega (arith, ints))
-  | transition o e ↦ let z = good.point o e in let k = c.0 o e in mix_miss p x o l v e (below _ _ v (omega (arith, ints))) ∙ open_quiet p l (b -ℤ x.length) v g.1 c.1 (omega (arith, ints))
+  | transition o e ↦ let z = good.point o e in let k = c.0 o e in mix_miss p x o l v e (missed_before _ _ v (omega (arith, ints))) ∙ open_quiet p l (b -ℤ x.length) v g.1 c.1 (omega (arith, ints))
 ]
 
 pub later_of : (l : List Look) → AreGood l → AreOpen (pos 0) l → HasHead l → IsLater l
@@ -71,14 +72,14 @@ AreClosed (x ∷ l) = ((o : Overlap) → x.overlap ≡ Some o → EndsIn l o) ×
 
 side_kept : (l r : List Look) (w : ℤ) → has_item l ≡ true → next_shows (l ++ r) w ≡ next_shows l w
 side_kept [] r w h = absurd (cc h)
-side_kept (x ∷ l) r w h = elim (kind_of x) [
+side_kept (x ∷ l) r w h = elim (look_kind x) [
   | item e ↦ side_item x (l ++ r) w e ∙ sym (side_item x l w e)
   | transition o e ↦ side_transition x o (l ++ r) w e ∙ side_kept l r w (rw e at h) ∙ sym (side_transition x o l w e)
 ]
 
 mix_kept : (p : ℤ → Show) (l r : List Look) (w : ℤ) → AreGood l → AreClosed l → IsLater r → w <ℤ total l → mix_shows p (l ++ r) w ≡ mix_shows p l w
 mix_kept p [] r w g c u h = u.no_mix p w h
-mix_kept p (x ∷ l) r w g c u h = let good = g.0 in elim (kind_of x) [
+mix_kept p (x ∷ l) r w g c u h = let good = g.0 in elim (look_kind x) [
   | item e ↦ mix_item p x (l ++ r) w e ∙ mix_kept (from_end x) l r (w -ℤ x.length) g.1 c.1 u (omega (arith, ints)) ∙ sym (mix_item p x l w e)
   | transition o e ↦ let z = good.point o e in let k = c.0 o e in mix_step p x o (l ++ r) l w e (side_kept l r w k.side) (mix_kept p l r w g.1 c.1 u (omega (arith, ints)))
 ]
@@ -93,10 +94,10 @@ join_before l r w g c u h = shows_same (l ++ r) l w w (mix_kept blank l r w g c 
 
 mix_beyond : (p : ℤ → Show) (l r : List Look) (w : ℤ) → AreGood l → AreClosed l → IsLater r → total l ≤ℤ w → mix_shows p (l ++ r) w ≡ mix_shows blank r (w -ℤ total l)
 mix_beyond p [] r w g c u h = u.own_side p blank w ∙ ap (mix_shows blank r) (omega (arith, ints))
-mix_beyond p (x ∷ l) r w g c u h = let good = g.0 in let n = good.whole in let t = total_low l g.1 in elim (kind_of x) [
+mix_beyond p (x ∷ l) r w g c u h = let good = g.0 in let n = good.whole in let t = total_low l g.1 in elim (look_kind x) [
   | item e ↦ mix_item p x (l ++ r) w e ∙ mix_beyond (from_end x) l r (w -ℤ x.length) g.1 c.1 u (omega (arith, ints)) ∙ ap (mix_shows blank r) (omega (arith, ints))
   | transition o e ↦ let z = good.point o e in let k = c.0 o e in let a = k.after in
-      mix_miss p x o (l ++ r) w e (above _ _ w (omega (arith, ints)))
+      mix_miss p x o (l ++ r) w e (missed_behind _ _ w (omega (arith, ints)))
       ∙ mix_beyond p l r w g.1 c.1 u (omega (arith, ints)) ∙ ap (mix_shows blank r) (omega (arith, ints))
 ]
 
@@ -107,13 +108,13 @@ join_behind l r w g c u h = shows_same (l ++ r) r w (w -ℤ total l) (mix_beyond
 -- ---- with a gap between
 
 pub track_in : (l : List Look) (w : ℤ) → pos 0 ≤ℤ w → w <ℤ total l → track_shows l w ≡ list_shows l w
-track_in l w h k = rw (yes (pos 0) (total l) w h k)
+track_in l w h k = rw (is_within (pos 0) (total l) w h k)
 
 pub track_before : (l : List Look) (w : ℤ) → w <ℤ pos 0 → track_shows l w ≡ Blank
-track_before l w h = rw (below (pos 0) (total l) w h)
+track_before l w h = rw (missed_before (pos 0) (total l) w h)
 
 pub track_after : (l : List Look) (w : ℤ) → total l ≤ℤ w → track_shows l w ≡ Blank
-track_after l w h = rw (above (pos 0) (total l) w h)
+track_after l w h = rw (missed_behind (pos 0) (total l) w h)
 
 -- a list, nothing up to n, and what follows
 pub record IsPadded (l p r : List Look) (n : ℤ) : Type 0 where

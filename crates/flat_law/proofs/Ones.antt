@@ -9,7 +9,7 @@ use Rattle.edits.specs.After.{rate_of}
 use Rattle.flat.specs.Roots.{roots, with_roots}
 use Rattle.flat.specs.Pieces.{Giver, giver, longest, Piece, AreLongest, no_more, one_more, piece_items}
 use Rattle.flat.specs.Flattened.{flat_track, put_flat, AreFlat, IsFlattened, unchanged, changed}
-use Rattle.flat_law.proofs.Stretches.{same_some}
+use Rattle.coord.proofs.Members.{same_some}
 
 same_end : (g : ℤ → Option Giver) (end at to po : ℤ) (p q : Option Giver) → at <ℤ to → to ≤ℤ end → ((w : ℤ) → at ≤ℤ w → w <ℤ to → g w ≡ p) → (to <ℤ end → g to ≢ p)
     → at <ℤ po → po ≤ℤ end → ((w : ℤ) → at ≤ℤ w → w <ℤ po → g w ≡ q) → p ≡ q → po ≤ℤ to

@@ -37,7 +37,7 @@ use Rattle.flat.specs.Joined.{track_of, own_items, stretch, rounded_up, longest_
 use Rattle.flat.specs.Piled.{IsPiled}
 use Rattle.flat.specs.Straight.{without, straight, IsStraight}
 use Rattle.flat.specs.Answers as answers
-use Rattle.flat_law.proofs.Stretches.{same_some}
+use Rattle.coord.proofs.Members.{same_some}
 use Rattle.flat_law.proofs.Flat.{items-listed}
 use Rattle.flat_law.proofs.Fit.{kth_at}
 use Rattle.flat_law.proofs.Straight.{whole_item, straight-listed, step_out, step_in, add_none}

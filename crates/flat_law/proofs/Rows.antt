@@ -16,7 +16,7 @@ use Rattle.otio_model.specs.declared.compositions.Listed.{Listed}
 use Rattle.cuts.specs.Finest.{rate_24}
 use Rattle.cuts.specs.Children.{all_made}
 use Rattle.cuts.specs.WorkedItems.{frames, dissolve}
-use Rattle.cuts_law.proofs.Splice.{yes, above}
+use Rattle.coord.proofs.LookSteps.{is_within, missed_behind}
 use Rattle.flat.specs.Pieces.{Giver, giver, longest, holder, AreLongest, no_more, one_more}
 use Rattle.flat.specs.Joined.{crossing, JoinBlocks}
 use Rattle.flat.specs.Worked.{video, track, a, b, low, high, layers, giver_a, giver_c, pieces, AreWorked}
@@ -42,13 +42,13 @@ given_is : (w : ℤ) → giver 0 video layers w ≡ given w
 given_is w = ap₂ (λ h l. option_or (holder 1 0 (pos 0) h w) (holder 0 0 (pos 0) l w)) (items-listed high) (items-listed low)
 
 first : (w : ℤ) → frames 0 ≤ℤ w → w <ℤ frames 20 → given w ≡ Some giver_a
-first w h k = rw (yes (pos 0) (frames 20) w h k, yes (pos 0) (frames 100) w h (omega (arith, ints))) refl
+first w h k = rw (is_within (pos 0) (frames 20) w h k, is_within (pos 0) (frames 100) w h (omega (arith, ints))) refl
 
 second : (w : ℤ) → frames 20 ≤ℤ w → w <ℤ frames 50 → given w ≡ Some giver_c
-second w h k = rw (above (pos 0) (frames 20) w h, yes (pos 0) (frames 30) (w -ℤ frames 20) (omega (arith, ints)) (omega (arith, ints))) refl
+second w h k = rw (missed_behind (pos 0) (frames 20) w h, is_within (pos 0) (frames 30) (w -ℤ frames 20) (omega (arith, ints)) (omega (arith, ints))) refl
 
 third : (w : ℤ) → frames 50 ≤ℤ w → w <ℤ frames 100 → given w ≡ Some giver_a
-third w h k = rw (above (pos 0) (frames 20) w (omega (arith, ints)), above (pos 0) (frames 30) (w -ℤ frames 20) (omega (arith, ints)), yes (pos 0) (frames 100) w (omega (arith, ints)) k) refl
+third w h k = rw (missed_behind (pos 0) (frames 20) w (omega (arith, ints)), missed_behind (pos 0) (frames 30) (w -ℤ frames 20) (omega (arith, ints)), is_within (pos 0) (frames 100) w (omega (arith, ints)) k) refl
 
 -- on which track
 abbrev where_is : Option Giver → ℕ

@@ -4,7 +4,7 @@ use Rattle.std.proofs.Common.{◌≡◌, refl, sym, subst, ap, ap₂, ◌∙◌,
 use Rattle.std.specs.Prelude.{slice_get, option_map}
 use Rattle.std.specs.Option.{option_or}
 use Rattle.std.specs.Str.{bytes_eq}
-use Rattle.std.proofs.lemmas.Int.{ints, by_lt_z}
+use Rattle.std.proofs.lemmas.Int.{ints}
 use Rattle.otio_model.specs.declared.compositions.ItemOf.{ItemOf}
 use Rattle.otio_model.specs.declared.compositions.ItemOf.TheVariants.{Clip, Gap, Transition, Stack, Track}
 use Rattle.otio_model.specs.declared.compositions.TrackOf.{TrackOf}
@@ -23,7 +23,8 @@ use Rattle.otio_model.specs.Trees.{is_transition}
 use Rattle.coord.specs.Programs.{shown_by, at_by, kind_of}
 use Rattle.coord.proofs.SightLemmas.{sights-listed, sights-items}
 use Rattle.cuts.specs.Children.{ticks}
-use Rattle.cuts_law.proofs.Splice.{cases, mix_item, above, below}
+use Rattle.coord.proofs.LookSteps.{mix_item, no_hold}
+use Rattle.cuts_law.proofs.Splice.{cases}
 use Rattle.cuts_law.proofs.Sorts.{sort, point, thing}
 use Rattle.flat.specs.Roots.{roots}
 use Rattle.flat.specs.Straight.{without, straight_item, straight_step, straight, IsStraight, still_by, still_step, still_sights, still, still_shows}
@@ -100,13 +101,6 @@ same_total v (x ∷ l) = cases (is_transition x)
     (λ t. let z : ticks x ≡ pos 0 = ap (λ o. pos (or_zero o)) (no_length x t) in let f = same_total v l in
     ap (λ m. total (all_seen v m)) (step_out x l t) ∙ (let e : total (all_seen v (without l)) ≡ ticks x +ℤ total (all_seen v l) = omega (arith, ints) in e))
     (λ t. ap (λ m. total (all_seen v m)) (step_in x l t) ∙ ap (λ n. ticks x +ℤ n) (same_total v l))
-
-no_hold : (x : Look) (l : List Look) (w : ℤ) → x.length ≡ pos 0 → item_shows (x ∷ l) w ≡ item_shows l w
-no_hold x l w e =
-    let same : w -ℤ pos 0 ≡ w = omega (arith, ints) in
-    rw e (by_lt_z w (pos 0)
-    (λ h. rw (below (pos 0) (pos 0) w h) (ap (item_shows l) same))
-    (λ h. rw (above (pos 0) (pos 0) w h) (ap (item_shows l) same)))
 
 same_held : (v : View) (l : List (ItemOf Listed)) (w : ℤ) → item_shows (all_seen v (without l)) w ≡ item_shows (all_seen v l) w
 same_held v [] w = refl

@@ -16,17 +16,15 @@ use Rattle.coord.specs.Sights.{View, Sight, sight, seen, looks, lengths_seen, ov
 use Rattle.otio_model.specs.Lengths.{or_zero, trimmed_start}
 use Rattle.cuts.specs.Splices.{AreItems, IsItem}
 use Rattle.cuts.specs.Splices as L
-use Rattle.cuts.specs.Children.{Ranged, ticks, with_range, made, plain_gap, new_gap, with_first}
+use Rattle.cuts.specs.Children.{Ranged, ticks, with_range, made, plain_gap, new_gap}
 use Rattle.cuts.specs.Cuts.{left_piece, right_piece, is_whole_at}
 use Rattle.edits.specs.Steady.{IsBlind, IsRangedBefore}
-use Rattle.cuts_law.proofs.Splice.{item_past, item_hit}
+use Rattle.coord.proofs.LookSteps.{item_past, item_hit}
 use Rattle.cuts_law.proofs.Pieces.{left_looks, right_looks}
-use Rattle.edits_law.proofs.Made.{made_look}
+use Rattle.coord.proofs.Members.{same_some}
+use Rattle.edits_law.proofs.Made.{first_of_two, made_look}
 use Rattle.flat.specs.Pieces.{Giver, gives, Piece, AreLongest, no_more, one_more, up_to, from_on, piece_item, piece_items, cuts_at, is_cut}
 use Rattle.flat_law.proofs.Givers.{given_shows, IsSimple, AreSimple, IsGiven, both_true}
-
-pub same_some : {A : Type 0} (x y : A) → Some x ≡ Some y → x ≡ y
-same_some x y e = cc e
 
 -- ---- a clip with another range
 
@@ -234,11 +232,6 @@ one_ahead v g at to end p y l h same b s =
           ∙ ap (item_shows (looks v l)) (let e : (w -ℤ at) -ℤ ticks y ≡ w -ℤ to = omega (arith, ints) in e)
           ∙ s.shows w u k);
     }
-
-pub first_of_two : {A : Type 0} (o : Option A) (p : Option (List A)) (m : List A) → with_first o p ≡ Some m → (x : A) × (l : List A) × (o ≡ Some x) × (p ≡ Some l) × (m ≡ x ∷ l)
-first_of_two None p m e = absurd (cc e)
-first_of_two (Some x) None m e = absurd (cc e)
-first_of_two (Some x) (Some l) m e = (x, l, refl, refl, sym (same_some (x ∷ l) m e))
 
 pub sure : (g : ℤ → Option Giver) (at to : ℤ) (p : Option Giver) → ((w : ℤ) (q : Giver) → g w ≡ Some q → IsGiven q w) → at <ℤ to → ((w : ℤ) → at ≤ℤ w → w <ℤ to → g w ≡ p)
     → ((q : Giver) → p ≡ Some q → is_cut (record { from = at; to = to; of = p }) q ≡ true) → IsSure (record { from = at; to = to; of = p })

@@ -23,7 +23,7 @@ use Rattle.cuts.specs.Cuts.{left_piece, right_piece, is_whole_at, strip, olds, b
 use Rattle.edits.specs.Edges.{added}
 use Rattle.cuts_law.proofs.Splice.{cases, place, stop, whole, inside}
 use Rattle.flat.specs.Windowed.{front_alone, stripped, window_of}
-use Rattle.flat_law.proofs.Stretches.{same_some}
+use Rattle.coord.proofs.Members.{same_some}
 use Rattle.flat_law.proofs.CutOut.{front_past, front_in, front_before, back_past, back_in, back_before, whole_past, whole_in, front_whole}
 use Rattle.flat_law.proofs.Exists.{left_made, right_made, sound_one}
 
@@ -125,7 +125,7 @@ strip_sound [] a b s = tt
 strip_sound (x ∷ l) a b s = cases (is_stripped a b (overlap_of x)) (λ t. rw t (strip_sound l a b s.1)) (λ t. rw t (s.0, strip_sound l (a -ℤ ticks x) (b -ℤ ticks x) s.1))
 
 -- a viewer to whom all rates are one
-abbrev blind : View
+abbrev pub blind : View
 blind = viewer (λ r. rate_24) []
 
 pub record WindowMade (r : Rate) (a b : ℤ) (s : List (ItemOf Listed)) : Type 0 where

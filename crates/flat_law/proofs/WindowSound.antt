@@ -16,11 +16,11 @@ use Rattle.otio_model.specs.declared.timelines.Timeline.{Timeline}
 use Rattle.otio_model.specs.Trees.{listed, items_of, below}
 use Rattle.otio_model.specs.Lengths.{Range, from_zero, sum_of, lengths, added as added_lengths}
 use Rattle.coord.specs.Looks.{total}
-use Rattle.coord.specs.Sights.{viewer, View, sight, looks, lengths_seen}
+use Rattle.coord.specs.Sights.{View, sight, looks, lengths_seen}
 use Rattle.otio_model.specs.Lengths.{or_zero}
 use Rattle.coord.specs.Soundness.{IsFaultless, AreFaultless, fault_of}
 use Rattle.coord.specs.Soundness.{IsFaultlessItem}
-use Rattle.coord.specs.Programs.{rate_24, start_frame}
+use Rattle.coord.specs.Programs.{start_frame}
 use Rattle.coord.proofs.SightLemmas.{seen_lengths, sights-listed}
 use Rattle.coord.proofs.SpareLemmas.{faultless_bare}
 use Rattle.cuts.specs.Finest.{in_range}
@@ -35,12 +35,12 @@ use Rattle.flat.specs.Blocked.{IsFree}
 use Rattle.flat.specs.Windowed.{stripped, with_items, window_track, window_tracks, from_start, is_window, IsWindowed, WindowBlocks}
 use Rattle.flat_law.proofs.Fair.{HasFair}
 use Rattle.flat_law.proofs.Givers.{IsBare, bare_of, both_true, sum_parts, sum_total, map_looks}
-use Rattle.flat_law.proofs.Stretches.{same_some}
+use Rattle.coord.proofs.Members.{same_some}
 use Rattle.flat_law.proofs.Flat.{items-listed}
 use Rattle.flat_law.proofs.CutOut.{AreKnown, known_sum, known_strip, plain_known, Windowing, early, cut, windowing}
 use Rattle.flat_law.proofs.Windowed.{IsPlainTrack, ArePlainTracks, plain_tracks, whole_strip, looks_clear, windowing_known, total_stripped}
 use Rattle.flat_law.proofs.Exists.{sound_one, fault_none}
-use Rattle.flat_law.proofs.WindowKept.{AllFaultless, own_sound, ticks_is, stripped_made}
+use Rattle.flat_law.proofs.WindowKept.{AllFaultless, own_sound, ticks_is, stripped_made, blind}
 
 -- ---- items by places
 
@@ -101,9 +101,6 @@ track_sound t m n b s sum short [] y e = subst (λ z. fault_of z ≡ None) (same
 track_sound t m n b s sum short (i ∷ p) y e = under m i p y s e
 
 -- ---- one track's window
-
-abbrev blind : View
-blind = viewer (λ r. rate_24) []
 
 pub record TrackMade (r : Rate) (a b : ℤ) (x : ItemOf Listed) : Type 0 where
   pub item : ItemOf Listed

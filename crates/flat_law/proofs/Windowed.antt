@@ -8,7 +8,6 @@ use Rattle.tick_time.specs.declared.rates.Rate.{Rate}
 use Rattle.tick_time.specs.declared.spans.Span.{Span}
 use Rattle.tick_time.specs.declared.times.Time.{Time}
 use Rattle.tick_time.specs.Rates.{frame}
-use Rattle.tick_time.proofs.Units.{unit_positive}
 use Rattle.tick_time.proofs.Wholes.{count-product}
 use Rattle.otio_model.specs.declared.compositions.Clip.{Clip as ClipRow}
 use Rattle.otio_model.specs.declared.compositions.ItemOf.{ItemOf}
@@ -41,6 +40,7 @@ use Rattle.edits_law.proofs.ListLaws.{good_looks}
 use Rattle.edits_law.proofs.Beside.{total_strip}
 use Rattle.cuts_law.proofs.Sorts.{point, thing, sort}
 use Rattle.edits_law.proofs.Parted.{added_strip}
+use Rattle.edits_law.proofs.EditShown.{frame_low}
 use Rattle.edits_law.proofs.Accepted.{times_low}
 use Rattle.flat.specs.declared.faults.Cause.TheVariants as C
 use Rattle.flat.specs.Roots.{is_plain, items_in, roots, with_roots}
@@ -48,7 +48,8 @@ use Rattle.flat.specs.Pieces.{cuts_at}
 use Rattle.flat.specs.Blocked.{IsFree}
 use Rattle.flat.specs.Windowed.{stripped, window_of, with_items, window_track, window_tracks, from_start, IsWindowed, WindowBlocks, not_plain, phase, window_shows}
 use Rattle.flat_law.proofs.Givers.{bare_of, both_true}
-use Rattle.flat_law.proofs.Stretches.{first_of_two, same_some}
+use Rattle.coord.proofs.Members.{same_some}
+use Rattle.edits_law.proofs.Made.{first_of_two}
 use Rattle.flat_law.proofs.Flat.{fault_free, length_known, items-listed}
 use Rattle.flat_law.proofs.Windows.{stripped_clear}
 use Rattle.flat_law.proofs.CutOut.{AreKnown, known_sum, sum_known, known_strip, Windowing, early, cut, windowing, IsClearOf, same_window, any_plain, whole_before, whole_past, whole_in}
@@ -159,11 +160,6 @@ all_windows rate_kept r (x ∷ l) m a b u w (suc k) blind p e f n h =
     ap (λ q. shown_by rate_kept (slice_get q (suc k)) u) two.4 ∙ all_windows rate_kept r l two.1 a b u w k blind p.1 two.3 f n h
 
 -- ---- frames
-
-pub frame_low : (r : Rate) → 0 < frame r.num r.den
-frame_low r =
-    let a = r.positive in let b = r.at_least_one in
-    let e = unit_positive r.num r.den r.positive (omega (arith, ints)) r.small_num in omega (arith, e)
 
 clip_rates : (c : ClipRow) → rate_of_clip c ≡ frame_rate (unwrap_or (after.clip_rate c) finest.rate_24)
 clip_rates c = of (option_or (clip_range c) c.source_range)

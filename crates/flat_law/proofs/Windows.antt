@@ -5,8 +5,9 @@ use Rattle.std.proofs.lemmas.Int.{ints, by_lt_z}
 use Rattle.coord.specs.Looks.{Show, Blank, Look, item_shows, next_shows, from_end, mix_shows, blank, list_shows, total}
 use Rattle.otio_model.specs.Overlaps.{within}
 use Rattle.cuts.specs.Splices.{empty, left, front, back, strip, is_stripped, IsGood, AreGood}
-use Rattle.cuts_law.proofs.Splice.{kind_of, item, transition, place, stop, whole, inside, AreClear, mix_item, mix_step, side_item, side_transition, item_front, item_back, mix_front, mix_back, back_stop, back_whole, back_cut, front_stop, front_whole, front_cut, front_none, front_gap, cases, clear_strip, good_strip, shows_same}
-use Rattle.cuts_law.proofs.Seams.{no_later, total_low}
+use Rattle.coord.proofs.LookSteps.{look_kind, item, transition, mix_item, side_item}
+use Rattle.cuts_law.proofs.Splice.{place, stop, whole, inside, AreClear, mix_step, side_transition, item_front, item_back, mix_front, mix_back, back_stop, back_whole, back_cut, front_stop, front_whole, front_cut, front_none, front_gap, cases, clear_strip, good_strip, shows_same}
+use Rattle.cuts_law.proofs.Seams.{no_later, total_low, append_none}
 
 -- ---- the front without a gap for what is missing
 
@@ -40,11 +41,7 @@ padding (x ∷ l) t = elim (place t x.length) [
   | inside s k ↦ none (front_cut x l t s k ∙ ap (λ m. m ++ []) (sym (only_cut x l t s k)))
 ]
 
-append_none : (l : List Look) → l ++ [] ≡ l
-append_none [] = refl
-append_none (x ∷ l) = ap (λ m. x ∷ m) (append_none l)
-
-blank_both : (b : Bool) → cond b Blank Blank ≡ Blank
+pub blank_both : (b : Bool) → cond b Blank Blank ≡ Blank
 blank_both true = refl
 blank_both false = refl
 
@@ -54,14 +51,14 @@ item_padded (x ∷ l) n w = ap (cond (within (pos 0) x.length w) (x.shows w)) (i
 
 side_padded : (l : List Look) (n w : ℤ) → next_shows (l ++ (empty n ∷ [])) w ≡ next_shows l w
 side_padded [] n w = refl
-side_padded (x ∷ l) n w = elim (kind_of x) [
+side_padded (x ∷ l) n w = elim (look_kind x) [
   | item e ↦ side_item x (l ++ (empty n ∷ [])) w e ∙ sym (side_item x l w e)
   | transition o e ↦ side_transition x o (l ++ (empty n ∷ [])) w e ∙ side_padded l n w ∙ sym (side_transition x o l w e)
 ]
 
 mix_padded : (p : ℤ → Show) (l : List Look) (n w : ℤ) → mix_shows p (l ++ (empty n ∷ [])) w ≡ mix_shows p l w
 mix_padded p [] n w = refl
-mix_padded p (x ∷ l) n w = elim (kind_of x) [
+mix_padded p (x ∷ l) n w = elim (look_kind x) [
   | item e ↦ mix_item p x (l ++ (empty n ∷ [])) w e ∙ mix_padded (from_end x) l n (w -ℤ x.length) ∙ sym (mix_item p x l w e)
   | transition o e ↦ mix_step p x o (l ++ (empty n ∷ [])) l w e (side_padded l n w) (mix_padded p l n w)
 ]
@@ -107,7 +104,7 @@ only_clear (x ∷ l) t a b c = elim (place t x.length) [
 
 -- only a transition is stripped, and it takes no time
 gone_length : (a b : ℤ) (x : Look) → IsGood x → is_stripped a b x.overlap ≡ true → x.length ≡ pos 0
-gone_length a b x g t = elim (kind_of x) [ item e ↦ absurd (cc (rw e at t)) | transition o e ↦ g.point o e ]
+gone_length a b x g t = elim (look_kind x) [ item e ↦ absurd (cc (rw e at t)) | transition o e ↦ g.point o e ]
 
 pub strip_clear : (l : List Look) (c d a b : ℤ) → AreGood l → AreClear a b l → AreClear a b (strip l c d)
 strip_clear [] c d a b g k = tt

@@ -10,6 +10,7 @@ use std::alloc::{AllocError, Global};
 /// What is wrong, and at which root child or child of one.
 #[derive(Clone, Copy)]
 pub struct Spot {
+    /// What is wrong.
     pub cause: Cause,
     /// The index of the root child.
     pub track: usize,

@@ -5,13 +5,12 @@ use Rattle.otio_model.specs.declared.compositions.ItemOf.{ItemOf}
 use Rattle.otio_model.specs.declared.compositions.ItemOf.TheVariants.{Clip, Gap, Transition, Stack, Track}
 use Rattle.otio_model.specs.declared.compositions.Listed.{Listed}
 use Rattle.otio_model.specs.Trees.{is_transition}
-use Rattle.coord.proofs.Members.{got_below}
+use Rattle.coord.proofs.Members.{got_below, same_some}
 use Rattle.flat.specs.declared.faults.Cause.{Cause}
 use Rattle.flat.specs.declared.faults.Cause.TheVariants as C
 use Rattle.flat.specs.Blocked.{Blocks, IsFree, IsFirst}
 use Rattle.flat.specs.Blocked as B
 use Rattle.flat.specs.Roots.{is_track, is_layer, is_plain, is_nested, items_in}
-use Rattle.flat_law.proofs.Stretches.{same_some}
 use Rattle.flat_roots.specs.Sought.{Under, StartsBelow, IsFreeTo}
 use Rattle.flat_stack.specs.Misfits.{Misfits, child_cause, AreFit, IsMisfit}
 use Rattle.flat_roots.proofs.FirstLemmas.{first_under, free_all, below_or}

@@ -17,23 +17,13 @@ use Rattle.cuts.specs.Cuts.{left_piece, is_whole_at}
 use Rattle.cuts_law.proofs.Splice.{cases}
 use Rattle.flat.specs.Pieces.{up_to, from_on, cuts_at}
 use Rattle.flat_law.proofs.Exists.{left_made, sound_one}
-use Rattle.flat_law.proofs.Stretches.{same_some, whole_in}
+use Rattle.coord.proofs.Members.{same_some}
+use Rattle.flat_law.proofs.Stretches.{whole_in}
 use Rattle.flat_law.proofs.WindowKept.{ticks_is}
 use Rattle.pieces.specs.Short.{IsCuttable}
 use Rattle.pieces.specs.declared.cutting.CutFault.{CutFault}
 use Rattle.pieces.specs.declared.cutting.CutFault.TheVariants as F
-
-lt_yes : (a b : ℤ) → a <ℤ b → int_lt a b ≡ true
-lt_yes a b h = grind (arith, ints)
-
-lt_no : (a b : ℤ) → b ≤ℤ a → int_lt a b ≡ false
-lt_no a b h = grind (arith, ints)
-
-le_yes : (a b : ℤ) → a ≤ℤ b → int_le a b ≡ true
-le_yes a b h = grind (arith, ints)
-
-le_no : (a b : ℤ) → b <ℤ a → int_le a b ≡ false
-le_no a b h = grind (arith, ints)
+use Rattle.pieces.proofs.Tests.{lt_yes, lt_no, le_yes, le_no}
 
 -- ---- whether a cut is needed
 

@@ -6,7 +6,7 @@ use Rattle.tick_time.specs.declared.rates.Rate.{Rate}
 use Rattle.otio_model.specs.declared.compositions.ItemOf.{ItemOf}
 use Rattle.otio_model.specs.declared.compositions.Listed.{Listed}
 use Rattle.coord.specs.Sights.{overlap_of}
-use Rattle.coord.proofs.Members.{none_left}
+use Rattle.coord.proofs.Members.{none_left, same_some}
 use Rattle.cuts.specs.Splices.{is_stripped}
 use Rattle.cuts.specs.Children.{ticks, made, all_made, with_first}
 use Rattle.cuts.specs.Cuts.{left_piece, right_piece, strip, olds, back}
@@ -17,7 +17,6 @@ use Rattle.edits_law.proofs.Parted.{added_strip}
 use Rattle.flat.specs.Pieces.{up_to, from_on, cuts_at}
 use Rattle.flat.specs.Windowed.{front_alone, stripped, window_of, window_track, window_tracks}
 use Rattle.flat_law.proofs.CutOut.{front_past, front_in, front_before, back_past, back_in, back_before}
-use Rattle.flat_law.proofs.Stretches.{same_some}
 use Rattle.otio_model.specs.declared.compositions.ItemOf.TheVariants.{Clip, Gap, Transition, Stack, Track}
 use Rattle.otio_model.specs.declared.compositions.TrackOf.{TrackOf}
 use Rattle.otio_model.specs.Edits.{deeper}
@@ -35,21 +34,10 @@ use Rattle.flat_law.proofs.Fit.{measured, plain_sum}
 use Rattle.flat_law.proofs.Givers.{bare_of}
 use Rattle.flat_stack.specs.Uncut.{is_cut, AreCutTo}
 use Rattle.flat_stack.specs.Passed.{back_of, one_passed, both_lists, passed, IsPut, IsBetween}
-use Rattle.flat_roots.proofs.RootLemmas.{added_next}
+use Rattle.edits.proofs.NextStarts.{added_next}
+use Rattle.pieces.proofs.Tests.{lt_yes, lt_no, le_yes, le_no, lt_is, le_is}
 
 -- ---- tests
-
-lt_yes : (a b : ℤ) → a <ℤ b → int_lt a b ≡ true
-lt_yes a b h = grind (arith, ints)
-
-lt_no : (a b : ℤ) → b ≤ℤ a → int_lt a b ≡ false
-lt_no a b h = grind (arith, ints)
-
-le_yes : (a b : ℤ) → a ≤ℤ b → int_le a b ≡ true
-le_yes a b h = grind (arith, ints)
-
-le_no : (a b : ℤ) → b <ℤ a → int_le a b ≡ false
-le_no a b h = grind (arith, ints)
 
 -- ---- lists that there are
 
@@ -209,12 +197,6 @@ none_more (x ∷ l) = ap (λ m. x ∷ m) (none_more l)
 and_true : (a b : Bool) → (a && b) ≡ true → (a ≡ true) × (b ≡ true)
 and_true true b e = (refl, e)
 and_true false b e = absurd (cc e)
-
-lt_is : (a b : ℤ) → int_lt a b ≡ true → a <ℤ b
-lt_is a b e = grind (arith, ints)
-
-le_is : (a b : ℤ) → int_le a b ≡ true → a ≤ℤ b
-le_is a b e = grind (arith, ints)
 
 -- nothing is put of what ends before the window
 pub none_put : (r : Rate) (a b : ℤ) (x : ItemOf Listed) (c : Bool) (old new : List (ItemOf Listed))

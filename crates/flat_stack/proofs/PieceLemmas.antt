@@ -22,7 +22,7 @@ use Rattle.flat_law.proofs.Built.{given_start}
 use Rattle.flat_law.proofs.Exists.{range_yes, sound_one}
 use Rattle.flat_law.proofs.Firsts.{giver_at}
 use Rattle.flat_law.proofs.Givers.{giver_given, both_true}
-use Rattle.flat_law.proofs.Stretches.{same_some}
+use Rattle.coord.proofs.Members.{same_some}
 use Rattle.flat_law.proofs.WindowKept.{own_sound, ticks_is}
 use Rattle.stretches.specs.declared.halves.Given.{Given}
 use Rattle.stretches.specs.declared.parts.Part.{Part}
@@ -30,7 +30,7 @@ use Rattle.stretches.specs.Runs.{giver_of, given_of, item_in, piece_of}
 use Rattle.flat_stack.specs.Parts.{IsChildOf, IsGivenBy, IsPart, AreParts, AreAll, AreMade}
 use Rattle.flat_stack.specs.Placed.{IsFirstOf}
 use Rattle.flat_stack.proofs.RefusalLemmas.{child_item, given_is}
-use Rattle.flat_roots.proofs.RootLemmas.{root_faultless}
+use Rattle.pieces.proofs.Inner.{root_faultless}
 
 -- ---- how long the longest track is
 

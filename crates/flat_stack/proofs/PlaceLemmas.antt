@@ -6,7 +6,7 @@ use Rattle.otio_model.specs.declared.compositions.ItemOf.{ItemOf}
 use Rattle.otio_model.specs.declared.compositions.Listed.{Listed}
 use Rattle.flat.specs.Roots.{is_of}
 use Rattle.flat.specs.Flattened.{has_kind, in_place}
-use Rattle.flat_law.proofs.Stretches.{same_some}
+use Rattle.coord.proofs.Members.{same_some}
 use Rattle.flat_stack.specs.Placed.{IsFirstOf}
 use Rattle.flat_copies.proofs.CopyLemmas.{taken_more}
 

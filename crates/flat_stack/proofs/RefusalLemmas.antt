@@ -7,7 +7,7 @@ use Rattle.otio_model.specs.declared.compositions.Listed.{Listed}
 use Rattle.otio_model.specs.Counts.{count}
 use Rattle.otio_model.specs.Trees.{items_of, children_of}
 use Rattle.coord.specs.Soundness.{Precedes, AreFaultless}
-use Rattle.coord.proofs.Members.{got_below, child_few, index_few}
+use Rattle.coord.proofs.Members.{got_below, child_few, index_few, same_some}
 use Rattle.cuts_law.proofs.Splice.{cases}
 use Rattle.flat.specs.declared.faults.Cause.{Cause}
 use Rattle.flat.specs.declared.faults.Cause.TheVariants as C
@@ -16,7 +16,6 @@ use Rattle.flat.specs.Pieces.{Giver, giver, longest, cuts_at, is_cut}
 use Rattle.flat.specs.Blocked.{Blocks, IsFree, IsRefused}
 use Rattle.flat.specs.Blocked as B
 use Rattle.flat_law.proofs.Ones.{one_list}
-use Rattle.flat_law.proofs.Stretches.{same_some}
 use Rattle.pieces.specs.Short.{IsCuttable}
 use Rattle.stretches.specs.declared.halves.Given.{Given}
 use Rattle.stretches.specs.declared.parts.Part.{Part}
@@ -29,7 +28,7 @@ use Rattle.flat_stack.specs.Sought.{earlier, IsSought}
 use Rattle.flat_roots.specs.Sought.{IsNear}
 use Rattle.flat_roots.proofs.FirstLemmas.{below_or}
 use Rattle.flat_stack.proofs.SoughtLemmas.{earlier_sought, sought_as}
-use Rattle.flat_roots.proofs.RootLemmas.{inner_short, inner_cuttable, root_faultless}
+use Rattle.pieces.proofs.Inner.{inner_short, inner_cuttable, root_faultless}
 
 -- ---- a child of a track
 

@@ -4,7 +4,7 @@ use Rattle.std.specs.Prelude.{slice_get}
 use Rattle.std.proofs.lemmas.Int.{ints}
 use Rattle.otio_model.specs.declared.compositions.ItemOf.{ItemOf}
 use Rattle.otio_model.specs.declared.compositions.Listed.{Listed}
-use Rattle.coord.proofs.Members.{got_below}
+use Rattle.coord.proofs.Members.{got_below, same_some}
 use Rattle.cuts.specs.Children.{ticks}
 use Rattle.edits.specs.Edges.{added}
 use Rattle.flat.specs.declared.faults.Cause.{Cause}
@@ -14,12 +14,12 @@ use Rattle.flat.specs.Roots.{is_plain, items_in}
 use Rattle.flat.specs.Pieces.{cuts_at}
 use Rattle.flat.specs.Windowed.{WindowBlocks}
 use Rattle.flat.specs.Windowed as W
-use Rattle.flat_law.proofs.Stretches.{same_some}
 use Rattle.flat_roots.specs.Sought.{Under, StartsBelow, IsFreeTo}
 use Rattle.flat_stack.specs.Uncut.{is_cut, AreCutTo, IsUncut, IsPassed}
 use Rattle.flat_roots.proofs.FirstLemmas.{first_under, free_all, below_or}
 use Rattle.flat_roots.proofs.PlaceLemmas.{head_is, next_is, one_two, two_one, none_one, none_before}
-use Rattle.flat_roots.proofs.RootLemmas.{true_false, added_next}
+use Rattle.edits.proofs.NextStarts.{added_next}
+use Rattle.flat_roots.proofs.RootLemmas.{true_false}
 
 -- ---- a root child
 

@@ -1,6 +1,6 @@
 -- Record frames in ticks.
 use Rattle.std.proofs.Common.{◌≡◌, refl, sym, subst, ap, ◌∙◌, ℕ, suc, ◌*◌, ◌≤◌, ℤ, pos, negsuc, ◌+ℤ◌, ◌-ℤ◌, ◌*ℤ◌, ◌≤ℤ◌, ◌<ℤ◌, ◌&&◌, Bool, true, false, Option, Some, None, arith}
-use Rattle.std.specs.Prelude.{int_lt, int_le, IfSome, unsigned_abs, unwrap_or, option_and_then}
+use Rattle.std.specs.Prelude.{IfSome, unsigned_abs, unwrap_or, option_and_then}
 use Rattle.std.specs.Int.{int_div_euclid}
 use Rattle.std.proofs.lemmas.Int.{ints, unsigned_abs-mul}
 use Rattle.std.proofs.Math.Nat.{mul-le-mul_left}
@@ -20,8 +20,10 @@ use Rattle.cuts_law.proofs.Pieces.{sum-times}
 use Rattle.edits.specs.After.{clip_rate, rate_of, frame_of}
 use Rattle.flat.specs.Windowed.{from_start, is_window}
 use Rattle.edits_law.proofs.Accepted.{times_low}
-use Rattle.flat_law.proofs.Windowed.{frame_low}
+use Rattle.edits_law.proofs.EditShown.{frame_low}
 use Rattle.flat_stack.specs.Ends.{first_ticks, IsZone}
+use Rattle.pieces.proofs.Tests.{lt_no, lt_yes, le_no, le_yes}
+use Rattle.pieces.proofs.SameTimes.{range_yes}
 
 -- ---- a timeline that starts on a frame
 
@@ -130,21 +132,6 @@ pub frame_out : (n : ℤ) (r : Rate) → (IsInRange (n *ℤ pos (frame r.num r.d
 frame_out n r h = out_of (n *ℤ pos (frame r.num r.den)) h
 
 -- ---- what is no window, and what is one
-
-lt_no : (a b : ℤ) → b ≤ℤ a → int_lt a b ≡ false
-lt_no a b h = grind (arith, ints)
-
-lt_yes : (a b : ℤ) → a <ℤ b → int_lt a b ≡ true
-lt_yes a b h = grind (arith, ints)
-
-le_no : (a b : ℤ) → b <ℤ a → int_le a b ≡ false
-le_no a b h = grind (arith, ints)
-
-le_yes : (a b : ℤ) → a ≤ℤ b → int_le a b ≡ true
-le_yes a b h = grind (arith, ints)
-
-range_yes : (z : ℤ) → (pos 0 -ℤ pos most_ticks) ≤ℤ z → z ≤ℤ pos most_ticks → in_range z ≡ true
-range_yes z h k = grind (arith, ints)
 
 second_no : (a b : Bool) → b ≡ false → (a && b) ≡ false
 second_no true b e = e

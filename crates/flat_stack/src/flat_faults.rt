@@ -14,14 +14,13 @@ ghost use Rattle.flat_stack.specs.Parts.{AreAll};
 ghost use Rattle.flat_roots.specs.Sought.{IsNear, Under, inner_place};
 ghost use Rattle.flat_stack.specs.Sought.{IsSought};
 
-use crate::flat_tracks::is_layer;
 use crate::refusals::first_refusal;
 use crate::spots::earlier;
 use flat::Cause;
 use flat_roots::{Spot, is_plain};
 use otio_model::{Children, Item, ItemOf};
 use sequences::Text;
-use stretches::Part;
+use stretches::{Part, is_layer};
 
 /// What is wrong with a child of a track that is flattened.
 fn child_cause(item: &Item) -> Option<Cause>

@@ -12,21 +12,11 @@ use sequences::{NamedValues, Sequence, Text};
 use std::alloc::{AllocError, Global};
 
 /// Whether an item is a track of a kind.
-fn is_of(item: &Item, kind: &Text) -> bool
+pub fn is_of(item: &Item, kind: &Text) -> bool
     ensures { result ≡ roots.is_of kind.now item.now }
 {
     match item {
         ItemOf::Track(track) => track.kind.as_str() == kind.as_str(),
-        _ => false,
-    }
-}
-
-/// Whether an item is an enabled track of a kind.
-pub(crate) fn is_layer(item: &Item, kind: &Text) -> bool
-    ensures { result ≡ roots.is_layer kind.now item.now }
-{
-    match item {
-        ItemOf::Track(track) => track.enabled && track.kind.as_str() == kind.as_str(),
         _ => false,
     }
 }

@@ -16,6 +16,7 @@ mod window_faults;
 mod windowing;
 mod zones;
 
+pub use flat_tracks::is_of;
 pub use flattening::flatten;
 pub use piling::pile;
 pub use straightening::without_transitions;

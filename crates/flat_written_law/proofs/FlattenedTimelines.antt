@@ -25,7 +25,9 @@ use Rattle.flat.specs.Pieces.{AreLongest, Giver, Piece, from_on, giver, gives, h
 use Rattle.flat.specs.Pieces.{no_more, one_more, piece_item, piece_items, up_to}
 use Rattle.flat.specs.Roots.{is_layer, is_of, items_in, roots, with_roots}
 use Rattle.flat_law.proofs.FlatSound.{flat_sound}
-use Rattle.flat_law.proofs.Stretches.{first_of_two, same_some, simple_clip}
+use Rattle.coord.proofs.Members.{same_some}
+use Rattle.edits_law.proofs.Made.{first_of_two}
+use Rattle.flat_law.proofs.Stretches.{simple_clip}
 use Rattle.object_law.specs.Writable as W
 use Rattle.object_law.specs.Writable.{AreItems, IsItem, IsTimeline}
 use Rattle.writable_law.proofs.WritableChildren.{AreWritable, each_item}

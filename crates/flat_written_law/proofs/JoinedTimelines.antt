@@ -29,7 +29,8 @@ use Rattle.flat.specs.Joined.{is_new, joined_children, joined_slots, joined_trac
 use Rattle.flat.specs.Joined.{joined_with, own_items, pad, slots, slots_in, stretch, track_of}
 use Rattle.flat.specs.Roots.{is_empty, is_enabled, items_in, roots, with_roots}
 use Rattle.flat_law.proofs.Fit.{kth_at}
-use Rattle.flat_law.proofs.Stretches.{first_of_two, same_some}
+use Rattle.coord.proofs.Members.{same_some}
+use Rattle.edits_law.proofs.Made.{first_of_two}
 use Rattle.object_law.specs.Writable as W
 use Rattle.object_law.specs.Writable.{IsItem, IsTimeline}
 use Rattle.flat_written_law.specs.Inputs.{AreTimelines}

@@ -18,7 +18,7 @@ use Rattle.cuts_law.proofs.Splice.{cases}
 use Rattle.edits_sound.proofs.Apart.{neither}
 use Rattle.edits_sound.proofs.MadeParts.{made_apart}
 use Rattle.flat.specs.Roots.{items_in, roots, with_roots}
-use Rattle.flat_law.proofs.Stretches.{same_some}
+use Rattle.coord.proofs.Members.{same_some}
 use Rattle.object_law.specs.Writable as W
 use Rattle.object_law.specs.Writable.{AreItems, IsItem, IsTimeline}
 use Rattle.writable_law.proofs.CalmTimelines.{stack_items, track_items}

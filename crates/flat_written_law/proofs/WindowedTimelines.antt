@@ -32,7 +32,8 @@ use Rattle.flat.specs.Windowed.{IsWindowed, WindowBlocks, from_start, front_alon
 use Rattle.flat.specs.Windowed.{stripped, window_of, window_track, window_tracks, with_items}
 use Rattle.flat_law.proofs.Fair.{has_fair}
 use Rattle.flat_law.proofs.Givers.{both_true}
-use Rattle.flat_law.proofs.Stretches.{first_of_two, same_some}
+use Rattle.coord.proofs.Members.{same_some}
+use Rattle.edits_law.proofs.Made.{first_of_two}
 use Rattle.flat_law.proofs.Windowed.{mapped}
 use Rattle.flat_law.proofs.WindowSound.{window_sound}
 use Rattle.object_law.specs.Writable as W

@@ -220,8 +220,8 @@ fn send_rows<W: Out>(
 /// frame, the child's index, what is seen there, and a line feed. A child that doesn't exist has no
 /// lines.
 ///
-/// `Sink` comes where a write failed, and `Memory` where memory ran out for a mix. A prefix of the
-/// lines was sent then.
+/// `Sink` comes where a write failed, and `Memory` where memory ran out. A prefix of the lines was
+/// sent then.
 pub fn write_rows<W: Out>(
     alloc: Global,
     timeline: &Timeline,

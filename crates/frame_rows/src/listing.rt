@@ -27,7 +27,7 @@ pub struct Listing {
 /// Why writing rows stopped before their end.
 #[derive(Clone, Copy, Debug, PartialEq, Eq)]
 pub enum RowFault {
-    /// A write of the stream failed, and its count of faults rose.
+    /// A write of the stream failed, and its count of faults rose, or stands at 2^64 - 1.
     Sink,
     /// Memory ran out.
     Memory,

@@ -14,8 +14,8 @@ use json_value::{Json, Members};
 /// empty on a line of its own, and one line feed at the end. The text is JSON (RFC 8259) where the
 /// numerals are.
 ///
-/// It answers `Sink` where a write failed, and then a prefix of the text was sent and the count of
-/// faults rose. It takes no memory.
+/// It answers `Sink` where a write failed, and then a prefix of the text was sent, and the count of
+/// faults rose, or stands at 2^64 - 1. It takes no memory.
 pub fn write_json<W: Out>(value: &Json, out: &mut W) -> Result<(), WriteFault>
     ensures told { Tells (SendsAll (layout value.now) result) (W.known out.old) (W.known out.new) }
     ensures cause { HasCause (W.faults out.old) (W.faults out.new) result }

@@ -92,7 +92,9 @@ impl JsonReader {
         Ok(())
     }
 
-    /// The value of the text that was read. It takes no memory.
+    /// The value of the text that was read; `Syntax` with the number of bytes where these are no
+    /// whole text. After a fault of `feed` it answers that fault, want of memory included. It takes
+    /// no memory.
     pub fn finish(self) -> Result<Json, JsonFault>
         ensures text { IfOk result (λ value. (bytes : List ℕ) → HasRead bytes self →
             text_of bytes value) }

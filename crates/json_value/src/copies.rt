@@ -34,7 +34,7 @@ fn copy_items(alloc: Global, items: &[Json]) -> Result<Vec<Json>, AllocError>
     Ok(copies)
 }
 
-/// Equal members, in memory of their own.
+/// Equal members, in memory of their own. An error comes where memory runs out.
 #[cycle(copy)]
 pub fn copy_members(alloc: Global, members: &Members) -> Result<Members, AllocError>
     ensures { IfOk result (λ copy. copy ≡ members.now) }

@@ -34,7 +34,7 @@ use otio_model::Timeline;
 /// KIND and NAME are JSON strings (RFC 8259, section 7).
 ///
 /// It answers `Sink` where a write failed, and then a prefix of the text was sent and the count of
-/// faults rose. It takes no memory.
+/// faults rose, or stands at 2^64 - 1. It takes no memory.
 pub fn write_listings<W: Out>(
     timeline: &Timeline,
     asked: Listings,

@@ -63,7 +63,8 @@ impl MediaReader {
     /// The media list that all bytes are.
     ///
     /// # Errors
-    /// That of the first line that has one, as [`MediaList::read`] answers it.
+    /// That of the first line that has one, as [`MediaList::read`] answers it, and
+    /// [`MediaFault::Memory`] where memory runs out.
     pub fn finish(self) -> Result<MediaList, MediaFault>
         ensures list { IfOk result (λ list. IsMediaList self list) }
         ensures fault { IfErr result (λ fault. (fault ≡ MediaFault.Memory)

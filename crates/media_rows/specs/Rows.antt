@@ -10,6 +10,15 @@ abbrev pub by_reel : List ℕ → List MediaRow → Option MediaRow
 by_reel reel [] = None
 by_reel reel (row ∷ rows) = cond (bytes_eq reel row.reel) (Some row) (by_reel reel rows)
 
+-- the rows of a media list, where there is one
+abbrev pub MediaRows : Type 0
+MediaRows = Option (List MediaRow)
+
+-- the row of a reel in them
+abbrev pub row_of : MediaRows → List ℕ → Option MediaRow
+row_of None reel = None
+row_of (Some rows) reel = by_reel reel rows
+
 -- the row of a URL
 abbrev pub by_url : List ℕ → List MediaRow → Option MediaRow
 by_url url [] = None

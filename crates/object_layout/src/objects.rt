@@ -17,7 +17,8 @@ use otio_model::{Collection, Object, Timeline};
 use schema_rows::Schema;
 
 /// Sends the layout of the object in JSON, in the written order of its schemas' tables. It takes no
-/// memory. `Sink` comes only where a write failed, and then a prefix of the text was sent.
+/// memory. `Sink` comes only where a write failed, and then a prefix of the text was sent, and the
+/// count of faults rose, or stands at 2^64 - 1.
 pub fn write_object<W: Out>(object: &Object, out: &mut W) -> Result<(), WriteFault>
     ensures told { Tells (SendsAll (layout (json_of object.now)) result) (W.known out.old)
         (W.known out.new) }
@@ -29,7 +30,9 @@ pub fn write_object<W: Out>(object: &Object, out: &mut W) -> Result<(), WriteFau
     buffer.flush(out)
 }
 
-/// The same of a timeline.
+/// Sends the layout of the timeline in JSON, in the written order of its schemas' tables. It takes
+/// no memory. `Sink` comes only where a write failed, and then a prefix of the text was sent, and
+/// the count of faults rose, or stands at 2^64 - 1.
 pub fn write_timeline<W: Out>(timeline: &Timeline, out: &mut W) -> Result<(), WriteFault>
     ensures told { Tells (SendsAll (layout (timeline_json timeline.now)) result) (W.known out.old)
         (W.known out.new) }

@@ -37,7 +37,7 @@ pub struct Timeline {
 }
 
 impl Timeline {
-    /// The timeline of these fields, with nothing to spare. It takes no memory.
+    /// The timeline of these fields. It takes no memory.
     pub fn of(
         alloc: Global,
         metadata: Members,

@@ -101,7 +101,7 @@ fn next_in_pieces(pieces: &[Piece], len: usize, from: usize) -> Option<(usize, u
     None
 }
 
-/// An offset that isn't given is 0.
+/// A transition's offset in ticks, 0 where none is given.
 pub fn offset_ticks(offset: Option<Time>) -> i128
     ensures value { result ≡ offset_of offset }
     ensures low { (pos 0 -ℤ pos most_ticks) ≤ℤ result }
@@ -240,8 +240,9 @@ impl Children {
     /// The first child that is a transition whose overlap holds the instant, in ticks, and its cut:
     /// where it starts. An overlap runs from the in_offset before the cut up to, not including, the
     /// out_offset behind it. A child without a length counts as one of length 0. `None` exactly
-    /// where no overlap holds the instant. It takes no memory, and looks only at pieces that stand
-    /// no further from the instant than the longest overlap reaches.
+    /// where no overlap holds the instant. It takes no memory. In practice it looks only at pieces
+    /// that stand no further from the instant than the longest overlap reaches, which no clause
+    /// says.
     pub fn first_overlap(&self, ticks: i128) -> Option<Seat>
         requires few { count self.now < 2 ^ 32 }
         requires low { pos 0 ≤ℤ ticks }

@@ -59,8 +59,10 @@ fn some_files(alloc: Global) -> Result<MemFiles, AllocError> {
     Ok(files)
 }
 
-// A line of each command, on one file and on several, with a script and with a media list.
-const READ: [Read; 16] = [
+// A line of each command, on one file and on several, with a script and with a media list. A drill
+// makes no call.
+const READ: [Read; 17] = [
+    ("drill 3 20", &[]),
     ("convert --to edl a.edl", &["a.edl"]),
     ("convert a.edl", &["a.edl"]),
     ("convert --media m.txt a.edl", &["a.edl", "m.txt"]),
@@ -222,7 +224,9 @@ fn done_between(
 }
 
 // Lines of which few bytes are sent, in pieces of 16, and of which more are, in pieces of 500.
-const SHORT: [&str; 7] = [
+const SHORT: [&str; 9] = [
+    "drill 3 20",
+    "drill -o d.txt 0 1",
     "convert --to edl a.edl",
     "convert --to edl --wide --media m.txt -o l.edl cut.otio",
     "convert old.otio",
@@ -294,7 +298,13 @@ fn later_calls_of_a_timeline_leave_a_prefix(rt: HostRuntime) -> Result<(), Fail>
     Ok(())
 }
 
-const TOLD: [Told; 11] = [
+const TOLD: [Told; 12] = [
+    (
+        "drill 3 20",
+        Status::Output,
+        [1, 1],
+        b"otio: output failed\n",
+    ),
     (
         "convert gone.otio",
         Status::Input,

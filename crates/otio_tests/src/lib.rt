@@ -9,6 +9,8 @@ mod conform_tests;
 #[cfg(test)]
 mod device_tests;
 #[cfg(test)]
+mod drill_tests;
+#[cfg(test)]
 mod frame_tests;
 #[cfg(test)]
 mod limit_tests;

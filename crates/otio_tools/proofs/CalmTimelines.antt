@@ -7,7 +7,7 @@ use Rattle.coord.specs.Soundness.{IsCalm}
 use Rattle.object_law.specs.Writable as W
 use Rattle.edl_list.specs.declared.list.EventList.{EventList}
 use Rattle.edl_list.specs.Formed.{IsWellFormed}
-use Rattle.edl_frames.specs.Shown.{MediaRows}
+use Rattle.media_rows.specs.Rows.{MediaRows}
 use Rattle.edl_frames.specs.Conformed.{IsTimelineOf}
 use Rattle.schema_up.specs.Upgrades.{upgraded}
 use Rattle.source_files.specs.Formats.{IsOfTables, IsTimeline}

@@ -10,7 +10,7 @@ use Rattle.coord.specs.Soundness.{IsFaultless}
 use Rattle.undo_log.specs.States.{state_of}
 use Rattle.script_text.specs.declared.commands.Command as script
 use Rattle.edl_list.specs.declared.list.EventList.{EventList}
-use Rattle.edl_frames.specs.Shown.{MediaRows}
+use Rattle.media_rows.specs.Rows.{MediaRows}
 use Rattle.source_files.specs.Order.{EachIs}
 use Rattle.source_files.specs.Formats.{Suits}
 use Rattle.source_files.specs.Reading.{Source, IsRefused}

@@ -3,7 +3,7 @@ use Rattle.std.proofs.Common.{◌≡◌, ◌++◌, ℕ, Bool, List, [], ◌∷�
 use Rattle.dev_io.specs.Known.{KnownFiles}
 use Rattle.dev_io.specs.Calls.{Tells}
 use Rattle.otio_model.specs.declared.timelines.Timeline.{Timeline}
-use Rattle.edl_frames.specs.Shown.{MediaRows}
+use Rattle.media_rows.specs.Rows.{MediaRows}
 use Rattle.edl_frames_law.specs.Premises.{AreListed}
 use Rattle.edl_layout.specs.Spelling.{spelling}
 use Rattle.source_files.specs.Order.{FirstIsNot}
@@ -13,12 +13,13 @@ use Rattle.source_files.specs.declared.kinds.Content.{Content}
 use Rattle.source_files.specs.declared.kinds.Content.TheVariants.{Film}
 use Rattle.source_files.specs.declared.kinds.Kind.TheVariants as kinds
 use Rattle.command_words.specs.Asked.{Ask, OtherNames}
+use Rattle.command_words.proofs.Drilling.{not_both as never_drill}
 use Rattle.command_words.specs.declared.requests.Command.TheVariants.{TimelineToList}
 use Rattle.otio_tools.specs.Asked.{Asked, asked_for, files_of, media_source, script_source, read_as}
 use Rattle.otio_tools.specs.Forms.{Answer}
 use Rattle.otio_tools.specs.Conformed.{media_in}
 use Rattle.otio_tools.specs.Carried.{AnswersCarried, NotSound, Left, Carried}
-use Rattle.otio_tools.specs.Answer.{Answers, NoCommand, OnFiles, AnswersHeld, AnswersUnread, Gone, Faulty, AnswersAsked, Unread, Judged}
+use Rattle.otio_tools.specs.Answer.{Answers, NoCommand, OnFiles, ByDrill, AnswersHeld, AnswersUnread, Gone, Faulty, AnswersAsked, Unread, Judged}
 use Rattle.otio_tools.specs.Run.{Streams, Ends, Sends, Directs}
 use Rattle.otio_tools.specs.Kept.{HoldsRows, SendsFrames, KeepsShown}
 use Rattle.otio_tools.specs.declared.Status.{Status}
@@ -123,7 +124,9 @@ owed_kept : (words : List (List ℕ)) (held : Held) (drop wide : Bool) (name : L
     → answer.status ≡ Done → Sends (Directs answer.target answer.output) d
     → SendsFrames held name others.media target d
 owed_kept words held drop wide name others target answer d ask (NoCommand none e) s o =
-    absurd (none (TimelineToList drop wide) name others target ask)
+    absurd (none.no_command (TimelineToList drop wide) name others target ask)
+owed_kept words held drop wide name others target answer d ask (ByDrill seed count aim w h) s o =
+    absurd (never_drill words (TimelineToList drop wide) name others seed count target aim ask w)
 owed_kept words held drop wide name others target answer d ask (OnFiles asked asks a) s o =
     let same = asks_once words asked (asked_for (TimelineToList drop wide) name others target) asks
     (asks_for words (TimelineToList drop wide) name others target ask) in

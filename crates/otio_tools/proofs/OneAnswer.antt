@@ -37,6 +37,11 @@ use Rattle.command_words.specs.declared.requests.Command.{Command}
 use Rattle.command_words.specs.declared.requests.Command.TheVariants.{ListToList, ListToObjects, TimelineToList, ToObjects, ToJson, Frames, ListFrames, Edit, ListEdit}
 use Rattle.command_words.specs.declared.requests.Command.TheVariants.{Cat, ListCat, Stat, ListStat, Tool, ListTool}
 use Rattle.command_words.specs.Asked.{OtherNames}
+use Rattle.command_words.specs.Drills.{AsksDrill}
+use Rattle.command_words.proofs.Drilling.{drill_once as drill_asked_once, not_both as never_drill}
+use Rattle.drill.proofs.OneTally.{one_tally}
+use Rattle.drill_lines.specs.Lines.{tally_text}
+use Rattle.drill_lines.specs.declared.tally.Tally.{Tally}
 use Rattle.undo_log.specs.States.{State}
 use Rattle.script_text.specs.declared.commands.Command as script
 use Rattle.script_text.specs.Scripts.{IsScript}
@@ -47,7 +52,7 @@ use Rattle.command_words.specs.declared.requests.FramesAsked.{FramesAsked}
 use Rattle.media_rows.specs.declared.row.MediaRow.{MediaRow}
 use Rattle.media_list.specs.Lists.{IsMediaList}
 use Rattle.media_list.proofs.OneOutcome.{list_once as media_list_once}
-use Rattle.edl_frames.specs.Shown.{MediaRows}
+use Rattle.media_rows.specs.Rows.{MediaRows}
 use Rattle.edl_frames_law.proofs.OneTimeline.{one_timeline}
 use Rattle.otio_tools.proofs.OneCarried.{carried_once}
 use Rattle.edl_frames_law.proofs.OneFault.{one_fault as one_conform_fault, no_fault as no_conform_fault}
@@ -62,7 +67,7 @@ use Rattle.otio_tools.specs.Conformed.{media_in, AnswersConformed, NotConformed,
 use Rattle.otio_tools.specs.Tools.{AnswersCounted, Counted, Uncounted, counts_alone}
 use Rattle.otio_tools.proofs.OneText.{same_json, same_listings}
 use Rattle.otio_tools.specs.Written.{object_json, AnswersWritten, timeline_text}
-use Rattle.otio_tools.specs.Answer.{Answers, NoCommand, OnFiles, AnswersHeld, AnswersUnread, Gone, Faulty, AnswersAsked, Unread, Judged}
+use Rattle.otio_tools.specs.Answer.{Answers, NoCommand, OnFiles, ByDrill, AnswersDrill, AnswersHeld, AnswersUnread, Gone, Faulty, AnswersAsked, Unread, Judged}
 use Rattle.otio_tools.specs.Run.{Streams, Ends, Gives, Completes}
 use Rattle.otio_tools.specs.declared.Status.{Status}
 use Rattle.otio_tools.specs.declared.Status.TheVariants.{Done, Usage, Refused, Input, Output, Memory}
@@ -632,13 +637,40 @@ asked_once words asked held a b w p q =
     (subst (λ (x : Asked). AnswersAsked x held a) e p)
     (subst (λ (x : Asked). AnswersAsked x held b) e q)
 
+-- a drill has at most one answer
+told_once : (seed count : ℕ) (target : Option (List ℕ)) (a b : Answer)
+    → AnswersDrill seed count target a → AnswersDrill seed count target b → a ≡ b
+told_once seed count target a b i j =
+    i.is ∙ ap (λ (t : Tally). done target (tally_text t))
+    (one_tally seed count i.tally j.tally i.state j.state i.drills j.drills) ∙ sym j.is
+
+drill_once : (words : List (List ℕ)) (seed other count tries : ℕ) (p q : Option (List ℕ))
+    (a b : Answer) → AsksDrill words seed count p → AsksDrill words other tries q
+    → AnswersDrill seed count p a → AnswersDrill other tries q b → a ≡ b
+drill_once words seed other count tries p q a b w v l m =
+    let same = drill_asked_once words seed other count tries p q w v in
+    told_once other tries q a b
+    (subst (λ x. AnswersDrill other tries x a) same.2
+    (subst (λ x. AnswersDrill other x p a) same.1
+    (subst (λ x. AnswersDrill x count p a) same.0 l))) m
+
 pub answer_once : (words : List (List ℕ)) (held : Held) (a b : Answer) → Answers words held a
     → Answers words held b → a ≡ b
 answer_once words held a b (NoCommand h e) (NoCommand k f) = e ∙ sym f
 answer_once words held a b (NoCommand h e) (OnFiles asked w l) =
-    absurd (h asked.command w.name w.others asked.target w.ask)
+    absurd (h.no_command asked.command w.name w.others asked.target w.ask)
+answer_once words held a b (NoCommand h e) (ByDrill seed count target w l) =
+    absurd (h.no_drill seed count target w)
 answer_once words held a b (OnFiles asked w l) (NoCommand h e) =
-    absurd (h asked.command w.name w.others asked.target w.ask)
+    absurd (h.no_command asked.command w.name w.others asked.target w.ask)
+answer_once words held a b (OnFiles asked w l) (ByDrill seed count target v m) =
+    absurd (never_drill words asked.command w.name w.others seed count asked.target target w.ask v)
+answer_once words held a b (ByDrill seed count target w l) (NoCommand h e) =
+    absurd (h.no_drill seed count target w)
+answer_once words held a b (ByDrill seed count target v m) (OnFiles asked w l) =
+    absurd (never_drill words asked.command w.name w.others seed count asked.target target w.ask v)
+answer_once words held a b (ByDrill seed count target w l) (ByDrill other tries aim v m) =
+    drill_once words seed other count tries target aim a b w v l m
 answer_once words held a b (OnFiles asked w l) (OnFiles other v m) =
     asked_once words asked held a b w l
     (subst (λ (x : Asked). AnswersAsked x held b) (asks_once words other asked v w) m)

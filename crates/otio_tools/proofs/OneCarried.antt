@@ -6,7 +6,7 @@ use Rattle.coord.proofs.OneFault.{same_fault, no_fault_of}
 use Rattle.coord.proofs.SpareLemmas.{faultless_bare, fault_bare}
 use Rattle.edl_list.specs.declared.list.EventList.{EventList}
 use Rattle.edl_layout.specs.Spelling.{spelling}
-use Rattle.edl_frames.specs.Shown.{MediaRows}
+use Rattle.media_rows.specs.Rows.{MediaRows}
 use Rattle.edl_frames.specs.Carried.{not_carried, IsListOf, IsNotCarried}
 use Rattle.edl_frames.specs.declared.reasons.NotCarried.{NotCarried}
 use Rattle.edl_frames.specs.declared.reasons.NotCarried.TheVariants as carried

@@ -10,7 +10,7 @@ use Rattle.otio_model.specs.Timelines.{bare}
 use Rattle.coord.specs.Soundness.{IsFaultless}
 use Rattle.coord.proofs.OneFault.{same_fault, no_fault_of}
 use Rattle.coord.proofs.SpareLemmas.{faultless_bare, fault_bare}
-use Rattle.edl_frames.specs.Shown.{MediaRows}
+use Rattle.media_rows.specs.Rows.{MediaRows}
 use Rattle.edl_frames_law.proofs.OneTimeline.{one_timeline}
 use Rattle.edl_frames_law.proofs.OneFault.{one_fault as one_conform_fault, no_fault as no_conform_fault}
 use Rattle.fault_text.specs.Faults.{coord_fault_text, conform_fault_text}

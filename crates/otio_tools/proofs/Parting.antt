@@ -3,7 +3,7 @@ use Rattle.std.proofs.Common.{◌≡◌, ◌≢◌, List, [], ◌∷◌, ◌++�
 use Rattle.std.specs.Global.{Vec}
 use Rattle.media_rows.specs.declared.row.MediaRow.{MediaRow}
 use Rattle.script_text.specs.declared.commands.Command as script
-use Rattle.edl_frames.specs.Shown.{MediaRows}
+use Rattle.media_rows.specs.Rows.{MediaRows}
 use Rattle.source_files.specs.declared.kinds.Content.{Content}
 use Rattle.source_files.specs.declared.kinds.Content.TheVariants as content
 use Rattle.otio_tools.specs.Plan.{AreEditContents, media_content}

@@ -23,7 +23,7 @@ use Rattle.source_files.proofs.Handing.{refused_by}
 use Rattle.source_files.proofs.Order.{first_for}
 use Rattle.command_words.specs.declared.requests.Command.{Command}
 use Rattle.media_rows.specs.declared.row.MediaRow.{MediaRow}
-use Rattle.edl_frames.specs.Shown.{MediaRows}
+use Rattle.media_rows.specs.Rows.{MediaRows}
 use Rattle.edl_frames.specs.Conformed.{IsTimelineOf}
 use Rattle.edl_frames.specs.Refused.{IsAccepted}
 use Rattle.edl_frames.specs.Counted.{item_count}

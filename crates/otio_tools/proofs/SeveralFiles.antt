@@ -7,7 +7,7 @@ use denote.Ref.{Bor}
 use Rattle.dev_io.specs.Known.{KnownFiles}
 use Rattle.dev_io.specs.Calls.{Tells}
 use Rattle.otio_model.specs.declared.timelines.Timeline.{Timeline}
-use Rattle.edl_frames.specs.Shown.{MediaRows}
+use Rattle.media_rows.specs.Rows.{MediaRows}
 use Rattle.fault_text.specs.Reasons.{reason_text}
 use Rattle.media_rows.specs.declared.row.MediaRow.{MediaRow}
 use Rattle.source_files.specs.Order.{EachIs, FirstIsNot}

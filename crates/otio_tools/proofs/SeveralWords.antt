@@ -63,6 +63,7 @@ joining_by (ListTool rate asked) verbs.Tool name others target given r =
 joining_by (Tool asked) verbs.Convert name others target given r = absurd r.asked.means
 joining_by (Tool asked) verbs.Frames name others target given r = absurd r.asked.means
 joining_by (Tool asked) verbs.Edit name others target given r = absurd r.asked.means
+joining_by (Tool asked) verbs.Drill name others target given r = absurd r.asked
 joining_by (Tool asked) verbs.Cat name others target given r =
     absurd (not_named Cat ListCat (Tool asked) (name ∷ given.more) r.asked.rate r.asked.means
     (λ k. cc k) (λ q k. cc k))
@@ -72,6 +73,7 @@ joining_by (Tool asked) verbs.Stat name others target given r =
 joining_by (ListTool rate asked) verbs.Convert name others target given r = absurd r.asked.means
 joining_by (ListTool rate asked) verbs.Frames name others target given r = absurd r.asked.means
 joining_by (ListTool rate asked) verbs.Edit name others target given r = absurd r.asked.means
+joining_by (ListTool rate asked) verbs.Drill name others target given r = absurd r.asked
 joining_by (ListTool rate asked) verbs.Cat name others target given r =
     absurd (not_named Cat ListCat (ListTool rate asked) (name ∷ given.more) r.asked.rate
     r.asked.means (λ k. cc k) (λ q k. cc k))

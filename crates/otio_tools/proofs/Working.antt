@@ -44,6 +44,8 @@ edit_named : (command : Command) (verb : Verb) (name : List ℕ) (others : Other
     → EditsTimeline command → IsSome given.script
 edit_named Edit verbs.Edit name others target given r e = r.asked.script
 edit_named (ListEdit rate) verbs.Edit name others target given r e = r.asked.script
+edit_named Edit verbs.Drill name others target given r e = absurd r.asked
+edit_named (ListEdit rate) verbs.Drill name others target given r e = absurd r.asked
 edit_named Edit verbs.Convert name others target given r e = absurd r.asked.means
 edit_named (ListEdit rate) verbs.Convert name others target given r e = absurd r.asked.means
 edit_named Edit verbs.Frames name others target given r e = absurd r.asked.means

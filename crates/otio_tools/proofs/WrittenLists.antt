@@ -8,7 +8,7 @@ use Rattle.otio_model.specs.declared.timelines.Timeline.{Timeline}
 use Rattle.coord.specs.Programs.{record_rate}
 use Rattle.coord.specs.Soundness.{IsFaultless, IsCalm}
 use Rattle.edl_list.specs.declared.list.EventList.{EventList}
-use Rattle.edl_frames.specs.Shown.{MediaRows}
+use Rattle.media_rows.specs.Rows.{MediaRows}
 use Rattle.edl_frames.specs.Jobs.{mode_in}
 use Rattle.edl_frames.specs.Seats.{is_there}
 use Rattle.edl_frames.specs.Carried.{not_carried, IsListOf}

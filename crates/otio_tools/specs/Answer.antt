@@ -7,10 +7,15 @@ use Rattle.source_files.specs.Reading.{Held, Source, IsRead, AreRead, IsRefusedI
 use Rattle.source_files.specs.declared.kinds.Content.{Content}
 use Rattle.source_files.specs.declared.kinds.Content.TheVariants.{Value, Root, Film, Events, Commands}
 use Rattle.command_words.specs.Asked.{AskNothing}
+use Rattle.command_words.specs.Drills.{AsksDrill}
 use Rattle.command_words.specs.declared.requests.Command.{Command}
 use Rattle.command_words.specs.declared.tools.ToolAsked.{ToolAsked}
 use Rattle.command_words.specs.declared.requests.Command.TheVariants.{ListToList, ListToObjects, TimelineToList, ToObjects, ToJson, Frames, ListFrames, Edit, ListEdit}
 use Rattle.command_words.specs.declared.requests.Command.TheVariants.{Cat, ListCat, Stat, ListStat, Tool, ListTool}
+use Rattle.undo_log.specs.States.{State}
+use Rattle.drill.specs.Told.{DrillsTo}
+use Rattle.drill_lines.specs.Lines.{tally_text}
+use Rattle.drill_lines.specs.declared.tally.Tally.{Tally}
 use Rattle.otio_tools.specs.Asked.{Asked, Asks}
 use Rattle.otio_tools.specs.Forms.{Answer, done, refused, absent, usage}
 use Rattle.otio_tools.specs.Events.{AnswersEvents}
@@ -87,8 +92,17 @@ pub data AnswersAsked (asked : Asked) (held : Held) (answer : Answer) : Type 0 w
       → AnswersHeld asked.command asked.files asked.target contents answer
       → AnswersAsked asked held answer
 
+-- the answer to a drill of this seed and so many edits: what it tells
+pub record AnswersDrill (seed count : ℕ) (target : Option (List ℕ)) (answer : Answer) : Type 0 where
+  pub tally : Tally
+  pub state : State
+  pub drills : DrillsTo seed count tally state
+  pub is : answer ≡ done target (tally_text tally)
+
 -- The answer to the words: that to what they ask for, and usage for all other words.
 pub data Answers (words : List (List ℕ)) (held : Held) (answer : Answer) : Type 0 where
   NoCommand : AskNothing words → answer ≡ usage → Answers words held answer
   OnFiles : (asked : Asked) → Asks words asked → AnswersAsked asked held answer
       → Answers words held answer
+  ByDrill : (seed count : ℕ) (target : Option (List ℕ)) → AsksDrill words seed count target
+      → AnswersDrill seed count target answer → Answers words held answer

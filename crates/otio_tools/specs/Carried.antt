@@ -7,7 +7,7 @@ use Rattle.coord.specs.Soundness.{IsFaultless, IsFaultOf}
 use Rattle.coord.specs.declared.faults.CoordFault.{CoordFault}
 use Rattle.coord.specs.declared.faults.CoordFault.TheVariants as coord
 use Rattle.edl_list.specs.declared.list.EventList.{EventList}
-use Rattle.edl_frames.specs.Shown.{MediaRows}
+use Rattle.media_rows.specs.Rows.{MediaRows}
 use Rattle.edl_frames.specs.Carried.{not_carried, IsListOf, IsNotCarried}
 use Rattle.edl_frames.specs.declared.reasons.NotCarried.{NotCarried}
 use Rattle.edl_frames.specs.declared.reasons.NotCarried.TheVariants as carried

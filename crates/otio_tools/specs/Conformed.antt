@@ -3,7 +3,7 @@ use Rattle.std.specs.Prelude.{◌≡◌, ◌≢◌, ◌≤◌, ℕ, List, [], �
 use Rattle.limits.specs.Limits.{most_items}
 use Rattle.otio_model.specs.declared.timelines.Timeline.{Timeline}
 use Rattle.edl_list.specs.declared.list.EventList.{EventList}
-use Rattle.edl_frames.specs.Shown.{MediaRows}
+use Rattle.media_rows.specs.Rows.{MediaRows}
 use Rattle.edl_frames.specs.Conformed.{IsTimelineOf}
 use Rattle.edl_frames.specs.Refused.{IsAccepted}
 use Rattle.edl_frames.specs.Counted.{item_count}

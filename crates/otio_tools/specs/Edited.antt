@@ -11,7 +11,7 @@ use Rattle.edit_script.specs.Runs.{Runs, Halts}
 use Rattle.edit_script.specs.Keeping.{HoldsEdits}
 use Rattle.script_law.specs.Shown.{IsEditedFrom, opened}
 use Rattle.edit_script.specs.declared.faults.CommandFault.{CommandFault}
-use Rattle.edl_frames.specs.Shown.{MediaRows}
+use Rattle.media_rows.specs.Rows.{MediaRows}
 use Rattle.edit_script.specs.declared.faults.CommandFault.TheVariants as command
 use Rattle.fault_text.specs.Faults.{coord_fault_text, edit_fault_text, far_command_text, undo_fault_text, unlisted_text}
 use Rattle.otio_tools.specs.Forms.{Answer, done, refused}

@@ -5,7 +5,7 @@ use Rattle.limits.specs.Limits.{most_bytes}
 use Rattle.dev_io.specs.Known.{KnownFiles}
 use Rattle.otio_model.specs.declared.timelines.Timeline.{Timeline}
 use Rattle.media_list.specs.Lists.{IsMediaList}
-use Rattle.edl_frames.specs.Shown.{MediaRows}
+use Rattle.media_rows.specs.Rows.{MediaRows}
 use Rattle.edl_written_law.specs.Kept.{KeepsFrames}
 use Rattle.source_files.specs.Formats.{IsTimeline}
 use Rattle.source_files.specs.Reading.{Held}

@@ -16,3 +16,4 @@ pub mod Texts
 pub mod Carried
 pub mod Kept
 pub mod Worked
+pub mod Drilled

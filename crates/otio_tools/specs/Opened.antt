@@ -6,7 +6,7 @@ use Rattle.coord.specs.Soundness.{IsFaultless, IsFaultOf}
 use Rattle.coord.specs.declared.faults.CoordFault.{CoordFault}
 use Rattle.coord.specs.declared.faults.CoordFault.TheVariants as coord
 use Rattle.edl_list.specs.declared.list.EventList.{EventList}
-use Rattle.edl_frames.specs.Shown.{MediaRows}
+use Rattle.media_rows.specs.Rows.{MediaRows}
 use Rattle.edl_frames.specs.Conformed.{IsTimelineOf}
 use Rattle.edl_frames.specs.Refused.{IsAccepted}
 use Rattle.edl_frames.specs.Counted.{item_count}

@@ -2,7 +2,7 @@
 use Rattle.std.specs.Prelude.{◌≡◌, ◌≢◌, ◌++◌, ℕ, Bool, List, [], ◌∷◌, All, None, length, map}
 use Rattle.std.specs.declared.option.Option.{Option}
 use Rattle.otio_model.specs.declared.timelines.Timeline.{Timeline}
-use Rattle.edl_frames.specs.Shown.{MediaRows}
+use Rattle.media_rows.specs.Rows.{MediaRows}
 use Rattle.source_files.specs.Order.{EachIs}
 use Rattle.source_files.specs.Reading.{IsRefused}
 use Rattle.source_files.specs.declared.kinds.Content.{Content}

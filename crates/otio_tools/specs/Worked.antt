@@ -5,6 +5,7 @@ use Rattle.dev_io.specs.Known.{KnownFiles}
 use Rattle.source_files.specs.Reading.{Held, AreRead}
 use Rattle.source_files.specs.declared.kinds.Content.{Content}
 use Rattle.command_words.specs.Asked.{Ask, OtherNames}
+use Rattle.command_words.specs.Drills.{AskNoDrill}
 use Rattle.command_words.specs.declared.requests.Command.{Command}
 use Rattle.otio_tools.specs.Asked.{EditsTimeline, files_of}
 use Rattle.otio_tools.specs.Plan.{IsWorkHeld}
@@ -42,3 +43,8 @@ LeavesDesk words Memory on_desk old = Unit {0}
 abbrev pub AskNoEdit : List (List ℕ) → Type 0
 AskNoEdit words = (command : Command) (name : List ℕ) (others : OtherNames)
     (target : Option (List ℕ)) → EditsTimeline command → Ask words command name others target → ⊥
+
+-- the words ask for nothing that is left on the desk
+pub record AskNoWork (words : List (List ℕ)) : Type 0 where
+  pub no_edit : AskNoEdit words
+  pub no_drill : AskNoDrill words

@@ -10,17 +10,19 @@ ghost use Rattle.otio_tools.specs.Asked.{IsScripted, EditsTimeline};
 ghost use Rattle.otio_model.specs.Counts.{count as count_below};
 ghost use Rattle.otio_tools.specs.Several.{HasJoining};
 ghost use Rattle.otio_tools.specs.Written.{listings_text, object_json, timeline_text};
-ghost use Rattle.otio_tools.specs.Worked.{AskNoEdit, LeavesDesk};
+ghost use Rattle.otio_tools.specs.Worked.{AskNoWork, LeavesDesk};
+ghost use Rattle.otio_tools.specs.Drilled.{EndsDrills};
 ghost use Rattle.otio_tools.specs.Texts.{text_at};
 ghost use Rattle.otio_tools.specs.Kept.{KeepsShown};
 ghost use Rattle.otio_tools.specs.Run.{Completes, Ends, Says, KeepsStill, no_memory, streams};
 ghost use Rattle.otio_tools.specs.Plan.{AreRows, CanBeShown, Carries, Complains, Fits, HasSendCause, IsWritableIn, desk_after, desk_planned, Writes, WritesTo, text_planned, message_about, message_unsent, status_of, status_unsent};
 ghost use Rattle.source_files.specs.declared.faults.ReadFault.TheVariants.{Refused as RefusedFor};
 
+use crate::drilled::serve_drill;
 use crate::planned::{Planned, plan};
 use crate::say::{say, say_of, say_why};
 use crate::{Desk, Status};
-use command_words::{Request, WordsFault, request_of};
+use command_words::{Request, Task, WordsFault, request_of};
 use dev_io::{Files, Out};
 use edl_layout::write_list;
 use edl_list::EventList;
@@ -73,7 +75,7 @@ const USAGE: &[u8] = b"otio: usage
 /// script S, runs the script's commands on the timeline, with clips of the reels of the media list
 /// that `--media` names, and sends the timeline that they lead to. Refused are a timeline that
 /// isn't sound, and then, told of the script, the first command that is refused. What is sent
-/// stands on `desk` then, with the log of the edits; every other command leaves `desk` as it is.
+/// stands on `desk` then, with the log of the edits.
 ///
 /// `cat FILE...` reads timelines, and lists, which it conforms in the same way, and sends the
 /// timeline that they become one after another, track by track. `tool FILE...` reads the same and
@@ -86,6 +88,16 @@ const USAGE: &[u8] = b"otio: usage
 /// timeline. Refused are the first input that isn't a sound timeline or isn't conformed, and then
 /// the first step that can't be done: told of the input that it fails in, where several are
 /// joined, else of the first.
+///
+/// `drill SEED COUNT` reads no file: it makes a timeline of forty clips by drawing numbers from the
+/// seed, draws and tries as many edits of it, makes its list and conforms that, undoes all edits,
+/// and sends a line for each number: `edits` (accepted), `refused`, `items` (of the track),
+/// `events`, `frames` (record frames of the track), `shown` (the numbers of the source frames that
+/// the conformed timeline shows at them, added up) and `back` (the same after all is undone). Where
+/// a list doesn't carry the timeline, one line `list` with the code and the word of the first
+/// reason stands in place of `events`, `frames` and `shown`. The timeline stands on `desk` then,
+/// with the log of the edits, all undone. Every command but `edit` and `drill` leaves `desk` as it
+/// is.
 ///
 /// `-o OUT` aims `out` at that file before anything is sent.
 /// Each status but `Done` sends one message to `err`; where `err` fails, a prefix of it was sent,
@@ -117,11 +129,17 @@ pub fn run<F: Files, W: Out, E: Out>(
 
     // An edit leaves on the desk the timeline that its script leads to, which is what is sent, and
     // the log of the edits: after each of them every frame shows what its law says, and undoing all
-    // gives the timeline that was read. Every other command leaves nothing there.
+    // gives the timeline that was read.
     ensures worked { let said = map (λ w. string_bytes w) words.now.items in
         IfSome (F.known files.old) (LeavesDesk said result desk.new) }
+
+    // A drill, whatever the devices tell: its tally is sent, and its timeline and log are left on
+    // the desk, with all edits undone. Every command but an edit and a drill leaves nothing there.
+    ensures drilled { let said = map (λ w. string_bytes w) words.now.items in
+        let sent = streams W.faults W.known E.faults E.known out.old out.new err.old err.new in
+        EndsDrills said sent result desk.new }
     ensures unworked { let said = map (λ w. string_bytes w) words.now.items in
-        AskNoEdit said → desk.new ≡ None }
+        AskNoWork said → desk.new ≡ None }
 
     // Where no device failed, the status is that of the answer.
     ensures complete { let said = map (λ w. string_bytes w) words.now.items in
@@ -142,7 +160,8 @@ pub fn run<F: Files, W: Out, E: Out>(
     ensures calm { result ≢ Status.Input → F.faults files.new ≡ F.faults files.old }
 {
     match request_of(alloc, words.as_slice()) {
-        Ok(request) => serve(alloc, request, files, out, err, desk),
+        Ok(Task::OnFiles(request)) => serve(alloc, request, files, out, err, desk),
+        Ok(Task::Drill(asked)) => serve_drill(alloc, asked, out, err, desk),
         Err(WordsFault::Usage) => {
             say(err, &[USAGE]);
             Status::Usage
@@ -243,8 +262,8 @@ fn send<W: Out, E: Out>(
     }
 }
 
-// Sends the message of an output that isn't whole.
-fn complain_of_output<E: Out>(fault: RowFault, err: &mut E) -> Status
+/// Sends the message of an output that isn't whole.
+pub(crate) fn complain_of_output<E: Out>(fault: RowFault, err: &mut E) -> Status
     ensures status { result ≡ status_unsent fault }
     ensures message { Says (E.faults err.old) (E.faults err.new) (E.known err.old) (E.known err.new)
         (message_unsent fault) }
@@ -418,8 +437,8 @@ fn complain_of_refusal<E: Out>(name: &str, refusal: Refusal, err: &mut E) -> Sta
     }
 }
 
-// Sends the message of want of memory.
-fn complain_of_memory<E: Out>(err: &mut E) -> Status
+/// Sends the message of want of memory.
+pub(crate) fn complain_of_memory<E: Out>(err: &mut E) -> Status
     ensures status { result ≡ Status.Memory }
     ensures message { Says (E.faults err.old) (E.faults err.new) (E.known err.old)
         (E.known err.new) no_memory }

@@ -10,6 +10,7 @@ mod carried;
 mod command;
 mod conformed;
 mod counted;
+mod drilled;
 mod edited;
 mod frames;
 mod list;

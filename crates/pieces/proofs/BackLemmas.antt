@@ -9,7 +9,8 @@ use Rattle.cuts.specs.Children.{Child, Old, ticks, made, all_made, with_first}
 use Rattle.cuts.specs.Cuts.{back, right_piece, olds}
 use Rattle.cuts.specs.Children.{is_far, has_far}
 use Rattle.pieces.proofs.Tests.{lt_yes, lt_no, le_yes, le_no}
-use Rattle.pieces.proofs.Grown.{one_more, same_map, none_left}
+use Rattle.coord.proofs.Members.{none_left}
+use Rattle.pieces.proofs.Grown.{one_more, same_map}
 use Rattle.pieces.proofs.SameTimes.{or_left, or_right}
 
 -- so much is made, and the back of what is left is to be made

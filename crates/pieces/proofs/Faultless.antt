@@ -1,14 +1,11 @@
 -- What is known of an item that has no fault.
 use Rattle.std.proofs.Common.{◌≡◌, refl, subst, ap, ◌∙◌, ℕ, ◌≤◌, ℤ, pos, ◌+ℤ◌, ◌-ℤ◌, ◌*ℤ◌, ◌≤ℤ◌, Bool, true, false, cond, Option, Some, None, arith}
-use Rattle.std.specs.Prelude.{option_map, int_le, nat_lt, ◌&&◌, ◌||◌, not}
+use Rattle.std.specs.Prelude.{nat_lt, ◌&&◌, ◌||◌, not}
 use Rattle.std.proofs.lemmas.Int.{ints}
-use Rattle.tick_time.specs.declared.spans.Span.{Span}
 use Rattle.otio_model.specs.declared.compositions.ItemOf.{ItemOf}
 use Rattle.otio_model.specs.declared.compositions.ItemOf.TheVariants.{Clip, Gap, Transition, Stack, Track}
 use Rattle.otio_model.specs.declared.compositions.Listed.{Listed}
-use Rattle.otio_model.specs.Lengths.{length_of, clip_range}
-use Rattle.otio_model.specs.Lengths.{range_start, range_of, from_zero}
-use Rattle.std.specs.Option.{option_or}
+use Rattle.otio_model.specs.Lengths.{length_of}
 use Rattle.otio_model.specs.Lengths.{trimmed_start}
 use Rattle.otio_model.specs.Lengths.{or_zero}
 use Rattle.tick_time.specs.declared.rates.Rate.{Rate}
@@ -20,37 +17,16 @@ use Rattle.coord.specs.Soundness.{fault_of, ranged_fault, is_long, media_end, mo
 use Rattle.cuts.specs.Children.{ticks, made, Ranged}
 use Rattle.cuts.specs.Cuts.{left_piece, right_piece}
 use Rattle.cuts.specs.Children.{is_far}
+use Rattle.coord.proofs.ShortItems.{trimmed_near}
 use Rattle.pieces.specs.Short.{IsShort, IsCuttable}
 use Rattle.pieces.proofs.Grown.{ticks_are}
-
--- a start of a span, or 0, is in range
-abbrev IsNearZero : ℤ → Type 0
-IsNearZero z = ((pos 0 -ℤ pos 705600000000000000000000) ≤ℤ z) × (z ≤ℤ pos 705600000000000000000000)
-
-zero_near : IsNearZero (pos 0)
-zero_near = (omega (arith, ints), omega (arith, ints))
-
-span_near : (s o : Option Span) → IsNearZero (range_start (option_or (option_map range_of s) (option_map range_of o)))
-span_near None None = zero_near
-span_near None (Some s) = (s.start.low, s.start.high)
-span_near (Some s) o = (s.start.low, s.start.high)
-
-zero_span : (s : Option Span) (n : ℕ) → IsNearZero (range_start (option_or (option_map range_of s) (Some (from_zero n))))
-zero_span None n = zero_near
-zero_span (Some s) n = (s.start.low, s.start.high)
-
-trimmed_near : (x : ItemOf Listed) → IsNearZero (trimmed_start x)
-trimmed_near (Clip c) = span_near c.source_range (clip_range c)
-trimmed_near (Gap g) = zero_span g.source_range 0
-trimmed_near (Transition t) = zero_near
-trimmed_near (Stack s) = zero_span s.source_range 0
-trimmed_near (Track t) = zero_span t.source_range 0
+use Rattle.pieces.proofs.Tests.{le_is}
 
 pub start_low : (x : ItemOf Listed) (z : ℤ) → z ≡ trimmed_start x → (pos 0 -ℤ pos 705600000000000000000000) ≤ℤ z
-start_low x z e = rw e (trimmed_near x).0
+start_low x z e = rw e (trimmed_near x).low
 
 pub start_high : (x : ItemOf Listed) (z : ℤ) → z ≡ trimmed_start x → z ≤ℤ pos 705600000000000000000000
-start_high x z e = rw e (trimmed_near x).1
+start_high x z e = rw e (trimmed_near x).high
 
 pub ruleset starts_near = (start_low, start_high)
 
@@ -76,9 +52,6 @@ and_both : (a b : Bool) → (a && b) ≡ true → (a ≡ true) × (b ≡ true)
 and_both true true e = (refl, refl)
 and_both true false e = absurd (cc e)
 and_both false b e = absurd (cc e)
-
-le_is : (a b : ℤ) → int_le a b ≡ true → a ≤ℤ b
-le_is a b e = grind (arith, ints)
 
 not_long : (x : ItemOf Listed) (n : ℕ) → is_long x n ≡ false → IsShortOf x n
 not_long x n e =

@@ -1,12 +1,13 @@
 -- Fronts of lists, made one child after another.
-use Rattle.std.proofs.Common.{◌≡◌, refl, sym, subst, ap, ◌∙◌, ℕ, zero, suc, ◌+◌, ◌≤◌, ℤ, pos, ◌-ℤ◌, ◌≤ℤ◌, ◌<ℤ◌, true, false, List, [], ◌∷◌, ◌++◌, Option, Some, None, drop, length, add-one, arith, append_assoc}
-use Rattle.std.specs.Prelude.{int_lt, int_le, option_map, slice_get}
+use Rattle.std.proofs.Common.{◌≡◌, refl, sym, subst, ap, ◌∙◌, ℕ, ◌+◌, ◌≤◌, ℤ, pos, ◌-ℤ◌, ◌≤ℤ◌, ◌<ℤ◌, true, false, List, [], ◌∷◌, ◌++◌, Option, Some, None, drop, length, arith, append_assoc}
+use Rattle.std.specs.Prelude.{int_lt, int_le, option_map}
 use Rattle.std.proofs.lemmas.Int.{ints}
 use Rattle.tick_time.specs.declared.rates.Rate.{Rate}
 use Rattle.otio_model.specs.declared.compositions.ItemOf.{ItemOf}
 use Rattle.otio_model.specs.declared.compositions.Listed.{Listed}
 use Rattle.otio_model.specs.Lengths.{length_of}
 use Rattle.otio_model.specs.Lengths.{or_zero}
+use Rattle.coord.proofs.Members.{none_left}
 use Rattle.coord.proofs.SightLemmas.{length_seen}
 use Rattle.cuts.specs.Children.{Old, ticks, made, all_made, with_first, new_gap}
 use Rattle.cuts.specs.Cuts.{front, left_piece}
@@ -28,21 +29,6 @@ pub short_small : (x : ItemOf Listed) (n : ℕ) → n ≡ or_zero (length_of x) 
 short_small x n e h = let k = known_short x h in omega (arith, e, k)
 
 pub ruleset short_ticks = (short_value, short_small)
-
-next_in : {A : Type 0} (xs : List A) (i : ℕ) (x : A) → slice_get xs i ≡ Some x → drop i xs ≡ x ∷ drop (suc i) xs
-next_in [] zero x e = absurd (cc e)
-next_in [] (suc i) x e = absurd (cc e)
-next_in (y ∷ xs) zero x e = let same : y ≡ x = cc e in ap (λ z. z ∷ xs) same
-next_in (y ∷ xs) (suc i) x e = next_in xs i x e
-
-pub next : {A : Type 0} (xs : List A) (i : ℕ) (x : A) → slice_get xs i ≡ Some x → drop i xs ≡ x ∷ drop (i + 1) xs
-next xs i x e = rw add-one (next_in xs i x e)
-
-pub none_left : {A : Type 0} (xs : List A) (i : ℕ) → length xs ≤ i → drop i xs ≡ []
-none_left [] zero h = refl
-none_left [] (suc i) h = refl
-none_left (x ∷ xs) zero h = absurd (omega (arith, h))
-none_left (x ∷ xs) (suc i) h = none_left xs i (omega (arith, h))
 
 -- so much is made, and the front of what is left is to be made
 pub record Fronted (rate : Rate) (l : List (ItemOf Listed)) (t : ℤ) (made rest : List (ItemOf Listed)) (left : ℤ) : Type 0 where

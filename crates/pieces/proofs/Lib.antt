@@ -1,6 +1,7 @@
 pub mod Tests
 pub mod SameTimes
 pub mod Grown
+pub mod Inner
 pub mod Faultless
 pub mod BackLemmas
 pub mod StripLemmas

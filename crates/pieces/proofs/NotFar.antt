@@ -12,8 +12,9 @@ use Rattle.coord.specs.Speeds.{media_at, speed_of}
 use Rattle.cuts.specs.Children.{Ranged, has_far, is_far, plain_gap, ticks}
 use Rattle.cuts.specs.Cuts.{back, front, left_piece, olds, right_piece}
 use Rattle.cuts.specs.Finest.{in_range}
+use Rattle.coord.proofs.ShortItems.{trimmed_near}
 use Rattle.pieces.specs.Short.{AreCuttable, IsCuttable}
-use Rattle.pieces.proofs.Faultless.{faultless, faultless_short, start_high, start_low}
+use Rattle.pieces.proofs.Faultless.{faultless, faultless_short}
 use Rattle.pieces.proofs.Grown.{ticks_are}
 use Rattle.pieces.proofs.Tests.{le_no, le_yes, lt_no, lt_yes}
 
@@ -82,8 +83,7 @@ inside s z w q i f (inr b) l h =
     record { low = omega (arith, ints, a, d, l, g); high = omega (arith, ints, a, c, e, j) }
 
 start_inside : (x : ItemOf Listed) → IsInside (trimmed_start x)
-start_inside x =
-    record { low = start_low x (trimmed_start x) refl; high = start_high x (trimmed_start x) refl }
+start_inside x = record { low = (trimmed_near x).low; high = (trimmed_near x).high }
 
 media_inside : (x : ItemOf Listed) (t : ℤ) → fault_of x ≡ None → pos 0 ≤ℤ t → t ≤ℤ ticks x
     → IsInside (media_at (trimmed_start x) (speed_of x) t)

@@ -36,7 +36,7 @@ same_span s t h k = span_built s.start s.len t.start t.len s.forward t.forward h
 
 -- ---- times that are near
 
-range_yes : (z : ℤ) → (pos 0 -ℤ pos most_ticks) ≤ℤ z → z ≤ℤ pos most_ticks → in_range z ≡ true
+pub range_yes : (z : ℤ) → (pos 0 -ℤ pos most_ticks) ≤ℤ z → z ≤ℤ pos most_ticks → in_range z ≡ true
 range_yes z l h = grind (arith, ints)
 
 is_inside : (z : ℤ) → in_range z ≡ true → IsInRange z

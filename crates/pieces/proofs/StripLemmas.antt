@@ -8,7 +8,7 @@ use Rattle.coord.specs.Sights.{overlap_of}
 use Rattle.cuts.specs.Splices.{is_stripped}
 use Rattle.cuts.specs.Children.{ticks}
 use Rattle.cuts.specs.Cuts.{strip}
-use Rattle.pieces.proofs.Grown.{none_left}
+use Rattle.coord.proofs.Members.{none_left}
 
 pub meets_before : (a b c : ℤ) → int_lt (a -ℤ b) c ≡ int_lt (pos 0 -ℤ b) (c -ℤ a)
 meets_before a b c = grind (arith, ints)

@@ -1,4 +1,4 @@
--- Tests of instants, from facts.
+-- Tests of instants, from facts and back.
 use Rattle.std.proofs.Common.{◌≡◌, ℤ, ◌≤ℤ◌, ◌<ℤ◌, true, false, arith}
 use Rattle.std.specs.Prelude.{int_lt, int_le}
 use Rattle.std.proofs.lemmas.Int.{ints}
@@ -14,3 +14,9 @@ le_yes a b h = grind (arith, ints)
 
 pub le_no : (a b : ℤ) → b <ℤ a → int_le a b ≡ false
 le_no a b h = grind (arith, ints)
+
+pub lt_is : (a b : ℤ) → int_lt a b ≡ true → a <ℤ b
+lt_is a b e = grind (arith, ints)
+
+pub le_is : (a b : ℤ) → int_le a b ≡ true → a ≤ℤ b
+le_is a b e = grind (arith, ints)

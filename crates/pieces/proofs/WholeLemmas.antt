@@ -7,7 +7,7 @@ use Rattle.otio_model.specs.declared.compositions.Listed.{Listed}
 use Rattle.cuts.specs.Children.{ticks}
 use Rattle.cuts.specs.Cuts.{cuts_whole, is_whole_at}
 use Rattle.pieces.proofs.Tests.{lt_yes, lt_no, le_yes, le_no}
-use Rattle.pieces.proofs.Grown.{none_left}
+use Rattle.coord.proofs.Members.{none_left}
 
 -- the list can be cut where what is left of it can
 pub record IsWhole (l : List (ItemOf Listed)) (t : ℤ) (rest : List (ItemOf Listed)) (left : ℤ) : Type 0 where

@@ -12,7 +12,7 @@ ghost use Rattle.pieces.specs.Short.{IsCuttable};
 
 use crate::measures::{start_ticks, ticks_of};
 use crate::ranges::{RangedFault, ranged};
-use coord::speed;
+use coord::{media_ticks, speed};
 use otio_model::Item;
 use std::alloc::Global;
 use tick_time::Rate;
@@ -26,21 +26,8 @@ pub enum CutFault {
     Memory,
 }
 
-/// How far so many ticks go in the media, in millionths of a tick.
-fn media_ticks(ticks: i128, speed: i64) -> i128
-    requires low { pos 0 ≤ℤ ticks }
-    requires high { ticks ≤ℤ pos most_ticks }
-    requires speed_low { (pos 0 -ℤ pos 1000000000) ≤ℤ speed }
-    requires speed_high { speed ≤ℤ pos 1000000000 }
-    ensures value { result ≡ (ticks *ℤ speed) }
-    ensures least { (pos 0 -ℤ pos 1000000000000000000000000000000000) ≤ℤ result }
-    ensures most { result ≤ℤ pos 1000000000000000000000000000000000 }
-{
-    ticks * i128::from(speed)
-}
-
-/// Whether so many ticks are whole ticks of the media.
-fn is_whole(ticks: i128, speed: i64) -> bool
+/// Whether so many ticks, at a speed in millionths, play whole ticks of the media.
+pub fn is_whole(ticks: i128, speed: i64) -> bool
     requires low { pos 0 ≤ℤ ticks }
     requires high { ticks ≤ℤ pos most_ticks }
     requires speed_low { (pos 0 -ℤ pos 1000000000) ≤ℤ speed }

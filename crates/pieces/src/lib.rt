@@ -13,9 +13,9 @@ mod strips;
 mod wholes;
 
 pub use backs::back_items;
-pub use cutting::{CutFault, cut, is_whole_at};
+pub use cutting::{CutFault, cut, is_whole, is_whole_at};
 pub use fronts::{front_items, new_gap};
-pub use measures::{sound_ticks, ticks_of};
+pub use measures::{known_ticks, member, sound_ticks, start_ticks, ticks_of};
 pub use ranges::{RangedFault, ranged};
 pub use strips::{is_stripped, strip};
 pub use wholes::{back, cuts_whole, front};

@@ -13,7 +13,7 @@ use coord::trimmed_start;
 use otio_model::Item;
 
 /// The item at an index.
-pub(crate) fn member(list: &[Item], index: usize) -> &Item
+pub fn member(list: &[Item], index: usize) -> &Item
     requires { index < length list.now }
     ensures { slice_get list.now index ≡ Some result.now }
 {
@@ -24,8 +24,8 @@ pub(crate) fn member(list: &[Item], index: usize) -> &Item
 }
 
 /// How long an item is, in ticks, 0 where it has no length.
-fn known_ticks(item: &Item) -> u128
-    requires few { count_of item.now < 2 ^ 32 }
+pub fn known_ticks(item: &Item) -> u128
+    requires { count_of item.now < 2 ^ 32 }
     ensures { result ≡ lengths.or_zero (length_of item.now) }
 {
     match item.length() {
@@ -56,7 +56,7 @@ pub fn ticks_of(item: &Item) -> i128
 
 /// Where the trimmed range of an item starts, in ticks.
 #[tactic(auto, using(crate::proofs::Faultless::starts_near))]
-pub(crate) fn start_ticks(item: &Item) -> i128
+pub fn start_ticks(item: &Item) -> i128
     ensures value { result ≡ lengths.trimmed_start item.now }
     ensures low { (pos 0 -ℤ pos most_ticks) ≤ℤ result }
     ensures high { result ≤ℤ pos most_ticks }

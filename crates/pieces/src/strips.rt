@@ -58,7 +58,8 @@ fn lies_in(at: i128, from: i128, to: i128) -> bool
 }
 
 /// Whether a child that starts at an instant of its list is stripped for a zone: it is a transition
-/// whose overlap has an instant of the zone, or whose cut lies in it, both ends included.
+/// whose overlap has an instant of the zone, or whose cut lies in it, both ends included. `at`, and
+/// the ends `from` and `to` of the zone, are in ticks from the start of the list.
 pub fn is_stripped(item: &Item, at: i128, from: i128, to: i128) -> bool
     requires low { pos 0 ≤ℤ at }
     requires high { at ≤ℤ pos 100000000000000000000000000000000000000 }
@@ -75,7 +76,8 @@ pub fn is_stripped(item: &Item, at: i128, from: i128, to: i128) -> bool
 }
 
 /// A copy of a list without the transitions that a zone strips: those whose overlap has an instant
-/// of it, or whose cut lies in it, both ends included. An error comes where memory runs out.
+/// of it, or whose cut lies in it, both ends included. The zone goes from `a` to `b`, in ticks from
+/// the start of the list. An error comes where memory runs out.
 pub fn strip(alloc: Global, list: &[Item], a: i128, b: i128) -> Result<Vec<Item>, AllocError>
     requires few { length list.now < 2 ^ 32 }
     requires short { AreShort list.now }

@@ -21,7 +21,7 @@ use Rattle.otio_model.proofs.SeekLemmas.{start-total, all-total, total-take_le}
 use Rattle.coord.specs.Looks.{total}
 use Rattle.coord.specs.Sights.{View, looks}
 use Rattle.coord.proofs.Members.{none_left}
-use Rattle.cuts_law.proofs.Splice.{yes, below, above}
+use Rattle.coord.proofs.LookSteps.{is_within, missed_before, missed_behind}
 use Rattle.depths.specs.Down.{is_here, is_next, is_side, is_holder, where_so}
 use Rattle.depths.specs.Down.{reached, reached_above}
 use Rattle.place_instants.specs.Way.{further, is_last, is_index, IsBefore, IsBehind, IsNear}
@@ -145,7 +145,7 @@ reached_outside v l k (negsuc n) h =
     ap (λ b. where_so (b && unwrap_or (is_side (Some k) false (looks v (items_of l)) (negsuc n))
     (is_holder (Some k) (looks v (items_of l)) (negsuc n)))
     (negsuc n -ℤ total (take k (looks v (items_of l)))))
-    (sym (below (pos 0) (total (looks v (items_of l))) (negsuc n) (omega (arith, ints))))
+    (sym (missed_before (pos 0) (total (looks v (items_of l))) (negsuc n) (omega (arith, ints))))
 reached_outside v l k (pos n) h =
     let a = total_all v (items_of l) in
     let b = all-total l in
@@ -153,7 +153,7 @@ reached_outside v l k (pos n) h =
     ap (λ b. where_so (b && unwrap_or (is_side (Some k) false (looks v (items_of l)) (pos n))
     (is_holder (Some k) (looks v (items_of l)) (pos n)))
     (pos n -ℤ total (take k (looks v (items_of l)))))
-    (sym (above (pos 0) (total (looks v (items_of l))) (pos n) (omega (arith, ints, a, b, m))))
+    (sym (missed_behind (pos 0) (total (looks v (items_of l))) (pos n) (omega (arith, ints, a, b, m))))
 
 -- inside it, where the child is asked or isn't
 reached_as : (v : View) (l : Listed) (k : ℕ) (at : ℤ) (b : Bool)
@@ -184,7 +184,7 @@ pub is_inside : (l : Listed) (at : ℤ) (s : Seat) → IsSeat l at s
     → within (pos 0) (pos (added (lengths l))) at ≡ true
 is_inside l at s k =
     let a = k.starts in let b = k.not_before in let c = k.not_behind in
-    yes (pos 0) (pos (added (lengths l))) at (omega (arith, ints, a, b))
+    is_within (pos 0) (pos (added (lengths l))) at (omega (arith, ints, a, b))
     (omega (arith, ints, c, start_inside l (s.index + 1)))
 
 -- where no overlap holds the instant

@@ -16,7 +16,7 @@ use Rattle.coord.specs.Looks.{Look, total}
 use Rattle.coord.specs.Sights.{View, sight, seen, looks}
 use Rattle.coord.proofs.Members.{next}
 use Rattle.coord.proofs.SightLemmas.{look_length}
-use Rattle.cuts_law.proofs.Splice.{yes, above}
+use Rattle.coord.proofs.LookSteps.{is_within, missed_behind}
 use Rattle.depths.specs.Down.{passed, is_here, is_next, is_side, is_holder, is_above}
 use Rattle.place_instants.specs.Way.{further, is_last}
 
@@ -151,11 +151,11 @@ holder_is v k [] w (suc i) h g = absurd (omega (arith, ints, h, g))
 holder_is v k (x ∷ xs) w zero h g =
     let n = look_length v x (ticks x) refl in
     ap (λ b. cond b (is_here k) (is_holder (passed k) (looks v xs) (w -ℤ (seen v (sight x)).length)))
-    (yes (pos 0) (seen v (sight x)).length w (omega (arith, ints, h)) (omega (arith, ints, g, n)))
+    (is_within (pos 0) (seen v (sight x)).length w (omega (arith, ints, h)) (omega (arith, ints, g, n)))
 holder_is v k (x ∷ xs) w (suc i) h g =
     let n = look_length v x (ticks x) refl in
     ap (λ b. cond b (is_here k) (is_holder (passed k) (looks v xs) (w -ℤ (seen v (sight x)).length)))
-    (above (pos 0) (seen v (sight x)).length w (omega (arith, ints, h, n)))
+    (missed_behind (pos 0) (seen v (sight x)).length w (omega (arith, ints, h, n)))
     ∙ ap (λ m. is_holder (passed k) (looks v xs) (w -ℤ m)) n
     ∙ holder_is v (passed k) xs (w -ℤ pos (ticks x)) i (omega (arith, ints, h))
     (omega (arith, ints, g))

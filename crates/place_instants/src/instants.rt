@@ -64,9 +64,7 @@ fn down_in(item: &Item, place: &Place, ticks: i128) -> Option<i128>
 /// The instant, in ticks, that an instant of a root child reaches in the composition at a place:
 /// the child is the one that the place's first index names. `None` exactly where the instant lies
 /// outside that child, something on the way is disabled or of another kind of track, or doesn't
-/// ask the item below it there, or no composition stands at the place. It takes no memory, and of
-/// a track's children it looks at those alone that hold the instant or lie beside an overlap that
-/// does.
+/// ask the item below it there, or no composition stands at the place. It takes no memory.
 pub fn down(timeline: &Timeline, place: &Place, ticks: i128) -> Option<i128>
     requires few { count timeline.now.tracks.children < 2 ^ 32 }
     requires sound { IsFaultless timeline.now }

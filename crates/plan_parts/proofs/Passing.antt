@@ -13,7 +13,7 @@ use Rattle.edits.specs.Narrow.{is_met, any_met, ahead, onward, up_to_met, touche
 use Rattle.edits.specs.Edges.{added}
 use Rattle.edits_law.proofs.Parted.{added_low}
 use Rattle.pieces.specs.Short.{AreShort}
-use Rattle.pieces.proofs.Grown.{none_left}
+use Rattle.coord.proofs.Members.{none_left}
 use Rattle.plan_parts.specs.Parts.{IsClear}
 use Rattle.plan_parts.proofs.Clearing.{clear_ahead, late_none, reach_drop}
 

@@ -23,7 +23,7 @@ use Rattle.pieces.specs.Short.{AreCuttable, IsCuttable, AreShort}
 use Rattle.pieces.proofs.Faultless.{faultless_is_short}
 use Rattle.plan_parts.proofs.Passing.{added_ahead, ahead_count}
 use Rattle.pieces.proofs.SameTimes.{or_left, or_right}
-use Rattle.pieces.proofs.Grown.{next}
+use Rattle.coord.proofs.Members.{next}
 use Rattle.pieces.proofs.StripLemmas.{Stripped, strip_first, keep_as, drop_as}
 
 -- ---- lists that are made are made together

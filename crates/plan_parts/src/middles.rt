@@ -113,9 +113,10 @@ fn less(instant: i128, start: i128) -> i128
 }
 
 /// What comes in place of the children that a zone touches, where the zone's transitions go and
-/// these items are put into it. `rate` is the record rate, at which an item without a range is
-/// counted. It doesn't ask whether the cuts fall on whole ticks. [`RangedFault::Range`] comes only
-/// where a new time is out of range, and [`RangedFault::Memory`] where memory runs out.
+/// these items are put into it. `from` and `to`, the ends of the zone, are in ticks from the start
+/// of the list. `rate` is the record rate, at which an item without a range is counted. It doesn't
+/// ask whether the cuts fall on whole ticks. [`RangedFault::Range`] comes only where a new time is
+/// out of range, and [`RangedFault::Memory`] where memory runs out.
 pub fn fill_zone(
     alloc: Global,
     children: &Children,

@@ -11,7 +11,7 @@ use otio_model::Children;
 use pieces::is_whole_at;
 
 /// Whether children can be cut so many ticks from their start: no child lies there, or one whose
-/// part before the cut is whole ticks of its media. Only that child is asked.
+/// part before the cut is whole ticks of its media.
 pub fn can_be_cut(children: &Children, ticks: i128) -> bool
     requires few { count children.now < 2 ^ 32 }
     requires low { pos 0 ≤ℤ ticks }

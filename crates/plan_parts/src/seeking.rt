@@ -107,7 +107,8 @@ fn clear(children: &Children, from: i128) -> Passed
     }
 }
 
-/// The children before the first that a zone touches.
+/// The children before the first that a zone touches, whose ends `from` and `to` are in ticks from
+/// the start of the list.
 pub fn ahead(children: &Children, from: i128, to: i128) -> Passed
     requires few { count children.now < 2 ^ 32 }
     requires short { AreShort (items_of children.now) }
@@ -134,6 +135,7 @@ pub fn ahead(children: &Children, from: i128, to: i128) -> Passed
 
 /// How many children there are from the first to the last that a zone touches, where those before
 /// the first are given. The end of the list counts as touched where the zone begins behind it.
+/// `from` and `to`, the ends of the zone, are in ticks from the start of the list.
 pub fn touched(children: &Children, ahead: Passed, from: i128, to: i128) -> usize
     requires few { count children.now < 2 ^ 32 }
     requires short { AreShort (items_of children.now) }
@@ -161,8 +163,9 @@ pub fn touched(children: &Children, ahead: Passed, from: i128, to: i128) -> usiz
     count
 }
 
-/// The index of the child that holds an instant, and where it starts; `None` exactly where no child
-/// holds it. A transition takes no time, so it holds none.
+/// The index of the child that holds an instant, and where it starts, both in ticks from the start
+/// of the list; `None` exactly where no child holds it. A transition takes no time, so it holds
+/// none.
 pub fn held(children: &Children, instant: i128) -> Option<Seat>
     requires few { count children.now < 2 ^ 32 }
     ensures held { IfSome result

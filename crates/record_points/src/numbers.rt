@@ -8,7 +8,7 @@ ghost use Rattle.record_points.specs.Digits.{IsPlain, IsWhole};
 const MOST_DIGITS: usize = 18;
 
 /// The whole number that a word is: decimal digits without a sign or a leading zero, at most 18 of
-/// them. `0` itself is one.
+/// them. `0` itself is one. None for every other word.
 pub fn whole_number(word: &str) -> Option<u64>
     ensures { MatchOption result ((n : ℕ) → IsWholeNumber word.now n → ⊥) (IsWholeNumber word.now) }
 {

@@ -22,7 +22,7 @@ pub enum RecordPoint {
 
 /// The point that a word names: a whole number of at most 18 digits without a sign or a leading
 /// zero, or a word in the form of a label, `dd:dd:dd:dd` or `dd:dd:dd;dd` with digits `d`. Whether
-/// it is a label at a rate is for [`frame_at`] to say.
+/// it is a label at a rate is for [`frame_at`] to say. None for every other word.
 pub fn point_of(word: &str) -> Option<RecordPoint>
     ensures { MatchOption result ((point : RecordPoint) → IsPoint word.now point → ⊥)
         (IsPoint word.now) }

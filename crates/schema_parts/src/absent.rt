@@ -70,7 +70,8 @@ fn default_of(alloc: Global, kind: Kind) -> Result<Option<Value>, AllocError>
     }
 }
 
-/// What a row stands for where its member is absent; S4 where it is needed.
+/// What a row stands for where its member is absent; S4 where it is needed, or its kind has no
+/// default. `Memory` where memory runs out.
 pub fn absent(alloc: Global, row: &Field, place: &Place) -> RowResult
     ensures value { IfOk result (λ value. defaults.absent_value (row_of row.now) ≡ Some value) }
     ensures fault { IfErr result (λ fault. fault ≢ SchemaFault.Memory →

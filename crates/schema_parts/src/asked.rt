@@ -120,7 +120,8 @@ fn medium_from(fields: Fields) -> Media
     }
 }
 
-/// An item of a list; S1 or S2 where the value is none.
+/// An item of a list; S1 or S2 where the value is none, `Memory` where memory runs out. `found` has
+/// to be the value's fields as an object of `ITEMS`, none where it is no such object.
 pub fn item_of(
     alloc: Global,
     value: &Json,
@@ -141,7 +142,9 @@ pub fn item_of(
     }
 }
 
-/// An object of a collection, or the root; S1 or S2 where the value is none.
+/// An object of a collection, or the root; S1 or S2 where the value is none, `Memory` where memory
+/// runs out. `found` has to be the value's fields as an object of `ROOTS`, none where it is no such
+/// object.
 pub fn root_of(
     alloc: Global,
     value: &Json,
@@ -171,7 +174,8 @@ fn owned_stack(alloc: Global, fields: Fields) -> Result<Owned<Stack>, AllocError
     Owned::of(alloc, stack_of(alloc, fields)?)
 }
 
-/// The root stack of a timeline; S1 or S2 where the value is none.
+/// The root stack of a timeline; S1 or S2 where the value is none, `Memory` where memory runs out.
+/// `found` has to be the value's fields as an object of `STACKS`, none where it is no such object.
 pub fn tracks_of(alloc: Global, value: &Json, place: &Place, found: Matched) -> RowResult
     requires found { MatchOption found (IsForeign families.STACKS value.now)
         (Gives_fields families.STACKS value.now) }
@@ -188,7 +192,8 @@ pub fn tracks_of(alloc: Global, value: &Json, place: &Place, found: Matched) -> 
     }
 }
 
-/// An effect, or the value kept word for word.
+/// An effect, or the value kept word for word. The one error is `Memory`, where memory runs out.
+/// `found` has to be the value's fields as an object of `EFFECTS`, none where it is no such object.
 pub fn effect_of(alloc: Global, value: &Json, found: Matched) -> Result<Effect, SchemaFault>
     requires found { MatchOption found (IsForeign families.EFFECTS value.now)
         (Gives_fields families.EFFECTS value.now) }
@@ -208,7 +213,8 @@ pub fn effect_of(alloc: Global, value: &Json, found: Matched) -> Result<Effect, 
     }
 }
 
-/// A marker, or the value kept word for word.
+/// A marker, or the value kept word for word. The one error is `Memory`, where memory runs out.
+/// `found` has to be the value's fields as an object of `MARKERS`, none where it is no such object.
 pub fn marker_of(alloc: Global, value: &Json, found: Matched) -> Result<Marker, SchemaFault>
     requires found { MatchOption found (IsForeign families.MARKERS value.now)
         (Gives_fields families.MARKERS value.now) }
@@ -258,7 +264,9 @@ fn reference_of(alloc: Global, value: &Json, found: Matched) -> Result<Media, Sc
     }
 }
 
-/// A media reference, or the value kept word for word. Null stands for a missing reference.
+/// A media reference, or the value kept word for word. Null stands for a missing reference. The one
+/// error is `Memory`, where memory runs out. `found` has to be the value's fields as an object of
+/// `MEDIA`, none where it is no such object.
 pub fn medium_of(alloc: Global, value: &Json, found: Matched) -> Result<Media, SchemaFault>
     requires found { MatchOption found (IsForeign families.MEDIA value.now)
         (Gives_fields families.MEDIA value.now) }

@@ -7,7 +7,7 @@ use schema_rows::{Field, SchemaFault};
 use sequences::Text;
 use std::alloc::Global;
 
-/// S4: the member of a row.
+/// S4: the member of a row; `Memory` where there is no memory for the place and the name.
 pub fn field_fault(alloc: Global, row: &Field, place: &Place) -> SchemaFault
     ensures { result ≢ SchemaFault.Memory → result ≡ SchemaFault.Field place.now row.now.name.now }
 {
@@ -20,7 +20,7 @@ pub fn field_fault(alloc: Global, row: &Field, place: &Place) -> SchemaFault
     }
 }
 
-/// S3: a newer version.
+/// S3: a newer version; `Memory` where there is no memory for the place.
 pub fn newer_fault(alloc: Global, place: &Place) -> SchemaFault
     ensures { result ≢ SchemaFault.Memory → result ≡ SchemaFault.Newer place.now }
 {
@@ -30,7 +30,7 @@ pub fn newer_fault(alloc: Global, place: &Place) -> SchemaFault
     }
 }
 
-/// S5: a rate outside the profile.
+/// S5: a rate outside the profile; `Memory` where there is no memory for the place.
 pub fn rate_fault(alloc: Global, place: &Place) -> SchemaFault
     ensures { result ≢ SchemaFault.Memory → result ≡ SchemaFault.Rate place.now }
 {
@@ -40,7 +40,8 @@ pub fn rate_fault(alloc: Global, place: &Place) -> SchemaFault
     }
 }
 
-/// S6: a time out of range, a numeral that is too long, or a negative duration.
+/// S6: a time out of range, a numeral that is too long, or a negative duration; `Memory` where
+/// there is no memory for the place.
 pub fn range_fault(alloc: Global, place: &Place) -> SchemaFault
     ensures { result ≢ SchemaFault.Memory → result ≡ SchemaFault.Range place.now }
 {
@@ -50,7 +51,7 @@ pub fn range_fault(alloc: Global, place: &Place) -> SchemaFault
     }
 }
 
-/// S7: transitions that may not stand so.
+/// S7: transitions that may not stand so; `Memory` where there is no memory for the place.
 pub fn transitions_fault(alloc: Global, place: &Place) -> SchemaFault
     ensures { result ≢ SchemaFault.Memory → result ≡ SchemaFault.Transitions place.now }
 {
@@ -60,7 +61,7 @@ pub fn transitions_fault(alloc: Global, place: &Place) -> SchemaFault
     }
 }
 
-/// S1: no object of a schema.
+/// S1: no object of a schema; `Memory` where there is no memory for the place.
 pub fn not_object_fault(alloc: Global, place: &Place) -> SchemaFault
     ensures { result ≢ SchemaFault.Memory → result ≡ SchemaFault.NotObject place.now }
 {
@@ -70,7 +71,8 @@ pub fn not_object_fault(alloc: Global, place: &Place) -> SchemaFault
     }
 }
 
-/// S2: an object of a schema that may not stand there.
+/// S2: an object of a schema that may not stand there; `Memory` where there is no memory for the
+/// place.
 pub fn unknown_fault(alloc: Global, place: &Place) -> SchemaFault
     ensures { result ≢ SchemaFault.Memory → result ≡ SchemaFault.UnknownChild place.now }
 {
@@ -80,8 +82,8 @@ pub fn unknown_fault(alloc: Global, place: &Place) -> SchemaFault
     }
 }
 
-/// The place of a child. An error comes where memory runs out, which a list of 2 ^ 32 members takes
-/// for granted.
+/// The place of a child. The one error is `Memory`, where memory runs out; in practice it comes for
+/// each index from 2^32 on too, which no clause says.
 pub fn child_place(alloc: Global, place: &Place, index: usize) -> Result<Place, SchemaFault>
     ensures place { IfOk result (λ here. here ≡ place.now ++ index ∷ []) }
     ensures memory { IfErr result (λ fault. fault ≡ SchemaFault.Memory) }

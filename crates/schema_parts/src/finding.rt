@@ -17,8 +17,11 @@ use std::alloc::{AllocError, Global};
 /// An object with the name and version of its schema.
 #[derive(Clone, Copy)]
 pub struct Found<'a> {
+    /// All members of the object, `OTIO_SCHEMA` among them.
     pub members: &'a Members,
+    /// The schema's name, without its version.
     pub name: &'a str,
+    /// The schema's version.
     pub version: u32,
 }
 
@@ -78,7 +81,9 @@ fn schema_parts(text: &str) -> Option<(&str, u32)>
     Some((name, number_of(digits.as_bytes())))
 }
 
-/// The object that a value is, where its schema has a name and a version.
+/// The object that a value is, with the name and version of its schema. None exactly where the
+/// value is no object, or its `OTIO_SCHEMA` isn't a name without points, a point and a version of 1
+/// to 9 digits.
 pub fn found_object(value: &Json) -> Option<Found<'_>>
     ensures { MatchOption result ((members : List (List ℕ × Json)) (name : List ℕ) (version : ℕ) →
         IsObjectOf value.now members name version → ⊥)
@@ -138,7 +143,8 @@ fn is_other(schema: Schema, name: &str) -> bool
     !(name == "OTIO_SCHEMA" || is_row(schema, name))
 }
 
-/// The members that a schema's table has no row for, in order.
+/// The members that a schema's table has no row for, in order, without `OTIO_SCHEMA`. An error
+/// comes where memory runs out.
 pub fn others(alloc: Global, schema: Schema, members: &Members) -> Result<Members, AllocError>
     ensures { IfOk result (λ rest. rest ≡ families.others (rows_of schema) members.now) }
 {

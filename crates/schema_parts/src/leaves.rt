@@ -62,7 +62,8 @@ fn speed_of(numeral: &Text) -> Option<Scalar>
     }
 }
 
-/// A string.
+/// The text that a row holds. The row has to be of the kind `Text`. `Field` where the value is no
+/// string, `Memory` where memory runs out.
 pub fn text_of(alloc: Global, row: &Field, value: &Json, place: &Place) -> RowResult
     ensures value { (default : List ℕ) → kind_of row.now.kind ≡ rows.text default →
         IfOk result (Gives (kind_of row.now.kind) value.now) }
@@ -79,7 +80,8 @@ pub fn text_of(alloc: Global, row: &Field, value: &Json, place: &Place) -> RowRe
     }
 }
 
-/// A truth value.
+/// The truth value that a row holds. The row has to be of the kind `Flag`. `Field` where the value
+/// is no truth value, `Memory` where there is no memory for that fault.
 pub fn flag_of(alloc: Global, row: &Field, value: &Json, place: &Place) -> RowResult
     ensures value { kind_of row.now.kind ≡ rows.flag →
         IfOk result (Gives (kind_of row.now.kind) value.now) }
@@ -104,7 +106,8 @@ fn members_in(value: Json) -> Option<Members>
     }
 }
 
-/// An object that is kept word for word.
+/// The object that a row holds, kept word for word. The row has to be of the kind `Meta`. `Field`
+/// where the value is no object, `Memory` where memory runs out.
 pub fn meta_of(alloc: Global, row: &Field, value: &Json, place: &Place) -> RowResult
     ensures value { kind_of row.now.kind ≡ rows.meta →
         IfOk result (Gives (kind_of row.now.kind) value.now) }
@@ -121,7 +124,9 @@ pub fn meta_of(alloc: Global, row: &Field, value: &Json, place: &Place) -> RowRe
     }
 }
 
-/// A speed.
+/// The speed that a row holds, in millionths. The row has to be of the kind `Number`, and the
+/// value's numerals those of JSON. `Field` where the value is no numeral, or one that is too long
+/// or beyond 1000 times, either way; `Memory` where there is no memory for that fault.
 pub fn number_of(alloc: Global, row: &Field, value: &Json, place: &Place) -> RowResult
     requires numerals { HasNumerals value.now }
     ensures value { (default : ℤ) → kind_of row.now.kind ≡ rows.number default →
@@ -139,7 +144,9 @@ pub fn number_of(alloc: Global, row: &Field, value: &Json, place: &Place) -> Row
     }
 }
 
-/// Any numeral.
+/// The decimal that a row holds. The row has to be of the kind `Numeral`, and the value's numerals
+/// those of JSON. `Field` where the value is no numeral, `Range` where it is one that is too long,
+/// `Memory` where there is no memory for such a fault.
 pub fn numeral_of(alloc: Global, row: &Field, value: &Json, place: &Place) -> RowResult
     requires numerals { HasNumerals value.now }
     ensures value { kind_of row.now.kind ≡ rows.numeral →
@@ -157,7 +164,9 @@ pub fn numeral_of(alloc: Global, row: &Field, value: &Json, place: &Place) -> Ro
     }
 }
 
-/// A rate.
+/// The rate that a row holds. The row has to be of the kind `Rate`, and the value's numerals those
+/// of JSON. `Field` where the value is no numeral, `Range` where it is one that is too long, `Rate`
+/// where it is outside the profile, `Memory` where there is no memory for such a fault.
 pub fn rate_of(alloc: Global, row: &Field, value: &Json, place: &Place) -> RowResult
     requires numerals { HasNumerals value.now }
     ensures value { kind_of row.now.kind ≡ rows.rate →
@@ -219,7 +228,9 @@ fn span_from(alloc: Global, fields: &Fields, place: &Place) -> RowResult
     }
 }
 
-/// A range of time.
+/// The range of time that a row holds. The row has to be of the kind `Span`, and `found` the
+/// value's fields as an object of `RANGES`, none where it is no such object. `Field` where it is
+/// none, `Range` where its length is negative, `Memory` where there is no memory for such a fault.
 pub fn span_of(alloc: Global, row: &Field, value: &Json, place: &Place, found: Matched) -> RowResult
     requires found { MatchOption found (IsForeign families.RANGES value.now)
         (Gives_fields families.RANGES value.now) }
@@ -252,7 +263,9 @@ fn time_from(alloc: Global, fields: &Fields, place: &Place) -> RowResult
     }
 }
 
-/// A time.
+/// The time that a row holds. The row has to be of the kind `Time`, and `found` the value's fields
+/// as an object of `TIMES`, none where it is no such object. `Field` where it is none, `Range`
+/// where it is out of range at its rate, `Memory` where there is no memory for such a fault.
 pub fn time_of(alloc: Global, row: &Field, value: &Json, place: &Place, found: Matched) -> RowResult
     requires found { MatchOption found (IsForeign families.TIMES value.now)
         (Gives_fields families.TIMES value.now) }

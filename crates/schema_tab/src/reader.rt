@@ -31,7 +31,8 @@ use sequences::{NamedValues, Sequence, Text};
 use std::alloc::Global;
 
 /// The values of the rows of a table that an object's members give, in the order of the table; or
-/// the first fault of the rows in their order, with all that stands inside them.
+/// the first fault of the rows in their order, with all that stands inside them. The value has to
+/// be an object, and its numerals those of JSON. `Memory` may come at any point.
 pub fn read_fields(
     alloc: Global,
     rows: &[Field],

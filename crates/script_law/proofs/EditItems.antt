@@ -16,7 +16,8 @@ use Rattle.script_text.specs.declared.commands.Act.{Act}
 use Rattle.script_text.specs.declared.commands.Act.TheVariants as A
 use Rattle.script_text.specs.declared.commands.Put.{Put}
 use Rattle.script_text.specs.declared.commands.Put.TheVariants as P
-use Rattle.edit_script.specs.Items.{IsItem, MediaRows, clip_with}
+use Rattle.edit_script.specs.Items.{IsItem, clip_with}
+use Rattle.media_rows.specs.Rows.{MediaRows}
 use Rattle.edit_script.specs.Acts.{IsEditOf, Puts}
 use Rattle.edits.specs.After.{rate_of}
 use Rattle.edit_script.specs.Runs.{AsksFor}

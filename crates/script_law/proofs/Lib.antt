@@ -1,2 +1,3 @@
 pub mod EditItems
 pub mod Steps
+pub mod Starting

@@ -12,7 +12,7 @@ use Rattle.edits_sound.proofs.SoundEdits.{stays_sound}
 use Rattle.edit_plans.proofs.Shown.{shows_through}
 use Rattle.script_text.specs.declared.commands.Act.{Act}
 use Rattle.script_text.specs.declared.commands.Command.{Command}
-use Rattle.edit_script.specs.Items.{MediaRows}
+use Rattle.media_rows.specs.Rows.{MediaRows}
 use Rattle.edit_script.specs.Runs.{AsksFor, Runs, Takes, edits, undoes, redoes, moved_on}
 use Rattle.script_law.specs.Shown.{IsEditedFrom, IsShown, opened}
 use Rattle.script_law.proofs.EditItems.{asked_item}

@@ -17,9 +17,13 @@ pub enum Put {
     Gap(i64),
     /// A clip of a reel. `start` counts frames of the reel's rate, `length` record frames.
     Clip {
+        /// Its name.
         name: Text,
+        /// The reel, as a media list names it.
         reel: Text,
+        /// Where it begins, in frames of the rate of the reel; not negative.
         start: i64,
+        /// How long it is, in record frames; not negative.
         length: i64,
     },
 }
@@ -29,65 +33,98 @@ pub enum Put {
 pub enum Act {
     /// Puts the item in place of what is there from `at` on.
     Overwrite {
+        /// The place of the track.
         place: Place,
+        /// Where the item goes, in record frames from the start of the track.
         at: i64,
+        /// What is put in.
         put: Put,
     },
     /// Puts the item in at `at`, and what follows moves on.
     Insert {
+        /// The place of the track.
         place: Place,
+        /// Where the item goes, in record frames from the start of the track.
         at: i64,
+        /// What is put in.
         put: Put,
     },
     /// Cuts the item at `at` in two.
     Slice {
+        /// The place of the track.
         place: Place,
+        /// Where the item is cut, in record frames from the start of the track.
         at: i64,
     },
     /// Puts the item into the gap at `at`.
     Fill {
+        /// The place of the track.
         place: Place,
+        /// An instant of the gap, in record frames from the start of the track.
         at: i64,
+        /// What of the item goes into the gap.
         mode: FillMode,
+        /// What is put in.
         put: Put,
     },
     /// Takes the item at `at` out.
     Remove {
+        /// The place of the track.
         place: Place,
+        /// An instant of the item, in record frames from the start of the track.
         at: i64,
+        /// What comes in its place.
         mode: RemoveMode,
     },
     /// Moves the head and the tail of the item at `at`, against the gaps beside it.
     Trim {
+        /// The place of the track.
         place: Place,
+        /// An instant of the item, in record frames from the start of the track.
         at: i64,
+        /// How far the head moves, in record frames; a positive number is later.
         head: i64,
+        /// How far the tail moves, in record frames; a positive number is later.
         tail: i64,
     },
     /// Moves the media that the item at `at` shows, and not the item.
     Slip {
+        /// The place of the track.
         place: Place,
+        /// An instant of the item, in record frames from the start of the track.
         at: i64,
+        /// How far the media moves, in record frames; a positive number is later media.
         by: i64,
     },
     /// Moves the item at `at`, and the tail of the item before it with it.
     Slide {
+        /// The place of the track.
         place: Place,
+        /// An instant of the item, in record frames from the start of the track.
         at: i64,
+        /// How far the item moves, in record frames; a positive number is later.
         by: i64,
     },
     /// Moves the head and the tail of the item at `at`, and what follows moves with it.
     Ripple {
+        /// The place of the track.
         place: Place,
+        /// An instant of the item, in record frames from the start of the track.
         at: i64,
+        /// How far the head moves, in record frames; a positive number is later.
         head: i64,
+        /// How far the tail moves, in record frames; a positive number is later.
         tail: i64,
     },
     /// Moves the cuts at the head and the tail of the item at `at`, against the items beside it.
     Roll {
+        /// The place of the track.
         place: Place,
+        /// An instant of the item, in record frames from the start of the track.
         at: i64,
+        /// How far the cut at the head moves, in record frames; a positive number is later.
         head: i64,
+        /// How far the cut at the tail moves, in record frames; a positive number is later.
         tail: i64,
     },
     /// Takes the last edit back.

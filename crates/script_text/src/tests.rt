@@ -1,8 +1,9 @@
 // A table of lines, and of whole scripts.
 use crate::{Act, Put, ScriptFault, read_script};
 use otio_model::{FillMode, RemoveMode};
+use std::alloc::Global;
 
-// How a line is read, as one number: -1 for no command, else the act's number.
+// The number of an act, from 1 on.
 fn kind_of(act: &Act) -> i64 {
     match act {
         Act::Overwrite { .. } => 1,
@@ -20,8 +21,21 @@ fn kind_of(act: &Act) -> i64 {
     }
 }
 
+// The number of what a line alone is read as: -1 for no command, 0 for a fault of the line.
+fn read_as(alloc: Global, line: &str) -> i64 {
+    match read_script(alloc, line.as_bytes()) {
+        Ok(commands) => match commands.first() {
+            Some(command) if command.line == 1 => kind_of(&command.act),
+            Some(_) => -2,
+            None => -1,
+        },
+        Err(ScriptFault::Line(1)) => 0,
+        Err(_) => -2,
+    }
+}
+
 #[test]
-fn reads_lines(rt: HostRuntime) {
+fn reads_words_and_places(rt: HostRuntime) {
     let table = [
         ("undo", 11),
         ("redo", 12),
@@ -31,19 +45,6 @@ fn reads_lines(rt: HostRuntime) {
         ("slice\t0  5", 3),
         ("slice \"0\" \"5\"", 3),
         ("slice 0/12/4294967295 -999999999999999", 3),
-        ("overwrite 0 40 clip w W 0 10", 1),
-        ("overwrite 0 40 clip \"\" \"a b\" 0 10", 1),
-        ("insert 0 40 gap 0", 2),
-        ("fill 0 1 source gap 3", 4),
-        ("fill 0 1 sequence clip a A 1 2", 4),
-        ("fill 0 1 fit gap 1", 4),
-        ("remove 0 1 gap", 5),
-        ("remove 0 1 close", 5),
-        ("trim 0 1 -2 3", 6),
-        ("slip 0 1 -2", 7),
-        ("slide 0 1 2", 8),
-        ("ripple 0 1 0 -5", 9),
-        ("roll 0 1 0 0", 10),
         ("", -1),
         ("#", -1),
         ("# slice", -1),
@@ -61,15 +62,38 @@ fn reads_lines(rt: HostRuntime) {
         ("slice -1 5", 0),
         ("slice 00 5", 0),
         ("slice 4294967296 5", 0),
+        ("\"undo", 0),
+        ("\"undo\"x", 0),
+        ("slice \"0\"5", 0),
+        ("undo\r", 0),
+    ];
+    for (line, wanted) in table {
+        assert!(rt; read_as(rt.alloc(), line) == wanted, "{line}");
+    }
+}
+
+#[test]
+fn reads_numbers_and_arguments(rt: HostRuntime) {
+    let table = [
+        ("overwrite 0 40 clip w W 0 10", 1),
+        ("overwrite 0 40 clip \"\" \"a b\" 0 10", 1),
+        ("insert 0 40 gap 0", 2),
+        ("fill 0 1 source gap 3", 4),
+        ("fill 0 1 sequence clip a A 1 2", 4),
+        ("fill 0 1 fit gap 1", 4),
+        ("remove 0 1 gap", 5),
+        ("remove 0 1 close", 5),
+        ("trim 0 1 -2 3", 6),
+        ("slip 0 1 -2", 7),
+        ("slide 0 1 2", 8),
+        ("ripple 0 1 0 -5", 9),
+        ("roll 0 1 0 0", 10),
         ("slice 0 05", 0),
         ("slice 0 +5", 0),
         ("slice 0 -0", 0),
         ("slice 0 -", 0),
         ("slice 0 1000000000000000", 0),
         ("slice 0 5.0", 0),
-        ("\"undo", 0),
-        ("\"undo\"x", 0),
-        ("slice \"0\"5", 0),
         ("insert 0 0 gap -1", 0),
         ("insert 0 0 gap", 0),
         ("insert 0 0 clip a A 0", 0),
@@ -82,22 +106,9 @@ fn reads_lines(rt: HostRuntime) {
         ("trim 0 1 2", 0),
         ("slip 0 1", 0),
         ("slip 0 1 2 3", 0),
-        ("undo\r", 0),
     ];
     for (line, wanted) in table {
-        match read_script(rt.alloc(), line.as_bytes()) {
-            Ok(commands) => match commands.first() {
-                Some(command) => {
-                    assert!(rt; command.line == 1, "{line}");
-                    assert!(rt; kind_of(&command.act) == wanted, "{line}");
-                }
-                None => assert!(rt; wanted == -1, "{line}"),
-            },
-            Err(fault) => {
-                assert!(rt; fault == ScriptFault::Line(1), "{line}");
-                assert!(rt; wanted == 0, "{line}");
-            }
-        }
+        assert!(rt; read_as(rt.alloc(), line) == wanted, "{line}");
     }
 }
 

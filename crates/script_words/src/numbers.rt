@@ -71,7 +71,8 @@ pub fn natural(word: &[u8]) -> Option<u64>
     }
 }
 
-/// The same as a signed number, which isn't negative.
+/// The number that a word is, as [`natural`] reads it, as a signed one that isn't negative; none
+/// where the word is something else.
 pub fn count(word: &[u8]) -> Option<i64>
     ensures { result ≡ option_map pos (numbers.natural word.now) }
 {

@@ -18,8 +18,8 @@ use Rattle.show_prog.specs.declared.program.Clock.{Clock}
 use Rattle.show_prog.specs.Clocks.{IsClockOf}
 use Rattle.show_prog.specs.Walk.{IsInstant}
 use Rattle.coord.proofs.SightLemmas.{length_seen}
-use Rattle.show_prog.proofs.SoundnessFacts.{is_short}
-use Rattle.show_prog.proofs.Steps.{is_within, missed_before, missed_behind}
+use Rattle.coord.proofs.ShortItems.{is_short}
+use Rattle.coord.proofs.LookSteps.{is_within, missed_before, missed_behind}
 
 abbrev same : FrameRate → FrameRate
 same = λ rate. rate

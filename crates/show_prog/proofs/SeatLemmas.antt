@@ -14,7 +14,7 @@ use Rattle.show_prog.specs.Walk.{IsHolder}
 use Rattle.show_prog.specs.declared.lists.Held.{Held}
 use Rattle.coord.proofs.SightLemmas.{lengths-items}
 use Rattle.show_prog.proofs.SoundnessFacts.{added_more, here}
-use Rattle.show_prog.proofs.Steps.{missed_behind, missed_before}
+use Rattle.coord.proofs.LookSteps.{missed_behind, missed_before}
 use Rattle.show_prog.proofs.Walk.{Passed, passed_begins, passed_next, passed_here}
 
 pub record Got (xs : List (ItemOf Listed)) (i : ℕ) : Type 0 where

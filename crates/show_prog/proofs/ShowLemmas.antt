@@ -23,7 +23,7 @@ use Rattle.show_prog.specs.declared.picture.Picture.TheOpen.{Picture-F}
 use Rattle.show_prog.specs.declared.picture.Picture.TheFolds.{fold-roll-Picture}
 use Rattle.coord.proofs.ImageLemmas.{empty_is}
 use Rattle.coord.proofs.SightLemmas.{looks-items, look_length}
-use Rattle.show_prog.proofs.Steps.{is_within, missed_before, missed_behind}
+use Rattle.coord.proofs.LookSteps.{is_within, missed_before, missed_behind}
 use Rattle.show_prog.proofs.Walk.{total_is}
 
 pub image_of-Blank : image_of NoPicture ≡ Empty

@@ -1,69 +1,20 @@
 -- What the soundness of items says.
-use Rattle.std.proofs.Common.{◌≡◌, refl, ap, ◌∙◌, ℕ, ◌+◌, ◌<◌, ◌≤◌, ◌^◌, pos, ◌-ℤ◌, ◌≤ℤ◌, ◌||◌, Bool, true, false, cond, List, [], ◌∷◌, map, Option, Some, None, length, drop, slice_get, arith}
-use Rattle.std.specs.Prelude.{option_map, nat_lt}
-use Rattle.std.specs.Option.{option_or}
-use Rattle.std.proofs.lemmas.Int.{ints}
+use Rattle.std.proofs.Common.{◌≡◌, refl, ap, ◌∙◌, ℕ, ◌+◌, ◌<◌, ◌≤◌, ◌^◌, List, [], ◌∷◌, map, Option, Some, None, length, drop, slice_get, arith}
 use Rattle.limits.specs.Limits.{most_ticks}
-use Rattle.tick_time.specs.Times.{IsInRange}
-use Rattle.tick_time.specs.declared.spans.Span.{Span}
 use Rattle.otio_model.specs.declared.compositions.ItemOf.{ItemOf}
-use Rattle.otio_model.specs.declared.compositions.ItemOf.TheVariants.{Clip, Gap, Transition, Stack, Track}
+use Rattle.otio_model.specs.declared.compositions.ItemOf.TheVariants.{Stack, Track}
 use Rattle.otio_model.specs.declared.compositions.Listed.{Listed}
 use Rattle.otio_model.specs.declared.compositions.StackOf.{StackOf}
 use Rattle.otio_model.specs.declared.compositions.TrackOf.{TrackOf}
 use Rattle.otio_model.specs.Trees.{items_of}
-use Rattle.otio_model.specs.Lengths.{added, lengths, length_of, clip_range, Range, range_of, range_start, from_zero, or_zero, trimmed_start}
+use Rattle.otio_model.specs.Lengths.{added, lengths, length_of, or_zero}
 use Rattle.otio_model.specs.Counts.{count, count_of}
 use Rattle.otio_model.specs.Falls.{child_counts}
-use Rattle.coord.specs.declared.faults.ItemFault.{ItemFault}
-use Rattle.otio_model.specs.Speeds.{keeps_speed}
-use Rattle.coord.specs.Speeds.{effects_of}
-use Rattle.coord.specs.Soundness.{available_ticks, is_long, ranged_fault, fault_of, AreFaultless, IsFaultlessItem}
+use Rattle.coord.specs.Soundness.{fault_of, AreFaultless, IsFaultlessItem}
 use Rattle.coord.proofs.Members.{next, none_left}
 use Rattle.coord.proofs.SightLemmas.{lengths-items}
 use Rattle.coord.proofs.JudgingLemmas.{sound_child, children_sound}
-
--- ---- the lengths of an item without a fault
-
--- no longer than a million seconds, in its length and in what is available
-pub record IsShort (x : ItemOf Listed) : Type 0 where
-  pub ticks : or_zero (length_of x) ≤ most_ticks
-  pub available : available_ticks x ≤ most_ticks
-
-not_long : (a b c : Bool) → (a || (b || c)) ≡ false → (a ≡ false) × (b ≡ false)
-not_long true b c e = absurd (cc e)
-not_long false true c e = absurd (cc e)
-not_long false false c e = (refl, refl)
-
-short_by : (x : ItemOf Listed) (n : ℕ) (t : Bool) → is_long x n ≡ t → cond t (Some ItemFault.Long) None ≡ None → t ≡ false
-short_by x n true e h = absurd (cc h)
-short_by x n false e h = refl
-
-kept_by : (x : ItemOf Listed) (n : ℕ) (t : Bool) → cond t (cond (is_long x n) (Some ItemFault.Long) None) (Some ItemFault.Speed) ≡ None → is_long x n ≡ false
-kept_by x n true h = short_by x n (is_long x n) refl h
-kept_by x n false h = absurd (cc h)
-
-ranged : (x : ItemOf Listed) (n : ℕ) → ranged_fault x n ≡ None → (n ≤ most_ticks) × (available_ticks x ≤ most_ticks)
-ranged x n h =
-    let l = kept_by x n (keeps_speed (pos 1000000) (effects_of x)) h in
-    let s = not_long (nat_lt most_ticks n) (nat_lt most_ticks (available_ticks x)) _ l in
-    (grind (arith, s.0), grind (arith, s.1))
-
-abbrev fault_at : ItemOf Listed → Option ℕ → Option ItemFault
-fault_at x None = Some ItemFault.NoLength
-fault_at x (Some n) = ranged_fault x n
-
-short_in : (x : ItemOf Listed) (o : Option ℕ) → length_of x ≡ o → fault_at x o ≡ None → IsShort x
-short_in x None e h = absurd (cc h)
-short_in x (Some n) e h = let r = ranged x n h in record { ticks = rw e r.0; available = r.1 }
-
--- an item without a fault is short
-pub is_short : (x : ItemOf Listed) → fault_of x ≡ None → IsShort x
-is_short (Clip c) h = short_in (Clip c) (length_of (Clip c)) refl h
-is_short (Gap c) h = short_in (Gap c) (length_of (Gap c)) refl h
-is_short (Transition c) h = record { ticks = omega arith; available = omega arith }
-is_short (Stack c) h = short_in (Stack c) (length_of (Stack c)) refl h
-is_short (Track c) h = short_in (Track c) (length_of (Track c)) refl h
+use Rattle.coord.proofs.ShortItems.{is_short}
 
 -- ---- items of children without a fault
 
@@ -81,33 +32,6 @@ track_facts t s = record { sound = children_sound (Track t) t.children refl s; f
 
 pub stack_facts : (t : StackOf Listed) → IsFaultlessItem (Stack t) → Nested t.children 0 (Stack t)
 stack_facts t s = record { sound = children_sound (Stack t) t.children refl s; fits = omega arith; few = refl }
-
--- ---- where an item starts
-
-zero_near : IsInRange (pos 0)
-zero_near = record { low = omega (arith, ints); high = omega (arith, ints) }
-
-start_near : (s : Option Span) (r : Option Range) → IsInRange (range_start r)
-    → IsInRange (range_start (option_or (option_map range_of s) r))
-start_near None r h = h
-start_near (Some s) r h = record { low = s.start.low; high = s.start.high }
-
-span_near : (s : Option Span) → IsInRange (range_start (option_map range_of s))
-span_near None = zero_near
-span_near (Some s) = record { low = s.start.low; high = s.start.high }
-
-near : (x : ItemOf Listed) → IsInRange (trimmed_start x)
-near (Clip c) = start_near c.source_range (option_map range_of (clip_range c)) (span_near (clip_range c))
-near (Gap c) = start_near c.source_range (Some (from_zero 0)) zero_near
-near (Transition c) = zero_near
-near (Stack c) = start_near c.source_range (Some (from_zero 0)) zero_near
-near (Track c) = start_near c.source_range (Some (from_zero 0)) zero_near
-
-pub start_low : (x : ItemOf Listed) → (pos 0 -ℤ pos most_ticks) ≤ℤ trimmed_start x
-start_low x = (near x).low
-
-pub start_high : (x : ItemOf Listed) → trimmed_start x ≤ℤ pos most_ticks
-start_high x = (near x).high
 
 -- ---- one child
 

@@ -19,7 +19,8 @@ use Rattle.show_prog.specs.declared.lists.Held.{Held}
 use Rattle.coord.proofs.Members.{next, none_left}
 use Rattle.coord.proofs.SightLemmas.{look_length}
 use Rattle.show_prog.proofs.SoundnessFacts.{Here, added_more, left_from, left_all, left_none}
-use Rattle.show_prog.proofs.Steps.{item_hit, item_past, mix_item, mix_miss, side_item, is_within, missed_before, missed_behind, within_is}
+use Rattle.coord.proofs.LookSteps.{item_hit, item_past, mix_item, mix_miss, side_item, is_within, missed_before, missed_behind}
+use Rattle.show_prog.proofs.Steps.{within_is}
 
 abbrev most : ℤ
 most = pos most_ticks

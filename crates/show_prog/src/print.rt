@@ -24,7 +24,7 @@ use sequences::Text;
 /// three digits, or the type of the transition as a JSON string. Numbers are decimal.
 ///
 /// It answers `Sink` where a write failed, and then a prefix of the text was sent and the count of
-/// faults rose. It takes no memory.
+/// faults rose, or stands at 2^64 - 1. It takes no memory.
 pub fn print_show<W: Out>(value: &Picture<'_>, out: &mut W) -> Result<(), WriteFault>
     ensures told { Tells (SendsAll (image_text (image_of value.now)) result) (W.known out.old)
         (W.known out.new) }

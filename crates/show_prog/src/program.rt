@@ -96,7 +96,8 @@ pub fn show<'a>(
 }
 
 /// The same as [`show`], with the timeline's own clock ([`clock_of`]), so that record rate and
-/// start aren't reckoned anew for each frame.
+/// start aren't reckoned anew for each frame. An error comes where memory runs out, and only where
+/// a mix is shown.
 pub fn show_at<'a>(
     alloc: Global,
     timeline: &'a Timeline,

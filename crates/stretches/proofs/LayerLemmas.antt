@@ -8,15 +8,16 @@ use Rattle.coord.proofs.Members.{none_left, next}
 use Rattle.cuts.specs.Children.{ticks}
 use Rattle.edits.specs.Edges.{added}
 use Rattle.edits_law.proofs.Parted.{added_low}
-use Rattle.cuts_law.proofs.Splice.{yes, above}
+use Rattle.coord.proofs.LookSteps.{is_within, missed_behind}
 use Rattle.flat.specs.Roots.{is_layer, items_in}
 use Rattle.flat.specs.Pieces.{gives, holder, giver, longest}
 use Rattle.flat.specs.Built.{IsOne}
 use Rattle.stretches.specs.declared.halves.Given.{Given}
 use Rattle.stretches.specs.declared.halves.Stretch.{Stretch}
 use Rattle.stretches.specs.Runs.{item_in, given_of, AreRuns, given_by, longer, LeavesRuns, IsAlong}
-use Rattle.stretches.proofs.TrackLemmas.{added_next}
+use Rattle.edits.proofs.NextStarts.{added_next}
 use Rattle.stretches.proofs.RunLemmas.{leaves_first, leaves_more, leaves_all, runs_as}
+use Rattle.pieces.proofs.Tests.{lt_yes, lt_no}
 
 held_past : (k i : ℕ) (s : ℤ) (l : List (ItemOf Listed)) (n : ℕ) (w : ℤ) → added (take n l) ≤ℤ w
     → holder k i s l w
@@ -27,7 +28,7 @@ held_past k i s l zero w h =
 held_past k i s [] (suc n) w h = refl
 held_past k i s (x ∷ l) (suc n) w h =
     let low = added_low (take n l) in
-    let past = above (pos 0) (ticks x) w (omega (arith, ints, h, low)) in
+    let past = missed_behind (pos 0) (ticks x) w (omega (arith, ints, h, low)) in
     let index : suc i + n ≡ i + suc n = omega arith in
     let start : (s +ℤ ticks x) +ℤ added (take n l) ≡ s +ℤ (ticks x +ℤ added (take n l)) = omega (arith, ints) in
     let at : (w -ℤ ticks x) -ℤ added (take n l) ≡ w -ℤ (ticks x +ℤ added (take n l)) = omega (arith, ints) in
@@ -59,7 +60,7 @@ one_child : (roots l : List (ItemOf Listed)) (k n : ℕ) (y x : ItemOf Listed) (
     → IsOne (holder k 0 (pos 0) l) at to (given_of roots (given_by x k n at))
 one_child roots l k n y x at to e f g h m w low high =
     let start : added (take n l) ≤ℤ w = subst (λ z. z ≤ℤ w) h low in
-    let held = yes (pos 0) (ticks x) (w -ℤ added (take n l)) (omega (arith, ints, low, h)) (omega (arith, ints, high, m, h)) in
+    let held = is_within (pos 0) (ticks x) (w -ℤ added (take n l)) (omega (arith, ints, low, h)) (omega (arith, ints, high, m, h)) in
     let index : 0 + n ≡ n = omega arith in
     let first : pos 0 +ℤ added (take n l) ≡ at = omega (arith, ints, h) in
     held_past k 0 (pos 0) l n w start
@@ -168,12 +169,6 @@ given_yes x k i at e = rw e refl
 
 pub given_no : (x : ItemOf Listed) (k i : ℕ) (at : ℤ) → gives x ≡ false → None ≡ given_by x k i at
 given_no x k i at e = rw e refl
-
-lt_yes : (a b : ℤ) → a <ℤ b → int_lt a b ≡ true
-lt_yes a b h = grind (arith, ints)
-
-lt_no : (a b : ℤ) → b ≤ℤ a → int_lt a b ≡ false
-lt_no a b h = grind (arith, ints)
 
 pub longer_other : (kind : List ℕ) (x : ItemOf Listed) (end : ℤ) → is_layer kind x ≡ false
     → end ≡ longer kind x end

@@ -15,6 +15,7 @@ use Rattle.flat.specs.Built.{IsOne}
 use Rattle.stretches.specs.declared.halves.Given.{Given}
 use Rattle.stretches.specs.declared.halves.Stretch.{Stretch}
 use Rattle.stretches.specs.Runs.{given_of, AreRuns, upper_first, behind, LeavesRuns}
+use Rattle.pieces.proofs.Tests.{le_is}
 
 -- ---- tracks by halves
 
@@ -125,9 +126,6 @@ merged_first l g h end upper lower a b = record {
   lower_left = b;
   leaves = leaves_first l (λ w. option_or (g w) (h w)) end;
 }
-
-le_is : (a b : ℤ) → int_le a b ≡ true → a ≤ℤ b
-le_is a b e = grind (arith, ints)
 
 gt_is : (a b : ℤ) → int_le a b ≡ false → b <ℤ a
 gt_is a b e = grind (arith, ints)

@@ -27,8 +27,11 @@ use std::alloc::{AllocError, Global};
 /// A clip, by the indexes of its track and of itself there, and where it starts.
 #[derive(Clone, Copy)]
 pub struct Given {
+    /// The index of its track.
     pub track: usize,
+    /// Its index in the track.
     pub child: usize,
+    /// Where it starts, in ticks from the start of its track.
     pub start: i128,
 }
 
@@ -50,7 +53,7 @@ fn gives(item: &Item) -> bool
 }
 
 /// Whether an item is an enabled track of a kind.
-pub(crate) fn is_layer(item: &Item, kind: &Text) -> bool
+pub fn is_layer(item: &Item, kind: &Text) -> bool
     ensures { result ≡ roots.is_layer kind.now item.now }
 {
     match item {

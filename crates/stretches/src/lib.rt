@@ -7,6 +7,6 @@ mod halves;
 mod layers;
 mod parts;
 
-pub use halves::Given;
+pub use halves::{Given, is_layer};
 pub use layers::flat_parts;
 pub use parts::Part;

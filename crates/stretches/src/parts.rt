@@ -12,8 +12,11 @@ use std::alloc::{AllocError, Global};
 /// A part of a flat track: from where to where one clip gives it, or none.
 #[derive(Clone, Copy)]
 pub struct Part {
+    /// Where it begins, in ticks from the start of the flat track.
     pub from: i128,
+    /// Where it ends, in ticks from the start of the flat track.
     pub to: i128,
+    /// The clip that gives it; `None` where none does.
     pub given: Option<Given>,
 }
 

@@ -6,3 +6,4 @@ pub mod Numerals
 pub mod Decimals
 pub mod Tallies
 pub mod Texts
+pub mod Frames

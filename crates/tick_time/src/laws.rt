@@ -8,7 +8,7 @@ use crate::rates::Rate;
 use crate::scalars::Scalar;
 use crate::times::Time;
 
-/// A rate's text, read as a rate: the rate itself.
+/// A rate's text, read as a rate: the rate itself. It never answers an error.
 pub fn rate_read_again(rate: &Rate) -> Result<Rate, TimeFault>
     ensures ok { IsOk result }
     ensures num { IfOk result (λ again. again.num ≡ rate.now.num) }
@@ -21,7 +21,7 @@ pub fn rate_read_again(rate: &Rate) -> Result<Rate, TimeFault>
     }
 }
 
-/// A time's value, read as a value of its rate: the time itself.
+/// A time's value, read as a value of its rate: the time itself. It never answers an error.
 pub fn time_read_again(time: &Time) -> Result<Time, TimeFault>
     ensures ok { IsOk result }
     ensures ticks { IfOk result (λ again. again.ticks ≡ time.now.ticks) }
@@ -34,7 +34,7 @@ pub fn time_read_again(time: &Time) -> Result<Time, TimeFault>
     }
 }
 
-/// A speed's text, read as a speed: the speed itself.
+/// A speed's text, read as a speed: the speed itself. It never answers an error.
 pub fn speed_read_again(speed: &Scalar) -> Result<Scalar, TimeFault>
     ensures ok { IsOk result }
     ensures speed { IfOk result (λ again. again ≡ speed.now) }

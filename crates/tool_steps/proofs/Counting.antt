@@ -28,7 +28,7 @@ use Rattle.flat.specs.Roots.{items_in as children_in, roots, with_roots}
 use Rattle.flat.specs.Straight.{without, straight, IsStraight}
 use Rattle.flat.specs.Windowed.{front_alone, stripped, window_of, with_items, window_track, window_tracks, from_start, IsWindowed}
 use Rattle.flat_law.proofs.Straight.{whole_item, straight-listed}
-use Rattle.flat_law.proofs.Stretches.{same_some}
+use Rattle.coord.proofs.Members.{same_some}
 use Rattle.tool_steps.specs.Gathered.{items_in}
 
 pub count_bare : (t u : Timeline) → bare t ≡ bare u

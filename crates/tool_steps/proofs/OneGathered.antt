@@ -18,7 +18,7 @@ use Rattle.flat.specs.Joined.{IsJoined, JoinBlocks, joined_tracks, slots}
 use Rattle.flat.specs.Piled.{IsPiled}
 use Rattle.flat.specs.Roots.{roots, with_roots}
 use Rattle.flat_law.proofs.Firsts.{first_join}
-use Rattle.flat_law.proofs.Stretches.{same_some}
+use Rattle.coord.proofs.Members.{same_some}
 use Rattle.tool_steps.specs.declared.faults.ToolFault.{ToolFault}
 use Rattle.tool_steps.specs.declared.faults.ToolFault.TheVariants.{At, Unsound}
 use Rattle.tool_steps.specs.Gathered.{IsFew, IsMany, IsConcat, IsConcatFault, unjoined, many, IsChecked, IsCheckFault, Piles, IsStack, IsStackFault, IsGathered, IsUngathered}

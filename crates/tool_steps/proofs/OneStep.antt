@@ -25,7 +25,7 @@ use Rattle.flat.specs.Flattened.{flat_track, has_kind, put_flat, IsFlattened as 
 use Rattle.flat.specs.Windowed.{window_tracks, from_start, is_window, IsWindowed, WindowBlocks}
 use Rattle.flat_law.proofs.Firsts.{first_flat, first_window}
 use Rattle.flat_law.proofs.Ones.{flattened_one}
-use Rattle.flat_law.proofs.Stretches.{same_some}
+use Rattle.coord.proofs.Members.{same_some}
 use Rattle.tool_steps.specs.declared.faults.ToolFault.{ToolFault}
 use Rattle.tool_steps.specs.declared.faults.ToolFault.TheVariants.{At}
 use Rattle.tool_steps.specs.Chains.{Then, Stops}

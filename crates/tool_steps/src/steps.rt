@@ -21,8 +21,8 @@ use crate::gathering::gathered;
 use command_words::{Flattening, ToolAsked, TrackKind, Window};
 use coord::record_rate;
 use flat::FlatFault;
-use flat_stack::{flatten, window, without_transitions};
-use otio_model::{Children, Item, ItemOf, Items, Timeline, copy_item};
+use flat_stack::{flatten, is_of, window, without_transitions};
+use otio_model::{Children, Item, Items, Timeline, copy_item};
 use record_points::{RecordPoint, frame_at};
 use sequences::Text;
 use std::alloc::{AllocError, Global};
@@ -37,16 +37,6 @@ fn kind_name(alloc: Global, kind: TrackKind) -> Result<Text, AllocError>
     match kind {
         TrackKind::Video => Text::of(alloc, "Video"),
         TrackKind::Audio => Text::of(alloc, "Audio"),
-    }
-}
-
-/// Whether an item is a track of a kind.
-fn is_of(item: &Item, kind: &Text) -> bool
-    ensures { result ≡ roots.is_of kind.now item.now }
-{
-    match item {
-        ItemOf::Track(track) => track.kind.as_str() == kind.as_str(),
-        _ => false,
     }
 }
 

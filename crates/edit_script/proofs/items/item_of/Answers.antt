@@ -3,7 +3,8 @@ use Rattle.std.proofs.lemmas.Int.{to_z-of_z}
 use Rattle.std.specs.Prelude.{IfOk}
 use Rattle.std.specs.Option.{option_copied}
 use Rattle.cuts.specs.Children.{made, new_gap}
-use Rattle.edit_script.specs.Items.{IsClip, in_ticks}
+use Rattle.edit_script.specs.Items.{IsClip}
+use Rattle.tick_time.specs.Frames.{in_ticks}
 use Rattle.edit_script.proofs.Puts.{clip_item, edit_items, gap_item}
 use Rattle.edit_script.proofs.items.item_of.Goals as goal
 

@@ -1,6 +1,6 @@
 use Rattle.std.proofs.Common.{FitsSigned, w64, rules}
 use Rattle.std.proofs.lemmas.Int.{to_z-of_z}
-use Rattle.edit_script.specs.Items.{IsFrames}
+use Rattle.tick_time.specs.Frames.{IsFrames}
 use Rattle.edit_script.proofs.Puts.{some_time}
 use Rattle.edit_script.proofs.items.span.Goals as goal
 

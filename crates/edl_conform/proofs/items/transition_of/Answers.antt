@@ -1,7 +1,7 @@
 use Rattle.std.proofs.Common.{refl, arith, to_z, of_z, ◌≡◌, subst, pos}
 use Rattle.std.specs.Int.{w64}
 use Rattle.std.proofs.lemmas.Int.{ints}
-use Rattle.edl_frames.specs.Conformed.{IsFrames}
+use Rattle.tick_time.specs.Frames.{IsFrames}
 use Rattle.edl_conform.proofs.items.transition_of.Goals as goal
 
 pub returns : goal.returns

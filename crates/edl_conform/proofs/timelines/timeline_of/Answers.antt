@@ -6,7 +6,8 @@ use Rattle.otio_model.specs.declared.compositions.StackOf.{StackOf}
 use Rattle.otio_model.specs.declared.compositions.Listed.{Listed}
 use Rattle.otio_model.specs.Trees.{items_of}
 use Rattle.edl_list.specs.declared.list.Channel.TheVariants.{V, A, A2}
-use Rattle.edl_frames.specs.Conformed.{AreTracks, IsFrames}
+use Rattle.edl_frames.specs.Conformed.{AreTracks}
+use Rattle.tick_time.specs.Frames.{IsFrames}
 use Rattle.edl_conform.proofs.timelines.timeline_of.Goals as goal
 
 pub returns : goal.returns

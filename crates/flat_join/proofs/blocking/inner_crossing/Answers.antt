@@ -1,7 +1,7 @@
 use Rattle.std.proofs.Common.{arith}
 use Rattle.otio_model.specs.Trees.{items_of}
 use Rattle.coord.proofs.Members.{got_below}
-use Rattle.flat_roots.proofs.RootLemmas.{inner_cuttable, inner_short}
+use Rattle.pieces.proofs.Inner.{inner_cuttable, inner_short}
 use Rattle.flat_join.proofs.BlockLemmas.{children_is, track_crossing, track_free}
 use Rattle.flat_join.proofs.blocking.inner_crossing.Goals as goal
 

@@ -1,7 +1,7 @@
 use Rattle.std.proofs.Common.{arith}
 use Rattle.otio_model.specs.Trees.{items_of}
 use Rattle.coord.proofs.Members.{child_few, index_few, got_below}
-use Rattle.flat_roots.proofs.RootLemmas.{root_faultless}
+use Rattle.pieces.proofs.Inner.{root_faultless}
 use Rattle.flat_join.proofs.BlockLemmas.{roots_free}
 use Rattle.flat_join.proofs.blocking.input_fault.Goals as goal
 

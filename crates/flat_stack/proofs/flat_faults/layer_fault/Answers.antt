@@ -3,7 +3,8 @@ use Rattle.otio_model.specs.Trees.{children_of, items_of}
 use Rattle.coord.proofs.Members.{got_below}
 use Rattle.flat.specs.Roots.{items_in}
 use Rattle.flat_stack.specs.Misfits.{AreFit, IsMisfit}
-use Rattle.flat_roots.proofs.RootLemmas.{plain_items, plain_some, inner_short}
+use Rattle.pieces.proofs.Inner.{inner_short}
+use Rattle.flat_roots.proofs.RootLemmas.{plain_items, plain_some}
 use Rattle.flat_stack.proofs.MisfitLemmas.{no_track_first, not_plain_first, other_free, misfit_first, fit_free}
 use Rattle.flat_stack.proofs.flat_faults.layer_fault.Goals as goal
 

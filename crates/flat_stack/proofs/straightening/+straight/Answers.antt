@@ -1,7 +1,7 @@
 use Rattle.std.proofs.Common.{arith, ap, vec_items, ◌∙◌}
 use Rattle.otio_model.specs.Falls.{child_counts}
 use Rattle.otio_model.specs.Trees.{items_of, listed}
-use Rattle.pieces.proofs.Grown.{next, none_left}
+use Rattle.coord.proofs.Members.{next, none_left}
 use Rattle.flat_stack.proofs.StraightLemmas.{copied_more, copied_less, copied_all}
 use Rattle.flat_stack.proofs.straightening.+straight.Goals as goal
 use Rattle.flat_stack.proofs.straightening.+straight.Goals.{straight_list-then-not-is_left_out+in_ok-copy+in_ok-push, straight_list-else-not-is_left_out}

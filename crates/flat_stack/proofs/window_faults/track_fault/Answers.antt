@@ -5,7 +5,8 @@ use Rattle.coord.proofs.Members.{got_below}
 use Rattle.flat.specs.Roots.{is_plain, items_in}
 use Rattle.flat_stack.specs.Uncut.{AreCutTo, IsUncut}
 use Rattle.flat_stack.proofs.WindowFaults.{not_plain_first, uncut_first, free_child}
-use Rattle.flat_roots.proofs.RootLemmas.{plain_items, plain_some, inner_short, inner_cuttable}
+use Rattle.pieces.proofs.Inner.{inner_short, inner_cuttable}
+use Rattle.flat_roots.proofs.RootLemmas.{plain_items, plain_some}
 use Rattle.flat_stack.proofs.window_faults.track_fault.Goals as goal
 
 pub returns-then-not-is_plain-clause-some : goal.returns-then-not-is_plain-clause-some

@@ -6,7 +6,7 @@ use Rattle.flat.specs.Windowed.{WindowBlocks}
 use Rattle.flat_roots.proofs.FirstLemmas.{free_more}
 use Rattle.flat_stack.proofs.SoughtLemmas.{free_from, first_at}
 use Rattle.flat_stack.proofs.WindowFaults.{none_first, roots_low}
-use Rattle.flat_roots.proofs.RootLemmas.{root_faultless}
+use Rattle.pieces.proofs.Inner.{root_faultless}
 use Rattle.flat_stack.proofs.window_faults.window_fault.Goals as goal
 
 pub children-init : goal.children-init

@@ -5,7 +5,8 @@ use Rattle.flat.specs.Roots.{items_in}
 use Rattle.flat.specs.Windowed.{stripped}
 use Rattle.flat_stack.specs.Passed.{passed}
 use Rattle.flat_stack.specs.Uncut.{AreCutTo}
-use Rattle.flat_roots.proofs.RootLemmas.{plain_items, plain_some, inner_short, inner_cuttable}
+use Rattle.pieces.proofs.Inner.{inner_short, inner_cuttable}
+use Rattle.flat_roots.proofs.RootLemmas.{plain_items, plain_some}
 use Rattle.flat_stack.proofs.PassedLemmas.{window_early, window_made, plain_ticks}
 use Rattle.flat_stack.proofs.windowing.track_items.Goals as goal
 

@@ -2,7 +2,7 @@ use Rattle.std.proofs.Common.{arith, refl, drop}
 use Rattle.std.proofs.lemmas.Int.{to_z-of_z}
 use Rattle.otio_model.specs.Trees.{items_of}
 use Rattle.coord.proofs.Members.{child_few, next, none_left}
-use Rattle.flat_roots.proofs.RootLemmas.{root_faultless}
+use Rattle.pieces.proofs.Inner.{root_faultless}
 use Rattle.flat_stack.proofs.PassedLemmas.{tracks_first, tracks_more, tracks_all, free_plain, free_cut}
 use Rattle.flat_stack.proofs.windowing.window_tracks.Goals as goal
 

@@ -1,4 +1,5 @@
 use Rattle.std.proofs.Common.{None, map, string_bytes}
+use Rattle.otio_tools.proofs.DrillEnds.{drill_alone, drill_ends, drill_is_no_usage, drill_leaves, drill_still, no_drills, task_is, unread_drills}
 use Rattle.otio_tools.proofs.RunEnds.{asks_nothing, usage_given}
 use Rattle.otio_tools.proofs.OneAnswer.{completes}
 use Rattle.otio_tools.proofs.Keeping.{keeps}
@@ -8,6 +9,8 @@ use Rattle.otio_tools.proofs.Working.{leaves_usage, no_edit, scripted}
 use Rattle.otio_tools.specs.Run.{streams}
 use Rattle.otio_tools.specs.declared.Status.TheVariants.{Usage}
 use Rattle.otio_tools.proofs.command.run.Goals as goal
+
+-- ---- words that ask for nothing
 
 pub returns-in-Err-Usage-clause-usage : goal.returns-in-Err-Usage-clause-usage
 returns-in-Err-Usage-clause-usage g c = λ _.
@@ -22,22 +25,6 @@ returns-in-Err-Usage-clause-ends g c =
     (rw c.as_slice.ensures.value at c.in-Err-Usage.ensures))
     (stays_same _) c.say.ensures
 
-pub returns-in-Ok-clause-ends : goal.returns-in-Ok-clause-ends
-returns-in-Ok-clause-ends g c =
-    let words = map (λ w. string_bytes w) c.args.words.now.items in
-    c.serve.ensures.ends words (rw c.as_slice.ensures.value at c.in-Ok.ensures)
-
-pub returns-in-Ok-clause-complete : goal.returns-in-Ok-clause-complete
-returns-in-Ok-clause-complete g c =
-    let words = map (λ w. string_bytes w) c.args.words.now.items in
-    completes words _ _ _ _ _ c.serve.result
-    (c.serve.ensures.ends words (rw c.as_slice.ensures.value at c.in-Ok.ensures))
-
-pub returns-in-Ok-clause-still : goal.returns-in-Ok-clause-still
-returns-in-Ok-clause-still g c =
-    let words = map (λ w. string_bytes w) c.args.words.now.items in
-    c.serve.ensures.still words (rw c.as_slice.ensures.value at c.in-Ok.ensures)
-
 pub returns-in-Err-Usage-clause-complete : goal.returns-in-Err-Usage-clause-complete
 returns-in-Err-Usage-clause-complete g c =
     let words = map (λ w. string_bytes w) c.args.words.now.items in
@@ -50,12 +37,6 @@ returns-in-Err-Usage-clause-complete g c =
     (usage_given words known faults faults all (asks_nothing _ _ c.in-Err-Usage.field-0-is
     (rw c.as_slice.ensures.value at c.in-Err-Usage.ensures))
     (stays_same (g.W.Out.known c.args.out.now)) c.say.ensures)
-
-pub returns-in-Ok-clause-kept : goal.returns-in-Ok-clause-kept
-returns-in-Ok-clause-kept g c =
-    let words = map (λ w. string_bytes w) c.args.words.now.items in
-    keeps words _ _ _ _ _ c.serve.result
-    (c.serve.ensures.ends words (rw c.as_slice.ensures.value at c.in-Ok.ensures))
 
 pub returns-in-Err-Usage-clause-kept : goal.returns-in-Err-Usage-clause-kept
 returns-in-Err-Usage-clause-kept g c =
@@ -70,25 +51,145 @@ returns-in-Err-Usage-clause-kept g c =
     (rw c.as_slice.ensures.value at c.in-Err-Usage.ensures))
     (stays_same (g.W.Out.known c.args.out.now)) c.say.ensures)
 
-pub serve-requires-clause-scripted : goal.serve-requires-clause-scripted
-serve-requires-clause-scripted g c =
-    scripted _ _ _ _ _ (rw c.as_slice.ensures.value at c.in-Ok.ensures)
-
-pub serve-requires-clause-joining : goal.serve-requires-clause-joining
-serve-requires-clause-joining g c =
-    joining _ _ _ _ _ (rw c.as_slice.ensures.value at c.in-Ok.ensures)
-
-pub returns-in-Ok-clause-worked : goal.returns-in-Ok-clause-worked
-returns-in-Ok-clause-worked g c =
-    let words = map (λ w. string_bytes w) c.args.words.now.items in
-    c.serve.ensures.worked words (rw c.as_slice.ensures.value at c.in-Ok.ensures)
-
-pub returns-in-Ok-clause-unworked : goal.returns-in-Ok-clause-unworked
-returns-in-Ok-clause-unworked g c = λ none.
-    c.serve.ensures.unworked
-    (no_edit _ _ _ _ _ (rw c.as_slice.ensures.value at c.in-Ok.ensures) none)
-
 pub returns-in-Err-Usage-clause-worked : goal.returns-in-Err-Usage-clause-worked
 returns-in-Err-Usage-clause-worked g c =
     let words = map (λ w. string_bytes w) c.args.words.now.items in
     leaves_usage words None (g.F.Files.known c.args.files.now)
+
+pub returns-in-Err-Usage-clause-drilled : goal.returns-in-Err-Usage-clause-drilled
+returns-in-Err-Usage-clause-drilled g c = λ seed count target w.
+    absurd ((asks_nothing _ _ c.in-Err-Usage.field-0-is
+    (rw c.as_slice.ensures.value at c.in-Err-Usage.ensures)).no_drill seed count target w)
+
+-- ---- a command on files
+
+pub serve-requires-clause-scripted : goal.serve-requires-clause-scripted
+serve-requires-clause-scripted g c =
+    scripted _ _ _ _ _ (task_is _ _ _ c.in-Ok-OnFiles.field-0-is
+    (rw c.as_slice.ensures.value at c.in-Ok-OnFiles.ensures))
+
+pub serve-requires-clause-joining : goal.serve-requires-clause-joining
+serve-requires-clause-joining g c =
+    joining _ _ _ _ _ (task_is _ _ _ c.in-Ok-OnFiles.field-0-is
+    (rw c.as_slice.ensures.value at c.in-Ok-OnFiles.ensures))
+
+pub returns-in-Ok-OnFiles-clause-ends : goal.returns-in-Ok-OnFiles-clause-ends
+returns-in-Ok-OnFiles-clause-ends g c =
+    let words = map (λ w. string_bytes w) c.args.words.now.items in
+    c.serve.ensures.ends words (task_is _ _ _ c.in-Ok-OnFiles.field-0-is
+    (rw c.as_slice.ensures.value at c.in-Ok-OnFiles.ensures))
+
+pub returns-in-Ok-OnFiles-clause-complete : goal.returns-in-Ok-OnFiles-clause-complete
+returns-in-Ok-OnFiles-clause-complete g c =
+    let words = map (λ w. string_bytes w) c.args.words.now.items in
+    completes words _ _ _ _ _ c.serve.result
+    (c.serve.ensures.ends words (task_is _ _ _ c.in-Ok-OnFiles.field-0-is
+    (rw c.as_slice.ensures.value at c.in-Ok-OnFiles.ensures)))
+
+pub returns-in-Ok-OnFiles-clause-kept : goal.returns-in-Ok-OnFiles-clause-kept
+returns-in-Ok-OnFiles-clause-kept g c =
+    let words = map (λ w. string_bytes w) c.args.words.now.items in
+    keeps words _ _ _ _ _ c.serve.result
+    (c.serve.ensures.ends words (task_is _ _ _ c.in-Ok-OnFiles.field-0-is
+    (rw c.as_slice.ensures.value at c.in-Ok-OnFiles.ensures)))
+
+pub returns-in-Ok-OnFiles-clause-still : goal.returns-in-Ok-OnFiles-clause-still
+returns-in-Ok-OnFiles-clause-still g c =
+    let words = map (λ w. string_bytes w) c.args.words.now.items in
+    c.serve.ensures.still words (task_is _ _ _ c.in-Ok-OnFiles.field-0-is
+    (rw c.as_slice.ensures.value at c.in-Ok-OnFiles.ensures))
+
+pub returns-in-Ok-OnFiles-clause-worked : goal.returns-in-Ok-OnFiles-clause-worked
+returns-in-Ok-OnFiles-clause-worked g c =
+    let words = map (λ w. string_bytes w) c.args.words.now.items in
+    c.serve.ensures.worked words (task_is _ _ _ c.in-Ok-OnFiles.field-0-is
+    (rw c.as_slice.ensures.value at c.in-Ok-OnFiles.ensures))
+
+pub returns-in-Ok-OnFiles-clause-unworked : goal.returns-in-Ok-OnFiles-clause-unworked
+returns-in-Ok-OnFiles-clause-unworked g c = λ none.
+    c.serve.ensures.unworked
+    (no_edit _ _ _ _ _ (task_is _ _ _ c.in-Ok-OnFiles.field-0-is
+    (rw c.as_slice.ensures.value at c.in-Ok-OnFiles.ensures)) none.no_edit)
+
+pub returns-in-Ok-OnFiles-clause-others : goal.returns-in-Ok-OnFiles-clause-others
+returns-in-Ok-OnFiles-clause-others g c = λ none.
+    absurd (none.no_command _ _ _ _ (task_is _ _ _ c.in-Ok-OnFiles.field-0-is
+    (rw c.as_slice.ensures.value at c.in-Ok-OnFiles.ensures)))
+
+pub returns-in-Ok-OnFiles-clause-drilled : goal.returns-in-Ok-OnFiles-clause-drilled
+returns-in-Ok-OnFiles-clause-drilled g c =
+    let words = map (λ w. string_bytes w) c.args.words.now.items in
+    no_drills words _ _ _ _ _ c.serve.result _ (task_is _ _ _ c.in-Ok-OnFiles.field-0-is
+    (rw c.as_slice.ensures.value at c.in-Ok-OnFiles.ensures))
+
+-- ---- a drill
+
+pub returns-in-Ok-Drill-clause-ends : goal.returns-in-Ok-Drill-clause-ends
+returns-in-Ok-Drill-clause-ends g c =
+    let words = map (λ w. string_bytes w) c.args.words.now.items in
+    drill_ends words _ _ _ (g.F.Files.known c.args.files.now)
+    (g.F.Files.faults c.args.files.now) _ c.serve_drill.result _
+    (task_is _ _ _ c.in-Ok-Drill.field-0-is
+    (rw c.as_slice.ensures.value at c.in-Ok-Drill.ensures)) c.serve_drill.ensures
+
+pub returns-in-Ok-Drill-clause-complete : goal.returns-in-Ok-Drill-clause-complete
+returns-in-Ok-Drill-clause-complete g c =
+    let words = map (λ w. string_bytes w) c.args.words.now.items in
+    completes words _ _ _ _ _ c.serve_drill.result
+    (drill_ends words _ _ _ (g.F.Files.known c.args.files.now)
+    (g.F.Files.faults c.args.files.now) _ c.serve_drill.result _
+    (task_is _ _ _ c.in-Ok-Drill.field-0-is
+    (rw c.as_slice.ensures.value at c.in-Ok-Drill.ensures)) c.serve_drill.ensures)
+
+pub returns-in-Ok-Drill-clause-kept : goal.returns-in-Ok-Drill-clause-kept
+returns-in-Ok-Drill-clause-kept g c =
+    let words = map (λ w. string_bytes w) c.args.words.now.items in
+    keeps words _ _ _ _ _ c.serve_drill.result
+    (drill_ends words _ _ _ (g.F.Files.known c.args.files.now)
+    (g.F.Files.faults c.args.files.now) _ c.serve_drill.result _
+    (task_is _ _ _ c.in-Ok-Drill.field-0-is
+    (rw c.as_slice.ensures.value at c.in-Ok-Drill.ensures)) c.serve_drill.ensures)
+
+pub returns-in-Ok-Drill-clause-worked : goal.returns-in-Ok-Drill-clause-worked
+returns-in-Ok-Drill-clause-worked g c =
+    let words = map (λ w. string_bytes w) c.args.words.now.items in
+    drill_leaves words _ _ _ c.serve_drill.result _ (g.F.Files.known c.args.files.now)
+    (task_is _ _ _ c.in-Ok-Drill.field-0-is
+    (rw c.as_slice.ensures.value at c.in-Ok-Drill.ensures))
+
+pub returns-in-Ok-Drill-clause-unworked : goal.returns-in-Ok-Drill-clause-unworked
+returns-in-Ok-Drill-clause-unworked g c = λ none.
+    absurd (none.no_drill _ _ _ (task_is _ _ _ c.in-Ok-Drill.field-0-is
+    (rw c.as_slice.ensures.value at c.in-Ok-Drill.ensures)))
+
+pub returns-in-Ok-Drill-clause-others : goal.returns-in-Ok-Drill-clause-others
+returns-in-Ok-Drill-clause-others g c = λ none.
+    absurd (none.no_drill _ _ _ (task_is _ _ _ c.in-Ok-Drill.field-0-is
+    (rw c.as_slice.ensures.value at c.in-Ok-Drill.ensures)))
+
+pub returns-in-Ok-Drill-clause-usage : goal.returns-in-Ok-Drill-clause-usage
+returns-in-Ok-Drill-clause-usage g c = λ same.
+    absurd (drill_is_no_usage _ _ _ _ c.serve_drill.result _ c.serve_drill.ensures same)
+
+pub returns-in-Ok-Drill-clause-still : goal.returns-in-Ok-Drill-clause-still
+returns-in-Ok-Drill-clause-still g c =
+    let words = map (λ w. string_bytes w) c.args.words.now.items in
+    drill_still words _ _ _ _ c.serve_drill.result _ c.serve_drill.ensures
+
+pub returns-in-Ok-Drill-clause-drilled : goal.returns-in-Ok-Drill-clause-drilled
+returns-in-Ok-Drill-clause-drilled g c =
+    let words = map (λ w. string_bytes w) c.args.words.now.items in
+    drill_alone words _ _ _ _ c.serve_drill.result _ (task_is _ _ _ c.in-Ok-Drill.field-0-is
+    (rw c.as_slice.ensures.value at c.in-Ok-Drill.ensures)) c.serve_drill.ensures
+
+-- ---- want of memory over the words
+
+pub returns-in-Err-Memory-clause-drilled : goal.returns-in-Err-Memory-clause-drilled
+returns-in-Err-Memory-clause-drilled g c =
+    let words = map (λ w. string_bytes w) c.args.words.now.items in
+    let all =
+    streams g.W.Out.faults g.W.Out.known g.E.Out.faults g.E.Out.known c.args.out.now
+    c.args.out.now c.args.err.now c.complain_of_memory.new.err in
+    unread_drills words all c.complain_of_memory.result c.args.desk.now
+    c.complain_of_memory.ensures.status c.requires.empty
+    (stays_same (g.W.Out.known c.args.out.now)) c.complain_of_memory.ensures.message

@@ -1,7 +1,7 @@
 use Rattle.std.proofs.Common.{arith, to_z, ap, vec_items, ◌∙◌}
 use mir.Syntax.{w128}
 use Rattle.std.proofs.lemmas.Int.{ints}
-use Rattle.pieces.proofs.Grown.{next}
+use Rattle.coord.proofs.Members.{next}
 use Rattle.pieces.proofs.BackLemmas.{put_copied, back_cut, skip_kept, back_end, back_far}
 use Rattle.pieces.proofs.backs.back_items.Goals as goal
 use Rattle.pieces.proofs.backs.back_items.Goals.{then-left-le0+in-Ok+in-Ok-add, else-left-le0+then-left-length+in-Ok-right_piece+in-Ok-add-2, else-left-le0+else-left-length}

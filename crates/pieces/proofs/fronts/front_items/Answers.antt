@@ -1,7 +1,8 @@
 use Rattle.std.proofs.Common.{arith, to_z}
 use mir.Syntax.{w128}
 use Rattle.std.proofs.lemmas.Int.{ints}
-use Rattle.pieces.proofs.Grown.{next, next_as, cut_as, done_as, gap_as, cut_far, gap_far}
+use Rattle.coord.proofs.Members.{next}
+use Rattle.pieces.proofs.Grown.{next_as, cut_as, done_as, gap_as, cut_far, gap_far}
 use Rattle.pieces.proofs.fronts.front_items.Goals as goal
 
 pub returns-then-left-le0-clause-made : goal.returns-then-left-le0-clause-made

@@ -1,7 +1,7 @@
 use Rattle.std.proofs.Common.{arith, to_z, ap, vec_items, ◌∙◌}
 use mir.Syntax.{w128}
 use Rattle.std.proofs.lemmas.Int.{ints}
-use Rattle.pieces.proofs.Grown.{next}
+use Rattle.coord.proofs.Members.{next}
 use Rattle.pieces.proofs.StripLemmas.{keep_as, drop_as, strip_end}
 use Rattle.pieces.proofs.strips.strip.Goals as goal
 use Rattle.pieces.proofs.strips.strip.Goals.{then-not-is_stripped+in_ok-copy+in_ok-push, else-not-is_stripped}

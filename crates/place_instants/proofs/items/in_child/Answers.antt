@@ -6,8 +6,8 @@ use Rattle.otio_model.specs.declared.compositions.ItemOf.TheVariants.{Stack, Tra
 use Rattle.otio_model.specs.declared.compositions.Listed.{Listed}
 use Rattle.otio_model.specs.Trees.{items_of}
 use Rattle.coord.proofs.JudgingLemmas.{children_sound}
+use Rattle.coord.proofs.ShortItems.{is_short}
 use Rattle.place_instants.specs.Way.{reached_in}
-use Rattle.place_instants.proofs.Bounds.{is_short}
 use Rattle.place_instants.proofs.Ways.{there_in}
 use Rattle.place_instants.proofs.items.in_child.Goals as goal
 

@@ -1,6 +1,6 @@
 use Rattle.std.proofs.Common.{arith}
 use Rattle.std.proofs.lemmas.Int.{ints}
-use Rattle.place_instants.proofs.Bounds.{is_short}
+use Rattle.coord.proofs.ShortItems.{is_short}
 use Rattle.place_instants.proofs.lists.ticks_of.Goals as goal
 
 pub returns-clause-high : goal.returns-clause-high

@@ -3,7 +3,7 @@ use mir.Syntax.{w128}
 use Rattle.std.proofs.lemmas.Int.{ints}
 use Rattle.otio_model.specs.Trees.{items_of}
 use Rattle.otio_model.proofs.LengthLimits.{few_enough}
-use Rattle.pieces.proofs.Grown.{next}
+use Rattle.coord.proofs.Members.{next}
 use Rattle.plan_parts.proofs.Passing.{clear_short, pass_clear, pass_next, met_count, met_ticks}
 use Rattle.plan_parts.proofs.seeking.ahead.Goals as goal
 

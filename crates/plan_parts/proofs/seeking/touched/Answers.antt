@@ -4,7 +4,7 @@ use Rattle.std.proofs.lemmas.Int.{ints}
 use Rattle.otio_model.specs.Trees.{items_of}
 use Rattle.otio_model.proofs.LengthLimits.{few_enough}
 use Rattle.edits.specs.Narrow.{touched}
-use Rattle.pieces.proofs.Grown.{next}
+use Rattle.coord.proofs.Members.{next}
 use Rattle.plan_parts.proofs.Passing.{ahead_count, added_ahead, reach_as, met_as, pass_as}
 use Rattle.plan_parts.proofs.Passing.{reach_behind, reach_end, reach_over}
 use Rattle.plan_parts.proofs.seeking.touched.Goals.{then-is_met, else-is_met}

@@ -5,7 +5,7 @@ use Rattle.otio_model.proofs.LengthLimits.{few_enough}
 use Rattle.coord.proofs.Members.{child_few, next}
 use Rattle.flat.specs.Pieces.{giver}
 use Rattle.stretches.specs.Runs.{AreRuns}
-use Rattle.stretches.proofs.TrackLemmas.{root_faultless}
+use Rattle.pieces.proofs.Inner.{root_faultless}
 use Rattle.stretches.proofs.RunLemmas.{none_runs, one_runs, half_runs}
 use Rattle.stretches.proofs.halves.+stretches_in.Goals as goal
 

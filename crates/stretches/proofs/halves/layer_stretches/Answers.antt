@@ -3,7 +3,8 @@ use Rattle.std.proofs.lemmas.Int.{to_z-of_z}
 use Rattle.otio_model.specs.Trees.{children_of}
 use Rattle.flat.specs.Pieces.{holder}
 use Rattle.stretches.specs.Runs.{AreRuns}
-use Rattle.stretches.proofs.TrackLemmas.{inner_short, inner_cuttable, layer_items, layer_some}
+use Rattle.pieces.proofs.Inner.{inner_short, inner_cuttable}
+use Rattle.stretches.proofs.TrackLemmas.{layer_items, layer_some}
 use Rattle.stretches.proofs.LayerLemmas.{layer_runs, other_runs}
 use Rattle.stretches.proofs.halves.layer_stretches.Goals as goal
 

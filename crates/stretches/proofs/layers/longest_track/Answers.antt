@@ -4,7 +4,7 @@ use Rattle.std.proofs.lemmas.Int.{to_z-of_z, ints}
 use Rattle.otio_model.specs.Trees.{items_of}
 use Rattle.coord.proofs.Members.{child_few, none_left}
 use Rattle.flat.specs.Pieces.{longest}
-use Rattle.stretches.proofs.TrackLemmas.{root_faultless}
+use Rattle.pieces.proofs.Inner.{root_faultless}
 use Rattle.stretches.proofs.LayerLemmas.{longest_next}
 use Rattle.stretches.proofs.layers.longest_track.Goals as goal
 

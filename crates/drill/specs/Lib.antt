@@ -1,0 +1,2 @@
+-- What a drill comes to.
+pub mod Told

@@ -1,0 +1,3 @@
+-- Lemmas on sums of frame numbers.
+pub mod SumLemmas
+pub mod VideoTracks

@@ -1,0 +1,2 @@
+-- Sums of the source frame numbers that a timeline shows.
+pub mod Sums

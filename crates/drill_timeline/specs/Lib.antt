@@ -1,0 +1,3 @@
+-- The timeline that a drill begins with.
+pub mod Starting
+pub mod Making
