@@ -19,6 +19,7 @@ pub mod TrackEvents
 pub mod ListShows
 pub mod EventsFormed
 pub mod EventsAccepted
+pub mod ChannelEvents
 pub mod WholeLists
 pub mod ListDays
 pub mod SameLists

@@ -1,17 +1,12 @@
 -- The list of a timeline that is carried: well formed, even, and carried by its media list.
-use Rattle.std.proofs.Common.{◌≡◌, refl, sym, ap, subst, ◌∙◌, ℕ, ◌<◌, ◌≤◌, ℤ, pos, ◌+ℤ◌, ◌&&◌, Bool, true, false, not, cond, List, [], ◌∷◌, ◌++◌, map, Option, Some, None, arith}
+use Rattle.std.proofs.Common.{◌≡◌, sym, subst, ℕ, ◌<◌, ◌≤◌, ℤ, pos, ◌+ℤ◌, ◌&&◌, Bool, true, false, not, cond, List, [], ◌∷◌, ◌++◌, map, Option, Some, None, arith}
 use Rattle.std.specs.Prelude.{All, AllPairs, filter, filter_map, slice_index_or}
 use Rattle.std.specs.List.{cons_option}
-use Rattle.std.proofs.lemmas.Int.{ints}
 use Rattle.std.proofs.lemmas.List.Elements.{All-cons, All-head, All-tail}
-use Rattle.tick_time.specs.declared.rates.Rate.{Rate}
-use Rattle.otio_model.specs.declared.compositions.TrackOf.{TrackOf}
 use Rattle.otio_model.specs.declared.compositions.ItemOf.{ItemOf}
 use Rattle.otio_model.specs.declared.compositions.Listed.{Listed}
 use Rattle.otio_model.specs.declared.timelines.Timeline.{Timeline}
-use Rattle.otio_model.specs.Trees.{items_of}
 use Rattle.edl_list.specs.declared.list.Channel.{Channel}
-use Rattle.edl_list.specs.declared.list.Side.{Side}
 use Rattle.edl_list.specs.declared.list.Event.{Event}
 use Rattle.edl_list.specs.declared.list.EventList.{EventList}
 use Rattle.edl_list.specs.Formed.{IsEvent, AreApart}
@@ -19,42 +14,26 @@ use Rattle.edl_list.specs.Layouts.{layout_of, FitsEvent}
 use Rattle.edl_list.specs.Alike.{IsEven}
 use Rattle.coord.specs.Looks.{Overlap}
 use Rattle.coord.specs.Keys.{frame_rate}
-use Rattle.edl_frames.specs.Channels.{own_key}
 use Rattle.coord.specs.Sights.{overlap_of}
 use Rattle.coord.specs.Programs.{start_frame}
 use Rattle.edl_frames.specs.Shown.{is_on, on_channel}
 use Rattle.media_rows.specs.Rows.{MediaRows}
-use Rattle.edl_frames.specs.Channels.{channel_track}
 use Rattle.edl_frames.specs.Refused.{IsAccepted}
 use Rattle.edl_frames.specs.declared.reasons.Why.{Why}
-use Rattle.edl_frames.specs.Jobs.{Job, job_of, mode_in, day_in, is_in_day, is_on_frame}
+use Rattle.edl_frames.specs.Jobs.{Job, mode_in, day_in, is_in_day, is_on_frame}
 use Rattle.edl_frames.specs.Seats.{Past, head, seats, Seat, past_by, length_in, is_item, clip_in}
 use Rattle.edl_frames.specs.ChildReasons.{first_that, reason_of, item_tests, shown_tests, transition_tests, is_past_record}
-use Rattle.edl_frames.specs.ChildEvents.{event_of, track_events, events_on, unnumbered}
-use Rattle.edl_frames.specs.Carried.{examine_all, first_said, not_carried, IsListOf}
+use Rattle.edl_frames.specs.ChildEvents.{event_of, unnumbered}
+use Rattle.edl_frames.specs.Carried.{not_carried, IsListOf}
 use Rattle.edl_frames.specs.declared.reasons.Why.TheVariants as W
 use Rattle.coord.specs.Soundness.{IsCalm}
 use Rattle.edl_frames_law.proofs.ListedRates.{passes}
-use Rattle.edl_frames_law.proofs.CalmItems.{AreCalm, calm_tracks}
 use Rattle.edl_frames_law.specs.Premises.{AreListed}
-use Rattle.edl_frames_law.proofs.ItemLooks.{Watch}
-use Rattle.edl_frames_law.proofs.Stretches.{front_of, front_late, front_early}
-use Rattle.edl_frames_law.proofs.SideLooks.{job, same_job}
+use Rattle.edl_frames_law.proofs.SideLooks.{job}
 use Rattle.edl_frames_law.proofs.ReasonFacts.{AreFree, all_fail, none_first}
-use Rattle.edl_frames_law.proofs.FittedItems.{fitted}
-use Rattle.edl_frames_law.proofs.ListShows.{said_on, carried_all, placed}
-use Rattle.edl_frames_law.proofs.EventsFormed.{EventsHold, events_hold}
+use Rattle.edl_frames_law.proofs.ChannelEvents.{channels_hold, per_channel}
 use Rattle.edl_frames_law.proofs.EventsAccepted.{own_channel, Known, sides_hold, ChannelsHold, all_hold, all_apart, event_is, event_fits, event_even, all_carried_here, in_day}
 use Rattle.tick_time.proofs.BoolLemmas.{both}
-
--- the lines don't matter
-numbered_hold : (Q : Bool → Side → ℤ → Type 0) (z : ℤ) (es : List Event)
-    → EventsHold Q z (map unnumbered es) → EventsHold Q z es
-numbered_hold Q z [] h = tt
-numbered_hold Q z (e ∷ es) h = (
-  record { begins = h.0.begins; some = h.0.some; to = h.0.to; cross = h.0.cross },
-  numbered_hold Q e.rec_out es h.1,
-)
 
 -- ---- the record frames of an event are of the day
 
@@ -131,30 +110,7 @@ all_channels P (e ∷ es) h = All-cons P e es (here (is_on e.channel e) (own_cha
     rest c true a = All-tail P e (filter (is_on c) es) a
     rest c false a = a
 
--- ---- the events of each channel
-
-track_known : (rate : Rate) (first : ℤ) (media : MediaRows) (drop wide : Bool) (day : ℕ)
-    (c : Channel)
-    (l : List (ItemOf Listed)) → AreListed media → 999 < day
-    → day_in (mode_in (frame_rate rate) drop) ≤ day → AreCalm l
-    → AreFree (job rate first media drop wide) c (pos 0) head l
-    → EventsHold (Known rate media wide day) first
-    (track_events (job rate first media drop wide) c l)
-track_known rate first media drop wide day c l rows long h calm free =
-    let w : Watch = record { kind = []; key = own_key } in
-    let f = fitted rate first media drop wide w c (pos 0) (pos 0) (pos 0) head l
-    (omega (arith, ints))
-    refl (omega (arith, ints)) free calm in
-    let late = front_late (pos 0) (pos 0) f.bits f.fit (omega (arith, ints)) in
-    let early = front_early (pos 0) f.bits in
-    let zero_front : first +ℤ front_of (pos 0) f.bits ≡ first = omega (arith, ints, late, early) in
-    subst (λ z. EventsHold (Known rate media wide day) z
-    (track_events (job rate first media drop wide) c l))
-    zero_front
-    (events_hold (Known rate media wide day) rate first media drop wide w c
-    (sides_hold rate first media drop wide day rows long h) (pos 0) (pos 0) (pos 0) head l f.bits
-    (omega (arith, ints)) refl f.are f.fit free calm (omega (arith, ints))
-    (λ lap e. (sides_hold rate first media drop wide day rows long h).black_out _))
+-- ---- the list
 
 -- a list that is written is well formed, but for its timecode, and even, and its media list
 -- carries it
@@ -188,58 +144,15 @@ list_is_good t list media drop wide day calm rows long h carried i =
       carried = all_carried_here list.rate media wide day list.events q;
     }
   where
-    rate_is : job_of t media drop wide ≡ job list.rate (start_frame t) media drop wide
-    rate_is = same_job t list.rate media drop wide i.rate
-
-    none_said : first_said (examine_all (job_of t media drop wide) 0 []
-        (items_of t.tracks.children)) ≡
-        None
-    none_said = (carried_all t media drop wide carried).said
-
-    -- the events of the channel's track
-    per_channel : (P : List Event → Type 0) (c : Channel) → P []
-        → ((l : List (ItemOf Listed)) → AreCalm l
-        → AreFree (job list.rate (start_frame t) media drop wide) c (pos 0) head l
-        → P (track_events (job list.rate (start_frame t) media drop wide) c l))
-        → P (events_on (job_of t media drop wide) c (channel_track c (items_of t.tracks.children)))
-    per_channel P c none track = by (channel_track c (items_of t.tracks.children)) refl
-      where
-        shut : (s : TrackOf Listed) → AreCalm (items_of s.children)
-            → (s.enabled ≡ true → AreFree (job_of t media drop wide) c (pos 0) head
-            (items_of s.children)) → (b : Bool) → s.enabled ≡ b
-            → P (cond b (track_events (job_of t media drop wide) c (items_of s.children)) [])
-        shut s a f true e = subst (λ j. P (track_events j c (items_of s.children))) (sym rate_is)
-            (track (items_of s.children) a
-            (subst (λ j. AreFree j c (pos 0) head (items_of s.children)) rate_is (f e)))
-        shut s a f false e = none
-
-        by : (o : Option (ItemOf Listed)) → channel_track c (items_of t.tracks.children) ≡ o
-            → P (events_on (job_of t media drop wide) c o)
-        by None e = none
-        by (Some x) e =
-            let s = said_on (job_of t media drop wide) c (items_of t.tracks.children) x none_said e
-            in
-            let p = placed c (items_of t.tracks.children) x e in
-            subst (λ z. P (events_on (job_of t media drop wide) c (Some z))) (sym s.is)
-            (shut s.track (calm_tracks t calm p.0 s.track (p.1 ∙ ap (λ z. Some z) s.is)) s.free
-            s.track.enabled refl)
-
     known : ChannelsHold (Known list.rate media wide day) list.events
-    known c = (
-      start_frame t,
-      numbered_hold (Known list.rate media wide day) (start_frame t) (on_channel c list.events)
-          (subst (λ es. EventsHold (Known list.rate media wide day) (start_frame t) es)
-          (sym (i.events c))
-          (per_channel (λ es. EventsHold (Known list.rate media wide day) (start_frame t) es) c tt
-          (λ l a f. track_known list.rate (start_frame t) media drop wide day c l rows long h a
-          f))),
-    )
+    known = channels_hold (Known list.rate media wide day) t list media drop wide
+        (sides_hold list.rate (start_frame t) media drop wide day rows long h) calm carried i
 
     days : (c : Channel) → All (InDay (job list.rate (start_frame t) media drop wide))
         (filter (is_on c) list.events)
     days c = numbered_day (job list.rate (start_frame t) media drop wide) (on_channel c list.events)
         (subst (λ es. All (InDay (job list.rate (start_frame t) media drop wide)) es)
         (sym (i.events c))
-        (per_channel (λ es. All (InDay (job list.rate (start_frame t) media drop wide)) es) c
+        (per_channel t list media drop wide calm carried i (λ es. All (InDay (job list.rate (start_frame t) media drop wide)) es) c
         (λ k d l. absurd (omega (arith, l)))
         (λ l a f. all_in_day (job list.rate (start_frame t) media drop wide) c (pos 0) head l f)))

@@ -1,6 +1,7 @@
 -- What is known of the parts of a flat track, and the items that they become.
 use mathlib.Core.Path.{Path}
-use Rattle.std.proofs.Common.{◌≡◌, refl, sym, subst, ap, ap₂, ◌∙◌, ℕ, zero, suc, ℤ, pos, ◌-ℤ◌, ◌≤ℤ◌, ◌<ℤ◌, ◌&&◌, ◌||◌, Bool, true, false, Option, Some, None, cond, List, [], ◌∷◌, ◌++◌, append_assoc, take, drop, map, arith}
+use mir.Syntax.{w128}
+use Rattle.std.proofs.Common.{◌≡◌, refl, sym, subst, ap, ap₂, ◌∙◌, ℕ, zero, suc, ℤ, pos, ◌-ℤ◌, ◌≤ℤ◌, ◌<ℤ◌, ◌&&◌, ◌||◌, Bool, true, false, Option, Some, None, cond, List, [], ◌∷◌, ◌++◌, append_assoc, take, drop, map, arith, FitsSigned}
 use Rattle.std.specs.Prelude.{slice_get, int_lt, option_and_then}
 use Rattle.std.proofs.lemmas.Int.{ints}
 use Rattle.std.proofs.lemmas.List.{append-nil}
@@ -190,6 +191,18 @@ clip_is r l p g x y e h m =
     ∙ ap (λ z. option_and_then (from_on r (p.from -ℤ g.start)) (up_to r (p.to -ℤ g.start) z))
     (child_item l g.track g.child x h)
     ∙ m
+
+-- its ends, counted from the start of its clip, and its length fit 128 bits
+pub ends_fit : {l : List (ItemOf Listed)} {p : Part} {g : Given} → IsPart l p → IsGivenBy l p g
+    → FitsSigned w128 (p.from -ℤ g.start) × FitsSigned w128 (p.to -ℤ g.start)
+ends_fit {p = p} {g} h k = (
+  omega (arith, ints, k.low, k.from, h.wide, h.high),
+  omega (arith, ints, k.low, k.from, h.wide, h.high),
+)
+
+pub length_fits : {l : List (ItemOf Listed)} {p : Part} → IsPart l p
+    → FitsSigned w128 (p.to -ℤ p.from)
+length_fits {p = p} h = omega (arith, ints, h.low, h.wide, h.high)
 
 -- its clip can be cut at both ends
 pub both_cut : (l : List (ItemOf Listed)) (p : Part) (g : Given) (x : ItemOf Listed)

@@ -1,7 +1,9 @@
 -- What the children of one track give, one after another.
-use Rattle.std.proofs.Common.{◌≡◌, refl, sym, subst, ap, ap₂, ◌∙◌, ℕ, zero, suc, ◌+◌, ◌-◌, ◌≤◌, ◌<◌, ℤ, pos, ◌+ℤ◌, ◌-ℤ◌, ◌≤ℤ◌, ◌<ℤ◌, ◌&&◌, Bool, true, false, Option, Some, None, cond, List, [], ◌∷◌, ◌++◌, length, take, drop, arith}
+use mir.Syntax.{w128}
+use Rattle.std.proofs.Common.{◌≡◌, refl, sym, subst, ap, ap₂, ◌∙◌, ℕ, zero, suc, ◌+◌, ◌-◌, ◌≤◌, ◌<◌, ℤ, pos, ◌+ℤ◌, ◌-ℤ◌, ◌≤ℤ◌, ◌<ℤ◌, ◌&&◌, Bool, true, false, Option, Some, None, cond, List, [], ◌∷◌, ◌++◌, length, take, drop, arith, FitsSigned}
 use Rattle.std.specs.Prelude.{slice_get, int_lt}
 use Rattle.std.proofs.lemmas.Int.{ints}
+use Rattle.limits.specs.Limits.{most_ticks}
 use Rattle.otio_model.specs.declared.compositions.ItemOf.{ItemOf}
 use Rattle.otio_model.specs.declared.compositions.Listed.{Listed}
 use Rattle.coord.proofs.Members.{none_left, next}
@@ -100,6 +102,12 @@ along_empty k l end at n now i x all new a e f h m q =
       low = omega (arith, ints, a.low, q);
       high = omega (arith, ints, a.high, q);
     }
+
+-- the instant at which a child ends fits 128 bits
+pub sum_fits : {k : ℕ} {l : List (ItemOf Listed)} {end at n : ℤ} {i : ℕ} {all : List Stretch}
+    → IsAlong k l end all at i → end ≤ℤ pos 705600000000000000000000 → pos 0 ≤ℤ n
+    → n ≤ℤ pos most_ticks → FitsSigned w128 (at +ℤ n)
+sum_fits a h m k = let low = a.low in let high = a.high in omega (arith, ints, low, high, h, m, k)
 
 -- a child that ends before the end
 pub along_more : (k : ℕ) (l : List (ItemOf Listed)) (end at n now : ℤ) (i : ℕ) (x : ItemOf Listed)

@@ -1,9 +1,9 @@
-use Rattle.std.proofs.Common.{arith, sym, subst, ap, ◌∙◌, ◌++◌, ◌∷◌, [], FitsSigned, ◌+ℤ◌, pos, to_z, vec_items}
+use Rattle.std.proofs.Common.{arith, rules, sym, subst, ap, ◌∙◌, ◌++◌, ◌∷◌, [], FitsSigned, pos, to_z, vec_items}
 use mir.Syntax.{w128}
 use Rattle.std.proofs.lemmas.Int.{to_z-of_z, ints}
 use Rattle.otio_model.specs.Trees.{items_of}
 use Rattle.stretches.specs.Runs.{IsAlong}
-use Rattle.stretches.proofs.LayerLemmas.{along_first, along_empty, along_more, along_last, along_all}
+use Rattle.stretches.proofs.LayerLemmas.{along_first, along_empty, along_more, along_last, along_all, sum_fits}
 use Rattle.stretches.proofs.halves.track_stretches.Goals.{then-ticks-gt0+else-at-ticks+in_ok-push-2, else-ticks-gt0}
 use Rattle.stretches.proofs.halves.track_stretches.Goals as goal
 
@@ -18,37 +18,25 @@ sound_ticks-ticks-requires c = c.requires.cuttable c.children.index c.child-item
 pub overflow_add-at : goal.overflow_add-at
 overflow_add-at c =
     let fits = c.ranges.end in
-    let least = c.sound_ticks-ticks.ensures.low in
-    let most = c.sound_ticks-ticks.ensures.high in
-    let fits_ticks : FitsSigned w128 c.sound_ticks-ticks.result = omega (arith, ints, least, most) in
+    let fits_ticks : FitsSigned w128 c.sound_ticks-ticks.result = search rules in
     let known = simp to_z-of_z at c.children.invariant in
-    let low = known.low in
-    let high = known.high in
-    let fits_sum : FitsSigned w128 (to_z w128 c.children.at-bits +ℤ c.sound_ticks-ticks.result) = omega (arith, ints, low, high, c.requires.high, least, most) in
+    let fits_sum = sum_fits known c.requires.high c.sound_ticks-ticks.ensures.low c.sound_ticks-ticks.ensures.high in
     simp to_z-of_z fits_sum
 
 pub overflow_add-at-then-ticks-gt0 : goal.overflow_add-at-then-ticks-gt0
 overflow_add-at-then-ticks-gt0 c =
     let fits = c.ranges.end in
-    let least = c.sound_ticks-ticks.ensures.low in
-    let most = c.sound_ticks-ticks.ensures.high in
-    let fits_ticks : FitsSigned w128 c.sound_ticks-ticks.result = omega (arith, ints, least, most) in
+    let fits_ticks : FitsSigned w128 c.sound_ticks-ticks.result = search rules in
     let known = simp to_z-of_z at c.children.invariant in
-    let low = known.low in
-    let high = known.high in
-    let fits_sum : FitsSigned w128 (to_z w128 c.children.at-bits +ℤ c.sound_ticks-ticks.result) = omega (arith, ints, low, high, c.requires.high, least, most) in
+    let fits_sum = sum_fits known c.requires.high c.sound_ticks-ticks.ensures.low c.sound_ticks-ticks.ensures.high in
     simp to_z-of_z fits_sum
 
 pub returns-then-at-ticks : goal.returns-then-at-ticks
 returns-then-at-ticks c =
     let fits = c.ranges.end in
-    let least = c.sound_ticks-ticks.ensures.low in
-    let most = c.sound_ticks-ticks.ensures.high in
-    let fits_ticks : FitsSigned w128 c.sound_ticks-ticks.result = omega (arith, ints, least, most) in
+    let fits_ticks : FitsSigned w128 c.sound_ticks-ticks.result = search rules in
     let known = simp to_z-of_z at c.children.invariant in
-    let low = known.low in
-    let high = known.high in
-    let fits_sum : FitsSigned w128 (to_z w128 c.children.at-bits +ℤ c.sound_ticks-ticks.result) = omega (arith, ints, low, high, c.requires.high, least, most) in
+    let fits_sum = sum_fits known c.requires.high c.sound_ticks-ticks.ensures.low c.sound_ticks-ticks.ensures.high in
     let test = simp to_z-of_z at c.if-at-ticks.true in
     let pushed = simp to_z-of_z at c.in_ok-push.ensures.items in
     along_last c.args.track (items_of c.args.children.now) c.args.end (to_z w128 c.children.at-bits) c.sound_ticks-ticks.result c.children.index c.child-item.result.now c.children.all.items c.push.new.self.items c.given_by-given.result known c.child-item.ensures c.sound_ticks-ticks.ensures.value (omega (arith, ints, test)) c.given_by-given.ensures pushed
@@ -56,13 +44,9 @@ returns-then-at-ticks c =
 pub children-preserved : goal.children-preserved
 children-preserved c =
     let fits = c.ranges.end in
-    let least = c.sound_ticks-ticks.ensures.low in
-    let most = c.sound_ticks-ticks.ensures.high in
-    let fits_ticks : FitsSigned w128 c.sound_ticks-ticks.result = omega (arith, ints, least, most) in
+    let fits_ticks : FitsSigned w128 c.sound_ticks-ticks.result = search rules in
     let known = simp to_z-of_z at c.children.invariant in
-    let low = known.low in
-    let high = known.high in
-    let fits_sum : FitsSigned w128 (to_z w128 c.children.at-bits +ℤ c.sound_ticks-ticks.result) = omega (arith, ints, low, high, c.requires.high, least, most) in
+    let fits_sum = sum_fits known c.requires.high c.sound_ticks-ticks.ensures.low c.sound_ticks-ticks.ensures.high in
     elim c.if-ticks-gt0.branch [
       | then-ticks-gt0+else-at-ticks+in_ok-push-2 w ↦
           let test = simp to_z-of_z at w.if-at-ticks.false in
