@@ -29,6 +29,8 @@ mod script_tests;
 #[cfg(test)]
 mod texts;
 #[cfg(test)]
+mod timeline_calls;
+#[cfg(test)]
 mod timelines;
 #[cfg(test)]
 mod tool_tests;

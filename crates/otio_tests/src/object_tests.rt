@@ -1,10 +1,16 @@
-//! Objects that are read and written again, and texts that stand for none.
+//! Objects that are read and written again, also by way of their JSON values, and texts that stand
+//! for none.
 
 use crate::runs::status_of;
 use crate::texts::{REFUSED, REWRITTEN};
 use dev_io::{MemFiles, MemOut};
+use json_layout::write_json;
+use otio_model::Object;
 use otio_tools::Status;
+use schema_write::json_of;
+use source_files::{Content, Kind, Source, read_source};
 use std::alloc::{AllocError, Global};
+use std::mem::forget;
 use std::process::Abort;
 use std::test::Fail;
 
@@ -114,5 +120,54 @@ fn status_of_gaps(alloc: Global, count: usize) -> Result<Status, AllocError> {
 #[test]
 fn a_timeline_of_1000_gaps_is_read(rt: HostRuntime) -> Result<(), Fail> {
     assert_eq!(rt; status_of_gaps(rt.alloc(), 1_000)?, Status::Output);
+    Ok(())
+}
+
+/// The object that a text stands for; none where it stands for none.
+fn object_in(alloc: Global, text: &[u8]) -> Result<Option<Object>, AllocError> {
+    let mut files = MemFiles::new(alloc);
+    files.put("a.otio", text)?;
+    let source = Source {
+        name: "a.otio",
+        kind: Kind::Object,
+    };
+    match read_source(alloc, &source, &mut files) {
+        Ok(Content::Root(object)) => Ok(Some(object)),
+        Ok(content) => {
+            forget(content);
+            Ok(None)
+        }
+        Err(_) => Ok(None),
+    }
+}
+
+/// What is written of the JSON value of a text's object, in room for so many bytes; nothing where
+/// the text stands for none.
+fn value_written(alloc: Global, text: &[u8], room: usize) -> Result<MemOut, AllocError> {
+    let mut out = MemOut::new(alloc, room)?;
+    if let Some(object) = object_in(alloc, text)? {
+        let made = json_of(alloc, &object);
+        forget(object);
+        let value = made?;
+        let _ = write_json(&value, &mut out);
+    }
+    Ok(out)
+}
+
+#[test]
+fn values_of_objects_are_written(rt: HostRuntime) -> Result<(), Fail> {
+    for case in &REWRITTEN {
+        let out = value_written(rt.alloc(), case.text.as_bytes(), 4000)?;
+        assert!(rt; is_squeezed(out.sent(), case.written.as_bytes()));
+    }
+    Ok(())
+}
+
+#[test]
+fn a_timeline_of_1000_gaps_has_a_value(rt: HostRuntime) -> Result<(), Fail> {
+    let alloc = rt.alloc();
+    let text = gaps(alloc, 1_000)?;
+    let out = value_written(alloc, text.as_bytes(), 400_000)?;
+    assert!(rt; out.sent().ends_with(b"}\n"));
     Ok(())
 }

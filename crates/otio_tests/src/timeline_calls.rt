@@ -1,0 +1,275 @@
+//! Calls on timelines that no command makes, each with ample memory: pictures, lists that are cut,
+//! joined timelines, and the way down to a place.
+
+ghost use Rattle.std.specs.Prelude.{◌≡◌, ◌<◌, ◌^◌, ◌*ℤ◌, IfOk, IfSome, pos};
+ghost use Rattle.otio_model.specs.Counts.{count, count_of};
+ghost use Rattle.coord.specs.Soundness.{IsFaultlessItem, IsSound};
+
+use crate::timelines::{nested_track, one_track, three_tracks, two_layers};
+use coord::sound;
+use dev_io::{MemFiles, MemOut};
+use edit_plans::edit_rate;
+use flat_join::join;
+use otio_model::{Item, ItemOf, Place, Timeline};
+use pieces::{back, cuts_whole, front, strip};
+use place_instants::down;
+use show_prog::{print_show, show};
+use source_files::{Content, Kind, Source, read_source};
+use std::alloc::{AllocError, Global};
+use std::mem::forget;
+use std::process::Abort;
+use std::slice::from_ref;
+use std::test::Fail;
+use writable_law::read_timelines_are_writable;
+
+/// The sound timeline that a text is; none where it is none.
+fn timeline_of(alloc: Global, text: &str) -> Result<Option<Timeline>, AllocError>
+    ensures sound { IfOk result (λ found. IfSome found IsSound) }
+    ensures few { IfOk result
+        (λ found. IfSome found (λ timeline. count timeline.tracks.children < 2 ^ 32)) }
+{
+    read_timelines_are_writable();
+    let mut files = MemFiles::new(alloc);
+    files.put("a.otio", text.as_bytes())?;
+    let source = Source {
+        name: "a.otio",
+        kind: Kind::Timeline,
+    };
+    match read_source(alloc, &source, &mut files) {
+        Ok(Content::Film(timeline)) => match sound(alloc, &timeline) {
+            Ok(()) => Ok(Some(timeline)),
+            Err(_) => {
+                forget(timeline);
+                Ok(None)
+            }
+        },
+        Ok(content) => {
+            forget(content);
+            Ok(None)
+        }
+        Err(_) => Ok(None),
+    }
+}
+
+/// Holds that a root child shows this at a record frame.
+fn check_shown(
+    rt: &impl Abort,
+    alloc: Global,
+    timeline: &Timeline,
+    child: usize,
+    frame: i128,
+    text: &[u8],
+) -> Result<(), Fail>
+    requires sound { IsSound timeline.now }
+    requires few { count timeline.now.tracks.children < 2 ^ 32 }
+{
+    let mut out = MemOut::new(alloc, 200)?;
+    if child < timeline.tracks.children.len() {
+        let picture = show(alloc, timeline, child, frame)?;
+        assert!(rt; print_show(&picture, &mut out).is_ok());
+    }
+    assert_eq!(rt; out.sent(), text);
+    Ok(())
+}
+
+fn check_pictures(rt: &impl Abort, alloc: Global, timeline: &Timeline) -> Result<(), Fail>
+    requires sound { IsSound timeline.now }
+    requires few { count timeline.now.tracks.children < 2 ^ 32 }
+{
+    let mix = b"mix(dissolve 1/2 url:\"a.mov\"@72 url:\"b.mov\"@100)";
+    check_shown(rt, alloc, timeline, 0, 86448, mix)?;
+    check_shown(rt, alloc, timeline, 1, 86472, b"url:\"c.mov\"@40")?;
+    check_shown(rt, alloc, timeline, 2, 86496, b"-")
+}
+
+#[test]
+fn pictures_are_shown(rt: HostRuntime) -> Result<(), Fail> {
+    let alloc = rt.alloc();
+    match timeline_of(alloc, three_tracks(alloc)?.as_str())? {
+        Some(timeline) => {
+            let held = check_pictures(&rt, alloc, &timeline);
+            forget(timeline);
+            held
+        }
+        None => {
+            assert!(rt; false);
+            Ok(())
+        }
+    }
+}
+
+/// How many ticks a number of frames of 24 a second has.
+fn ticks_of(frames: u32) -> i128
+    ensures { result ≡ pos frames *ℤ pos 29400000000000000 }
+{
+    i128::from(frames) * 29_400_000_000_000_000
+}
+
+/// Where a frame of a root child is reached: the child, the frame, the indexes below the child, and
+/// the frame there.
+type Reach = (u32, &'static [u32], Option<u32>);
+
+/// A track of ten frames, twenty of a stack at twice its speed, and ten; the stack has one track.
+const REACHED: [Reach; 10] = [
+    (12, &[0], Some(12)),
+    (12, &[0, 1], Some(4)),
+    (12, &[0, 1, 0], Some(4)),
+    (10, &[0, 1, 0], Some(0)),
+    (29, &[0, 1, 0], Some(38)),
+    (9, &[0, 1, 0], None),
+    (30, &[0, 1, 0], None),
+    (40, &[0], None),
+    (5, &[0, 0], None),
+    (12, &[], None),
+];
+
+fn check_reached(rt: &impl Abort, alloc: Global, timeline: &Timeline) -> Result<(), Fail>
+    requires sound { IsSound timeline.now }
+    requires few { count timeline.now.tracks.children < 2 ^ 32 }
+{
+    for (frame, indexes, reached) in &REACHED {
+        let mut place = Place::new(alloc);
+        for index in *indexes {
+            place.push(*index)?;
+        }
+        let there = match reached {
+            Some(frame) => Some(ticks_of(*frame)),
+            None => None,
+        };
+        assert_eq!(rt; down(timeline, &place, ticks_of(*frame)), there);
+    }
+    Ok(())
+}
+
+#[test]
+fn places_are_reached(rt: HostRuntime) -> Result<(), Fail> {
+    let alloc = rt.alloc();
+    match timeline_of(alloc, nested_track(alloc, true)?.as_str())? {
+        Some(timeline) => {
+            let held = check_reached(&rt, alloc, &timeline);
+            forget(timeline);
+            held
+        }
+        None => {
+            assert!(rt; false);
+            Ok(())
+        }
+    }
+}
+
+/// How long the range of a track is, in ticks; none where these aren't one track that has a range.
+fn range_ticks(items: &[Item]) -> Option<i128> {
+    match items {
+        [ItemOf::Track(track)] => match track.source_range {
+            Some(range) => Some(range.len.ticks),
+            None => None,
+        },
+        _ => None,
+    }
+}
+
+/// Holds that a track can be cut behind four of twenty frames, and how long both pieces are.
+fn check_cut(rt: &impl Abort, alloc: Global, timeline: &Timeline, track: &Item) -> Result<(), Fail>
+    requires few { count_of track.now < 2 ^ 32 }
+    requires faultless { IsFaultlessItem track.now }
+{
+    let list = from_ref(track);
+    let rate = edit_rate(timeline);
+    let four = 117_600_000_000_000_000;
+    assert!(rt; cuts_whole(list, four));
+    match front(alloc, list, four, rate) {
+        Ok(items) => {
+            assert_eq!(rt; range_ticks(&items), Some(four));
+            forget(items);
+        }
+        Err(_) => assert!(rt; false),
+    }
+    match back(alloc, list, four, rate) {
+        Ok(items) => {
+            assert_eq!(rt; range_ticks(&items), Some(470_400_000_000_000_000));
+            forget(items);
+        }
+        Err(_) => assert!(rt; false),
+    }
+    let items = strip(alloc, list, four, four)?;
+    assert_eq!(rt; items.len(), 1);
+    forget(items);
+    Ok(())
+}
+
+fn check_first_cut(rt: &impl Abort, alloc: Global, timeline: &Timeline) -> Result<(), Fail>
+    requires sound { IsSound timeline.now }
+    requires few { count timeline.now.tracks.children < 2 ^ 32 }
+{
+    match timeline.tracks.children.item(0) {
+        Some(track) => check_cut(rt, alloc, timeline, track),
+        None => {
+            assert!(rt; false);
+            Ok(())
+        }
+    }
+}
+
+#[test]
+fn lists_are_cut(rt: HostRuntime) -> Result<(), Fail> {
+    let alloc = rt.alloc();
+    let two = [("a.mov", Some(0), 10), ("b.mov", Some(0), 10)];
+    match timeline_of(alloc, one_track(alloc, &two)?.as_str())? {
+        Some(timeline) => {
+            let held = check_first_cut(&rt, alloc, &timeline);
+            forget(timeline);
+            held
+        }
+        None => {
+            assert!(rt; false);
+            Ok(())
+        }
+    }
+}
+
+/// How many items the first root child has; none where it has no children.
+fn first_len(timeline: &Timeline) -> Option<usize> {
+    match timeline.tracks.children.item(0) {
+        Some(ItemOf::Track(track)) => Some(track.children.len()),
+        _ => None,
+    }
+}
+
+/// How many items the first track has of two timelines that are joined; none where they aren't.
+fn joined_len(alloc: Global, first: Timeline, second: Timeline) -> Option<usize>
+    requires first { IsSound first }
+    requires second { IsSound second }
+    requires few_first { count first.tracks.children < 2 ^ 32 }
+    requires few_second { count second.tracks.children < 2 ^ 32 }
+{
+    let inputs = [first, second];
+    let made = join(alloc, &inputs);
+    forget(inputs);
+    match made {
+        Ok(timeline) => {
+            let len = first_len(&timeline);
+            forget(timeline);
+            len
+        }
+        Err(_) => None,
+    }
+}
+
+#[test]
+fn timelines_are_joined(rt: HostRuntime) -> Result<(), Fail> {
+    let alloc = rt.alloc();
+    let first = one_track(alloc, &[("a.mov", Some(0), 10)])?;
+    let second = two_layers(alloc)?;
+    let len = match timeline_of(alloc, first.as_str())? {
+        Some(first) => match timeline_of(alloc, second.as_str()) {
+            Ok(Some(second)) => joined_len(alloc, first, second),
+            _ => {
+                forget(first);
+                None
+            }
+        },
+        None => None,
+    };
+    assert_eq!(rt; len, Some(2));
+    Ok(())
+}
