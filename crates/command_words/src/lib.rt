@@ -17,8 +17,6 @@ mod options;
 mod rates;
 mod requests;
 mod several;
-#[cfg(test)]
-mod tests;
 mod tools;
 
 pub use drills::DrillAsked;

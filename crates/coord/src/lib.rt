@@ -23,6 +23,3 @@ pub use media::{media_rate, own_reel};
 pub use speeds::item_speed;
 pub use timing::{record_rate, start_frame, trimmed_start};
 pub use wipes::wipe_code;
-
-#[cfg(test)]
-mod tests;

@@ -15,6 +15,3 @@ pub use mem_files::MemFiles;
 pub use mem_out::MemOut;
 pub use output::{Out, WriteFault, write_all};
 pub use real::{RealFiles, RealOut};
-
-#[cfg(test)]
-mod tests;

@@ -98,7 +98,9 @@ fn cut_to(alloc: Global, item: Item, room: i128, rate: Rate) -> Result<Item, Fil
         return Err(FillFault::Phase);
     }
     let start = start_ticks(&item);
-    match sized(alloc, &item, start, room, rate) {
+    let made = sized(alloc, &item, start, room, rate);
+    drop(item);
+    match made {
         Ok(piece) => Ok(piece),
         Err(_) => Err(FillFault::Memory),
     }
@@ -168,7 +170,9 @@ fn fit_to(alloc: Global, item: Item, room: i128, rate: Rate) -> Result<Item, Fil
         Ok(fast) => fast,
         Err(fault) => return Err(fault),
     };
-    match sized(alloc, &fast, start, room, rate) {
+    let sized = sized(alloc, &fast, start, room, rate);
+    drop(fast);
+    match sized {
         Ok(made) => Ok(made),
         Err(_) => Err(FillFault::Memory),
     }

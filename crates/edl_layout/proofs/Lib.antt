@@ -2,5 +2,4 @@ pub mod TrimmedTexts
 pub mod Texts
 pub mod Days
 pub mod FirstEvents
-pub mod Film
 pub mod Widths

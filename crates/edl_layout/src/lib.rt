@@ -15,6 +15,3 @@ mod write;
 
 pub use labels::{first_label_past_day, first_wide_reel};
 pub use write::{write_event, write_list};
-
-#[cfg(test)]
-mod tests;

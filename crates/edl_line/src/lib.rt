@@ -16,8 +16,6 @@ mod note;
 mod numbers;
 mod speed;
 mod statement;
-#[cfg(test)]
-mod tests;
 
 pub use laws::one_outcome;
 pub use line::statement_of;

@@ -15,6 +15,3 @@ pub use laws::{channel_order, equal_speeds, frames_as_times, side_speeds, wide_c
 pub use layout::{Layout, most_events};
 pub use list::{Channel, Cross, Event, EventList, EventSeq, MOST_NUMBER, MOST_TENTHS, Reel, Side};
 pub use speeds::{count_of, half_even};
-
-#[cfg(test)]
-mod tests;

@@ -5,8 +5,6 @@
 mod order;
 mod overlap;
 mod spans;
-#[cfg(test)]
-mod tests;
 mod turns;
 
 pub use order::in_record_order;

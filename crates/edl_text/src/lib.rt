@@ -25,9 +25,6 @@ mod sides;
 pub use faults::EdlFault;
 pub use reader::EdlReader;
 
-#[cfg(test)]
-mod tests;
-
 /// Law: at a rate bytes are one list at most, or have one fault at most, and never both. It does
 /// nothing.
 pub fn one_outcome()

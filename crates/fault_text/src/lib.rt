@@ -15,6 +15,3 @@ pub use faults::{
     script_reason, undo_reason, unlisted_reason,
 };
 pub use reasons::{Detail, Reason, put_reason};
-
-#[cfg(test)]
-mod tests;

@@ -3,4 +3,3 @@ pub mod Starts
 pub mod FrameCounts
 pub mod Pieces
 pub mod SentLines
-pub mod Pairs

@@ -11,6 +11,3 @@ mod listing;
 pub use laws::bare_is_listed;
 pub use lines::write_rows;
 pub use listing::{Listing, RowFault, listing_of};
-
-#[cfg(test)]
-mod tests;

@@ -9,6 +9,3 @@ mod value;
 pub use level::{Level, inside, put_line, top};
 pub use quote::{put_escaped, put_name, put_string};
 pub use value::{put_object, put_value, write_json};
-
-#[cfg(test)]
-mod tests;

@@ -25,9 +25,6 @@ mod strings;
 pub use faults::JsonFault;
 pub use reader::JsonReader;
 
-#[cfg(test)]
-mod tests;
-
 /// Law: bytes are a text of at most one value, or have at most one fault, and never both. It does
 /// nothing.
 pub fn one_outcome()

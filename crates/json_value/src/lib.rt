@@ -33,6 +33,3 @@ pub enum Json {
     /// An object. Two objects that differ in the order of their members are two values.
     Map(Members),
 }
-
-#[cfg(test)]
-mod tests;

@@ -15,8 +15,6 @@ mod list;
 mod reader;
 mod rows;
 mod table;
-#[cfg(test)]
-mod tests;
 mod words;
 
 pub use faults::MediaFault;

@@ -13,6 +13,3 @@ mod rows;
 mod times;
 
 pub use objects::{write_object, write_timeline};
-
-#[cfg(test)]
-mod tests;

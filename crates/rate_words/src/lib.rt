@@ -2,7 +2,5 @@
 #![tactic(auto)]
 
 mod rates;
-#[cfg(test)]
-mod tests;
 
 pub use rates::rate_of;

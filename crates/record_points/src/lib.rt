@@ -4,8 +4,6 @@
 mod forms;
 mod numbers;
 mod points;
-#[cfg(test)]
-mod tests;
 
 pub use forms::is_label_form;
 pub use numbers::whole_number;

@@ -7,6 +7,3 @@ mod renew;
 mod rewrite;
 
 pub use rewrite::upgrade;
-
-#[cfg(test)]
-mod tests;

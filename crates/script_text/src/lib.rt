@@ -8,8 +8,6 @@
 mod acts;
 mod commands;
 mod script;
-#[cfg(test)]
-mod tests;
 mod verbs;
 
 pub use commands::{Act, Command, MOST_COMMANDS, Put, ScriptFault};

@@ -15,6 +15,3 @@ mod texts;
 pub use lists::Sequence;
 pub use members::NamedValues;
 pub use texts::{Text, TextRoom};
-
-#[cfg(test)]
-mod tests;

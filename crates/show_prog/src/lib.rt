@@ -15,6 +15,3 @@ pub use clips::key_of;
 pub use picture::{KeyRef, MixKind, Picture};
 pub use print::{print_show, put_key, put_show};
 pub use program::{Clock, clock_of, show, show_at};
-
-#[cfg(test)]
-mod tests;

@@ -6,8 +6,6 @@ mod counts;
 mod faults;
 mod laws;
 mod modes;
-#[cfg(test)]
-mod tests;
 mod timecode;
 
 pub use faults::TcFault;

@@ -9,8 +9,6 @@ mod field;
 mod line;
 mod part;
 mod reel;
-#[cfg(test)]
-mod tests;
 mod text;
 mod trim;
 

@@ -18,7 +18,6 @@ pub mod MillionthsText
 pub mod Rereadings
 pub mod OneValue
 pub mod RereadLemmas
-pub mod Examples
 pub mod SameValues
 pub mod BoolLemmas
 pub mod DigitBytes

@@ -23,6 +23,3 @@ pub use rates::Rate;
 pub use scalars::Scalar;
 pub use spans::Span;
 pub use times::Time;
-
-#[cfg(test)]
-mod tests;

@@ -10,6 +10,3 @@ mod logs;
 
 pub use faults::UndoFault;
 pub use logs::Log;
-
-#[cfg(test)]
-mod tests;

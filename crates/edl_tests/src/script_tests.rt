@@ -1,0 +1,173 @@
+// A table of lines, and of whole scripts.
+use otio_model::{FillMode, RemoveMode};
+use script_text::{Act, Put, ScriptFault, read_script};
+use std::alloc::Global;
+
+// The number of an act, from 1 on.
+fn kind_of(act: &Act) -> i64 {
+    match act {
+        Act::Overwrite { .. } => 1,
+        Act::Insert { .. } => 2,
+        Act::Slice { .. } => 3,
+        Act::Fill { .. } => 4,
+        Act::Remove { .. } => 5,
+        Act::Trim { .. } => 6,
+        Act::Slip { .. } => 7,
+        Act::Slide { .. } => 8,
+        Act::Ripple { .. } => 9,
+        Act::Roll { .. } => 10,
+        Act::Undo => 11,
+        Act::Redo => 12,
+    }
+}
+
+// The number of what a line alone is read as: -1 for no command, 0 for a fault of the line.
+fn read_as(alloc: Global, line: &str) -> i64 {
+    match read_script(alloc, line.as_bytes()) {
+        Ok(commands) => match commands.first() {
+            Some(command) if command.line == 1 => kind_of(&command.act),
+            Some(_) => -2,
+            None => -1,
+        },
+        Err(ScriptFault::Line(1)) => 0,
+        Err(_) => -2,
+    }
+}
+
+#[test]
+fn reads_words_and_places(rt: HostRuntime) {
+    let table = [
+        ("undo", 11),
+        ("redo", 12),
+        (" redo\t", 12),
+        ("\"undo\"", 11),
+        ("slice 0 5", 3),
+        ("slice\t0  5", 3),
+        ("slice \"0\" \"5\"", 3),
+        ("slice 0/12/4294967295 -999999999999999", 3),
+        ("", -1),
+        ("#", -1),
+        ("# slice", -1),
+        (" ", 0),
+        (" # a", 0),
+        ("Undo", 0),
+        ("undo 1", 0),
+        ("slice", 0),
+        ("slice 0", 0),
+        ("slice 0 5 6", 0),
+        ("slice . 5", 0),
+        ("slice 0/ 5", 0),
+        ("slice /0 5", 0),
+        ("slice 0//1 5", 0),
+        ("slice -1 5", 0),
+        ("slice 00 5", 0),
+        ("slice 4294967296 5", 0),
+        ("\"undo", 0),
+        ("\"undo\"x", 0),
+        ("slice \"0\"5", 0),
+        ("undo\r", 0),
+    ];
+    for (line, wanted) in table {
+        assert!(rt; read_as(rt.alloc(), line) == wanted, "{line}");
+    }
+}
+
+#[test]
+fn reads_numbers_and_arguments(rt: HostRuntime) {
+    let table = [
+        ("overwrite 0 40 clip w W 0 10", 1),
+        ("overwrite 0 40 clip \"\" \"a b\" 0 10", 1),
+        ("insert 0 40 gap 0", 2),
+        ("fill 0 1 source gap 3", 4),
+        ("fill 0 1 sequence clip a A 1 2", 4),
+        ("fill 0 1 fit gap 1", 4),
+        ("remove 0 1 gap", 5),
+        ("remove 0 1 close", 5),
+        ("trim 0 1 -2 3", 6),
+        ("slip 0 1 -2", 7),
+        ("slide 0 1 2", 8),
+        ("ripple 0 1 0 -5", 9),
+        ("roll 0 1 0 0", 10),
+        ("slice 0 05", 0),
+        ("slice 0 +5", 0),
+        ("slice 0 -0", 0),
+        ("slice 0 -", 0),
+        ("slice 0 1000000000000000", 0),
+        ("slice 0 5.0", 0),
+        ("insert 0 0 gap -1", 0),
+        ("insert 0 0 gap", 0),
+        ("insert 0 0 clip a A 0", 0),
+        ("insert 0 0 clip a A -1 2", 0),
+        ("insert 0 0 clip a A 1 2 3", 0),
+        ("fill 0 1 Source gap 3", 0),
+        ("fill 0 1 gap 3", 0),
+        ("remove 0 1", 0),
+        ("remove 0 1 open", 0),
+        ("trim 0 1 2", 0),
+        ("slip 0 1", 0),
+        ("slip 0 1 2 3", 0),
+    ];
+    for (line, wanted) in table {
+        assert!(rt; read_as(rt.alloc(), line) == wanted, "{line}");
+    }
+}
+
+#[test]
+fn reads_the_parts(rt: HostRuntime) {
+    let script = "# one\r\n\r\nfill 3/0 -7 fit clip \"a b\" R1 12 34\nremove 1 2 close\r\n";
+    let Ok(commands) = read_script(rt.alloc(), script.as_bytes()) else {
+        assert!(rt; false);
+        return;
+    };
+    assert!(rt; commands.len() == 2);
+    assert!(rt; commands[0].line == 3 && commands[1].line == 4);
+    match &commands[0].act {
+        Act::Fill {
+            place,
+            at,
+            mode,
+            put,
+        } => {
+            assert!(rt; place.len() == 2 && place.index(0) == Some(3) && place.index(1) == Some(0));
+            assert!(rt; *at == -7 && *mode == FillMode::Fit);
+            match put {
+                Put::Clip {
+                    name,
+                    reel,
+                    start,
+                    length,
+                } => {
+                    assert!(rt; name.as_str() == "a b" && reel.as_str() == "R1");
+                    assert!(rt; *start == 12 && *length == 34);
+                }
+                Put::Gap(_) => assert!(rt; false),
+            }
+        }
+        _ => assert!(rt; false),
+    }
+    match &commands[1].act {
+        Act::Remove { mode, .. } => assert!(rt; *mode == RemoveMode::Close),
+        _ => assert!(rt; false),
+    }
+}
+
+#[test]
+fn tells_the_first_fault(rt: HostRuntime) {
+    let table = [
+        ("undo\nnone\nnone", Some(2)),
+        ("undo\n\n#\n x", Some(4)),
+        ("undo\r\nredo\r\n", None),
+        ("undo\nredo\r", Some(2)),
+    ];
+    for (script, line) in table {
+        match (read_script(rt.alloc(), script.as_bytes()), line) {
+            (Ok(_), None) => {}
+            (Err(ScriptFault::Line(found)), Some(wanted)) => assert!(rt;
+                found == wanted,
+                "{script}"
+            ),
+            _ => assert!(rt; false, "{script}"),
+        }
+    }
+    assert!(rt; read_script(rt.alloc(), b"# \xff").err() == Some(ScriptFault::Line(1)));
+}

@@ -1,0 +1,265 @@
+//! Lengths, places and copies of leaves, speeds of effects, and searches over children.
+
+use crate::trees::{FRAME, frames, gap, played, rate_24, span, warp};
+use otio_model::{
+    Children, Clip, Effect, Effects, External, Item, ItemOf, Items, Media, MediaMap, Place,
+    Transition, copy_item, copy_place,
+};
+use sequences::{NamedValues, Sequence, Text};
+use std::alloc::{AllocError, Global};
+use std::test::Fail;
+use tick_time::Span;
+
+/// A clip of these media, that uses those of the key `m`.
+fn clip_of(
+    alloc: Global,
+    source_range: Option<Span>,
+    media_references: MediaMap,
+) -> Result<Clip, AllocError> {
+    let name = Text::of(alloc, "c")?;
+    let effects = Effects::new(alloc);
+    Ok(Clip {
+        active_media_reference_key: Text::of(alloc, "m")?,
+        ..played(alloc, name, source_range, media_references, effects)
+    })
+}
+
+/// A reference to a file.
+fn external(alloc: Global, available_range: Option<Span>) -> Result<Media, AllocError> {
+    Ok(Media::External(External {
+        metadata: NamedValues::new(alloc),
+        name: Text::of(alloc, "e")?,
+        available_range,
+        target_url: Text::of(alloc, "a.mov")?,
+        rest: NamedValues::new(alloc),
+    }))
+}
+
+/// A clip with one medium, under that key.
+fn clip_under(alloc: Global, key: &str, available_range: Option<Span>) -> Result<Clip, AllocError> {
+    let mut media = MediaMap::new(alloc);
+    media.put(Text::of(alloc, key)?, external(alloc, available_range)?)?;
+    clip_of(alloc, None, media)
+}
+
+fn transition(alloc: Global) -> Result<Transition, AllocError> {
+    Ok(Transition {
+        metadata: NamedValues::new(alloc),
+        name: Text::of(alloc, "t")?,
+        transition_type: Text::of(alloc, "SMPTE_Dissolve")?,
+        in_offset: frames(6, rate_24()),
+        out_offset: frames(7, rate_24()),
+        rest: NamedValues::new(alloc),
+    })
+}
+
+/// How long a leaf is, once it is made.
+fn ticks_of(made: Result<Item, AllocError>) -> Result<Option<i128>, AllocError> {
+    let item = made?;
+    match &item {
+        ItemOf::Clip(_) | ItemOf::Gap(_) | ItemOf::Transition(_) => Ok(item.length()),
+        ItemOf::Stack(_) | ItemOf::Track(_) => Ok(None),
+    }
+}
+
+fn clip_item(clip: Result<Clip, AllocError>) -> Result<Item, AllocError> {
+    Ok(ItemOf::Clip(clip?))
+}
+
+#[test]
+fn lengths_of_leaves(rt: HostRuntime) -> Result<(), Fail> {
+    let alloc = rt.alloc();
+    let transition = Ok(ItemOf::Transition(transition(alloc)?));
+    assert_eq!(rt; ticks_of(transition)?, Some(0));
+    assert_eq!(rt; ticks_of(Ok(gap(alloc, None)))?, Some(0));
+    assert_eq!(rt;
+        ticks_of(clip_item(clip_of(alloc, None, MediaMap::new(alloc))))?,
+        None
+    );
+    let by_media = clip_item(clip_under(alloc, "m", span(10, 100)));
+    assert_eq!(rt; ticks_of(by_media)?, Some(100 * FRAME));
+    Ok(())
+}
+
+/// Whether a clip has a medium, and which range is available, once it is made.
+fn medium_of(made: Result<Clip, AllocError>) -> Result<(bool, Option<Span>), AllocError> {
+    let clip = made?;
+    Ok((clip.media().is_some(), clip.available_range()))
+}
+
+#[test]
+fn media_are_those_of_the_key(rt: HostRuntime) -> Result<(), Fail> {
+    let alloc = rt.alloc();
+    let found = medium_of(clip_under(alloc, "m", span(10, 100)))?;
+    assert_eq!(rt; found, (true, span(10, 100)));
+    let other = medium_of(clip_under(alloc, "n", span(10, 100)))?;
+    assert_eq!(rt; other, (false, None));
+    Ok(())
+}
+
+/// A place of one index.
+fn place_one(alloc: Global, first: u32) -> Result<Place, AllocError> {
+    let mut place = Place::new(alloc);
+    place.push(first)?;
+    Ok(place)
+}
+
+/// A place of two indexes.
+fn place_two(alloc: Global, first: u32, second: u32) -> Result<Place, AllocError> {
+    let mut place = place_one(alloc, first)?;
+    place.push(second)?;
+    Ok(place)
+}
+
+#[test]
+fn places_keep_indexes(rt: HostRuntime) -> Result<(), Fail> {
+    let alloc = rt.alloc();
+    let place = place_two(alloc, 7, 4_294_967_295)?;
+    let copy = copy_place(alloc, &place)?;
+    assert_eq!(rt; copy.len(), 2);
+    assert_eq!(rt; copy.index(1), Some(4_294_967_295));
+    assert_eq!(rt; copy.index(2), None);
+    Ok(())
+}
+
+/// A copy of an item, once that is made.
+fn copied(alloc: Global, made: Result<Item, AllocError>) -> Result<Item, AllocError> {
+    let item = made?;
+    copy_item(alloc, &item)
+}
+
+#[test]
+fn a_copy_of_a_gap(rt: HostRuntime) -> Result<(), Fail> {
+    let alloc = rt.alloc();
+    let copy = copied(alloc, Ok(gap(alloc, span(24, 48))));
+    assert_eq!(rt; ticks_of(copy)?, Some(48 * FRAME));
+    Ok(())
+}
+
+/// So many gaps of one frame.
+fn frame_gaps(alloc: Global, count: usize) -> Result<Items, AllocError> {
+    let mut list = Vec::with_capacity(alloc, count)?;
+    'gaps: for _ in 0..count {
+        list.push(gap(alloc, span(0, 1)))?;
+    }
+    Ok(Items::of(list))
+}
+
+/// The index of the child that holds the instant.
+fn held(children: &Children, ticks: i128) -> Option<usize> {
+    if children.items_below() < 4_294_967_296 {
+        match children.holder(ticks) {
+            Some(seat) => Some(seat.index),
+            None => None,
+        }
+    } else {
+        None
+    }
+}
+
+/// How many of the frames of a track of so many gaps of one frame are held by the gap of their
+/// number.
+fn frames_held(alloc: Global, count: usize) -> Result<usize, AllocError> {
+    let children = Children::of(alloc, frame_gaps(alloc, count)?)?;
+    let mut right: usize = 0;
+    'frames: for frame in 0..count {
+        let ticks = (frame as i128) * 29_400_000_000_000_000;
+        if held(&children, ticks) == Some(frame)
+            && held(&children, ticks + 29_399_999_999_999_999) == Some(frame)
+        {
+            right = right.wrapping_add(1);
+        }
+    }
+    if held(&children, (count as i128) * 29_400_000_000_000_000).is_none() {
+        right = right.wrapping_add(1);
+    }
+    Ok(right)
+}
+
+/// A transition, from 6 frames before its cut to 7 behind it, between gaps of 10 frames.
+fn dissolve(alloc: Global) -> Result<Children, AllocError> {
+    let mut items = Items::new(alloc);
+    items.push(gap(alloc, span(0, 10)))?;
+    items.push(ItemOf::Transition(transition(alloc)?))?;
+    items.push(gap(alloc, span(0, 10)))?;
+    Children::of(alloc, items)
+}
+
+/// The index of the transition whose overlap holds a frame's first instant.
+fn over(children: &Children, frame: u8) -> Option<usize> {
+    if children.items_below() < 4_294_967_296 {
+        match children.first_overlap((frame as i128) * 29_400_000_000_000_000) {
+            Some(seat) => Some(seat.index),
+            None => None,
+        }
+    } else {
+        None
+    }
+}
+
+/// The index of the next transition.
+fn next(children: &Children, index: usize) -> Option<usize> {
+    if children.items_below() < 4_294_967_296 {
+        match children.next_transition(index) {
+            Some(seat) => Some(seat.index),
+            None => None,
+        }
+    } else {
+        None
+    }
+}
+
+/// What the overlaps hold at four frames, and the next transition from two indexes on.
+fn found(made: Result<Children, AllocError>) -> Result<[Option<usize>; 6], AllocError> {
+    let children = made?;
+    Ok([
+        over(&children, 3),
+        over(&children, 4),
+        over(&children, 16),
+        over(&children, 17),
+        next(&children, 1),
+        next(&children, 2),
+    ])
+}
+
+#[test]
+fn overlaps_are_found(rt: HostRuntime) -> Result<(), Fail> {
+    let found = found(dissolve(rt.alloc()))?;
+    assert_eq!(rt; found, [None, Some(1), Some(1), None, Some(1), None]);
+    Ok(())
+}
+
+#[test]
+fn each_frame_is_held_by_its_gap(rt: HostRuntime) -> Result<(), Fail> {
+    assert_eq!(rt; frames_held(rt.alloc(), 1000)?, 1001);
+    Ok(())
+}
+
+/// The speed of two changes of speed, one after the other.
+fn speed_of(
+    alloc: Global,
+    first: Result<Effect, AllocError>,
+    second: Result<Effect, AllocError>,
+) -> Result<Option<i64>, AllocError> {
+    let mut list = Sequence::new(alloc);
+    list.push(first?)?;
+    list.push(second?)?;
+    let effects = Effects::of(list);
+    Ok(effects.speed())
+}
+
+#[test]
+fn speeds_are_rounded_half_to_even(rt: HostRuntime) -> Result<(), Fail> {
+    let alloc = rt.alloc();
+    let speed = speed_of(alloc, warp(alloc, 1_500_000), warp(alloc, 333_333))?;
+    assert_eq!(rt; speed, Some(500_000));
+    Ok(())
+}
+
+#[test]
+fn a_speed_may_pass_1000_on_the_way(rt: HostRuntime) -> Result<(), Fail> {
+    let alloc = rt.alloc();
+    let speed = speed_of(alloc, warp(alloc, 1_000_000_000), warp(alloc, 2_000_000))?;
+    assert_eq!(rt; speed, None);
+    Ok(())
+}
