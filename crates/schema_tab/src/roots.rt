@@ -36,6 +36,9 @@ pub fn object_of(alloc: Global, value: &Json) -> Result<Object, SchemaFault>
     let object = root_of(alloc, value, &place, found)?;
     match left_after(MOST_ITEMS as u32, &object) {
         Some(_) => Ok(object),
-        None => Err(SchemaFault::Items),
+        None => {
+            drop(object);
+            Err(SchemaFault::Items)
+        }
     }
 }
