@@ -1,5 +1,5 @@
-//! Tests of edit decision lists, media lists, scripts and the texts of faults. There is nothing here
-//! but tests.
+//! Tests of edit decision lists, media lists, scripts and the texts of faults. There is nothing
+//! here but tests.
 #![tactic(auto)]
 
 #[cfg(test)]

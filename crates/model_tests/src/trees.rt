@@ -76,6 +76,7 @@ pub fn played(
     }
 }
 
+/// A gap with no name, of this range.
 pub fn gap(alloc: Global, source_range: Option<Span>) -> Item
     ensures { count_of result ≡ 1 }
 {
@@ -126,6 +127,7 @@ pub fn two(alloc: Global, first: Item, second: Item) -> Result<Children, AllocEr
     Children::of(alloc, Items::of(list))
 }
 
+/// A track of these children, with no name and no range.
 pub fn track(alloc: Global, children: Children) -> Item
     ensures { count_of result ≡ count children + 1 }
 {
@@ -142,6 +144,7 @@ pub fn track(alloc: Global, children: Children) -> Item
     })
 }
 
+/// A stack of these children, with no name and no range.
 pub fn stack(alloc: Global, children: Children) -> Stack
     ensures { result.children ≡ children }
 {
