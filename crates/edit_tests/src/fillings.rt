@@ -95,6 +95,7 @@ fn cut_to(alloc: Global, item: Item, room: i128, rate: Rate) -> Result<Item, Fil
         return Ok(item);
     }
     if !is_whole_at(&item, room) {
+        drop(item);
         return Err(FillFault::Phase);
     }
     let start = start_ticks(&item);
@@ -126,6 +127,7 @@ fn moving(item: Item) -> Result<Item, FillFault>
     ensures still { IfErr result (λ _. filled.stands_still item ≡ true) }
 {
     if stands_still(&item) {
+        drop(item);
         return Err(FillFault::Speed);
     }
     Ok(item)
@@ -145,6 +147,7 @@ fn fitted(alloc: Global, item: Item, room: i128) -> Result<Item, FillFault>
     let ticks = ticks_of(&item);
     let speed = fit_speed(ticks, room);
     if speed > MOST_SPEED {
+        drop(item);
         return Err(FillFault::Speed);
     }
     match warped(alloc, item, speed) {

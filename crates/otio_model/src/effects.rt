@@ -1,13 +1,13 @@
 //! The effects of an item, with the speed that they come to.
 
-ghost use Rattle.std.specs.Prelude.{◌≡◌, [], pos, IfSome};
+ghost use Rattle.std.specs.Prelude.{◌≡◌, ◌++◌, ◌∷◌, [], pos, IfSome, OnErr, OnOk};
 ghost use Rattle.tick_time.specs.Times.{IsSpeed};
 ghost use Rattle.otio_model.specs.Speeds.{kept_speed};
 
 use crate::speeds;
 use crate::warps::Effect;
 use sequences::Sequence;
-use std::alloc::Global;
+use std::alloc::{AllocError, Global};
 use std::marker::Model;
 
 /// The effects of an item, in order. Contracts see the list of them; the speed that they come to is
@@ -62,6 +62,17 @@ impl Effects {
         ensures { result.now ≡ self.now }
     {
         self.list.as_slice()
+    }
+
+    /// Puts `effect` behind the others. An error comes where memory runs out, and the effects are
+    /// then as they were.
+    pub fn push(&mut self, effect: Effect) -> Result<(), AllocError>
+        ensures added { OnOk result (self.new ≡ self.old ++ effect ∷ []) }
+        ensures unchanged { OnErr result (self.new ≡ self.old) }
+    {
+        self.list.push(effect)?;
+        self.speed = speeds::kept_speed(self.list.as_slice());
+        Ok(())
     }
 
     #[tactic(auto, using(crate::proofs::SpeedLemmas::kept_in_range))]
