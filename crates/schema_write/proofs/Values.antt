@@ -1,5 +1,5 @@
 -- Values in the written order, each known.
-use Rattle.std.proofs.Common.{◌≡◌, ℕ, List, [], ◌∷◌, map, IfOk, Result, refl, ap, ap₂, subst, Bool}
+use Rattle.std.proofs.Common.{◌≡◌, ℕ, List, [], ◌∷◌, ◌++◌, ◌∙◌, map, IfOk, Result, refl, ap, ap₂, subst, Bool}
 use Rattle.json_value.specs.declared.Json.{Json}
 use Rattle.otio_model.specs.declared.sources.Media.{Media}
 use Rattle.sequences.specs.Pairs.{names_of}
@@ -8,8 +8,9 @@ use Rattle.schema_write.specs.Written.{written}
 use Rattle.schema_rows.specs.Readings.{plain_schema}
 use Rattle.schema_write.specs.Objects.{medium_pair}
 
-pub cons : {x y : Json} {xs ys : List Json} → x ≡ y → xs ≡ ys → (x ∷ xs) ≡ (y ∷ ys)
-cons p q = ap₂ (λ v vs. v ∷ vs) p q
+-- one value more, where those before it and it are known
+pub grown : {old new values : List Json} {x y : Json} → new ≡ old ++ x ∷ [] → old ≡ values → x ≡ y → new ≡ values ++ y ∷ []
+grown added before it = added ∙ ap₂ (λ vs v. vs ++ v ∷ []) before it
 
 -- the same object with equal values
 pub written_as : {E : Type 0} (r : Result Json E) (schema : Schema) (rest : List (List ℕ × Json)) (xs ys : List Json) → xs ≡ ys

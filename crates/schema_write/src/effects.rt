@@ -37,32 +37,32 @@ fn effect_json(alloc: Global, effect: &Effect) -> Result<Json, AllocError>
 fn warp_json(alloc: Global, warp: &Warp) -> Result<Json, AllocError>
     ensures { IfOk result (λ json. json ≡ objects.warp_json warp.now) }
 {
-    let metadata = object(alloc, &warp.metadata)?;
-    let name = string(alloc, &warp.name)?;
-    let effect_name = string(alloc, &warp.effect_name)?;
-    let speed = speed_numeral(alloc, warp.time_scalar)?;
-    let values = vec![in alloc; metadata, name, effect_name, speed]?;
+    let mut values = Vec::with_capacity(alloc, 4)?;
+    values.push(object(alloc, &warp.metadata)?)?;
+    values.push(string(alloc, &warp.name)?)?;
+    values.push(string(alloc, &warp.effect_name)?)?;
+    values.push(speed_numeral(alloc, warp.time_scalar)?)?;
     written(alloc, Schema::Warp, values, &warp.rest)
 }
 
 fn freeze_json(alloc: Global, freeze: &Freeze) -> Result<Json, AllocError>
     ensures { IfOk result (λ json. json ≡ objects.freeze_json freeze.now) }
 {
-    let metadata = object(alloc, &freeze.metadata)?;
-    let name = string(alloc, &freeze.name)?;
-    let effect_name = string(alloc, &freeze.effect_name)?;
-    let speed = zero_numeral(alloc)?;
-    let values = vec![in alloc; metadata, name, effect_name, speed]?;
+    let mut values = Vec::with_capacity(alloc, 4)?;
+    values.push(object(alloc, &freeze.metadata)?)?;
+    values.push(string(alloc, &freeze.name)?)?;
+    values.push(string(alloc, &freeze.effect_name)?)?;
+    values.push(zero_numeral(alloc)?)?;
     written(alloc, Schema::Freeze, values, &freeze.rest)
 }
 
 fn plain_json(alloc: Global, plain: &Plain) -> Result<Json, AllocError>
     ensures { IfOk result (λ json. json ≡ objects.plain_json plain.now) }
 {
-    let metadata = object(alloc, &plain.metadata)?;
-    let name = string(alloc, &plain.name)?;
-    let effect_name = string(alloc, &plain.effect_name)?;
-    let values = vec![in alloc; metadata, name, effect_name]?;
+    let mut values = Vec::with_capacity(alloc, 3)?;
+    values.push(object(alloc, &plain.metadata)?)?;
+    values.push(string(alloc, &plain.name)?)?;
+    values.push(string(alloc, &plain.effect_name)?)?;
     if plain.timed {
         return written(alloc, Schema::TimeEffect, values, &plain.rest);
     }

@@ -58,14 +58,14 @@ pub fn stack_json(alloc: Global, stack: &Stack) -> Result<Json, AllocError>
 fn stack_of(alloc: Global, stack: &Stack, children: JsonList) -> Result<Json, AllocError>
     ensures { IfOk result (λ json. json ≡ objects.stack_by (λ _. children) stack.now) }
 {
-    let metadata = object(alloc, &stack.metadata)?;
-    let name = string(alloc, &stack.name)?;
-    let range = span_json(alloc, stack.source_range)?;
-    let effects = effects_json(alloc, &stack.effects)?;
-    let markers = markers_json(alloc, &stack.markers)?;
-    let enabled = Json::Bool(stack.enabled);
-    let children = Json::List(children);
-    let values = vec![in alloc; metadata, name, range, effects, markers, enabled, children]?;
+    let mut values = Vec::with_capacity(alloc, 7)?;
+    values.push(object(alloc, &stack.metadata)?)?;
+    values.push(string(alloc, &stack.name)?)?;
+    values.push(span_json(alloc, stack.source_range)?)?;
+    values.push(effects_json(alloc, &stack.effects)?)?;
+    values.push(markers_json(alloc, &stack.markers)?)?;
+    values.push(Json::Bool(stack.enabled))?;
+    values.push(Json::List(children))?;
     written(alloc, Schema::Stack, values, &stack.rest)
 }
 
@@ -73,16 +73,14 @@ fn stack_of(alloc: Global, stack: &Stack, children: JsonList) -> Result<Json, Al
 fn track_of(alloc: Global, track: &Track, children: JsonList) -> Result<Json, AllocError>
     ensures { IfOk result (λ json. json ≡ objects.track_by (λ _. children) track.now) }
 {
-    let metadata = object(alloc, &track.metadata)?;
-    let name = string(alloc, &track.name)?;
-    let range = span_json(alloc, track.source_range)?;
-    let effects = effects_json(alloc, &track.effects)?;
-    let markers = markers_json(alloc, &track.markers)?;
-    let enabled = Json::Bool(track.enabled);
-    let children = Json::List(children);
-    let kind = string(alloc, &track.kind)?;
-    let values = vec![in alloc;
-        metadata, name, range, effects, markers, enabled, children, kind,
-    ]?;
+    let mut values = Vec::with_capacity(alloc, 8)?;
+    values.push(object(alloc, &track.metadata)?)?;
+    values.push(string(alloc, &track.name)?)?;
+    values.push(span_json(alloc, track.source_range)?)?;
+    values.push(effects_json(alloc, &track.effects)?)?;
+    values.push(markers_json(alloc, &track.markers)?)?;
+    values.push(Json::Bool(track.enabled))?;
+    values.push(Json::List(children))?;
+    values.push(string(alloc, &track.kind)?)?;
     written(alloc, Schema::Track, values, &track.rest)
 }

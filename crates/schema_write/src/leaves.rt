@@ -17,17 +17,15 @@ use std::alloc::{AllocError, Global};
 pub fn clip_json(alloc: Global, clip: &Clip) -> Result<Json, AllocError>
     ensures { IfOk result (λ json. json ≡ objects.clip_json clip.now) }
 {
-    let metadata = object(alloc, &clip.metadata)?;
-    let name = string(alloc, &clip.name)?;
-    let range = span_json(alloc, clip.source_range)?;
-    let effects = effects_json(alloc, &clip.effects)?;
-    let markers = markers_json(alloc, &clip.markers)?;
-    let enabled = Json::Bool(clip.enabled);
-    let media = media_json(alloc, &clip.media_references)?;
-    let key = string(alloc, &clip.active_media_reference_key)?;
-    let values = vec![in alloc;
-        metadata, name, range, effects, markers, enabled, media, key,
-    ]?;
+    let mut values = Vec::with_capacity(alloc, 8)?;
+    values.push(object(alloc, &clip.metadata)?)?;
+    values.push(string(alloc, &clip.name)?)?;
+    values.push(span_json(alloc, clip.source_range)?)?;
+    values.push(effects_json(alloc, &clip.effects)?)?;
+    values.push(markers_json(alloc, &clip.markers)?)?;
+    values.push(Json::Bool(clip.enabled))?;
+    values.push(media_json(alloc, &clip.media_references)?)?;
+    values.push(string(alloc, &clip.active_media_reference_key)?)?;
     written(alloc, Schema::Clip, values, &clip.rest)
 }
 
@@ -35,13 +33,13 @@ pub fn clip_json(alloc: Global, clip: &Clip) -> Result<Json, AllocError>
 pub fn gap_json(alloc: Global, gap: &Gap) -> Result<Json, AllocError>
     ensures { IfOk result (λ json. json ≡ objects.gap_json gap.now) }
 {
-    let metadata = object(alloc, &gap.metadata)?;
-    let name = string(alloc, &gap.name)?;
-    let range = span_json(alloc, gap.source_range)?;
-    let effects = effects_json(alloc, &gap.effects)?;
-    let markers = markers_json(alloc, &gap.markers)?;
-    let enabled = Json::Bool(gap.enabled);
-    let values = vec![in alloc; metadata, name, range, effects, markers, enabled]?;
+    let mut values = Vec::with_capacity(alloc, 6)?;
+    values.push(object(alloc, &gap.metadata)?)?;
+    values.push(string(alloc, &gap.name)?)?;
+    values.push(span_json(alloc, gap.source_range)?)?;
+    values.push(effects_json(alloc, &gap.effects)?)?;
+    values.push(markers_json(alloc, &gap.markers)?)?;
+    values.push(Json::Bool(gap.enabled))?;
     written(alloc, Schema::Gap, values, &gap.rest)
 }
 
@@ -49,11 +47,11 @@ pub fn gap_json(alloc: Global, gap: &Gap) -> Result<Json, AllocError>
 pub fn transition_json(alloc: Global, transition: &Transition) -> Result<Json, AllocError>
     ensures { IfOk result (λ json. json ≡ objects.transition_json transition.now) }
 {
-    let metadata = object(alloc, &transition.metadata)?;
-    let name = string(alloc, &transition.name)?;
-    let kind = string(alloc, &transition.transition_type)?;
-    let before = offset_json(alloc, transition.in_offset)?;
-    let after = offset_json(alloc, transition.out_offset)?;
-    let values = vec![in alloc; metadata, name, kind, before, after]?;
+    let mut values = Vec::with_capacity(alloc, 5)?;
+    values.push(object(alloc, &transition.metadata)?)?;
+    values.push(string(alloc, &transition.name)?)?;
+    values.push(string(alloc, &transition.transition_type)?)?;
+    values.push(offset_json(alloc, transition.in_offset)?)?;
+    values.push(offset_json(alloc, transition.out_offset)?)?;
     written(alloc, Schema::Transition, values, &transition.rest)
 }

@@ -35,9 +35,9 @@ fn marker_json(alloc: Global, marker: &Marker) -> Result<Json, AllocError>
 fn mark_json(alloc: Global, mark: &Mark) -> Result<Json, AllocError>
     ensures { IfOk result (λ json. json ≡ objects.mark_json mark.now) }
 {
-    let metadata = object(alloc, &mark.metadata)?;
-    let name = string(alloc, &mark.name)?;
-    let range = span_json(alloc, mark.marked_range)?;
-    let values = vec![in alloc; metadata, name, range]?;
+    let mut values = Vec::with_capacity(alloc, 3)?;
+    values.push(object(alloc, &mark.metadata)?)?;
+    values.push(string(alloc, &mark.name)?)?;
+    values.push(span_json(alloc, mark.marked_range)?)?;
     written(alloc, Schema::Marker, values, &mark.rest)
 }

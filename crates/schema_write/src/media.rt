@@ -47,44 +47,44 @@ fn medium_json(alloc: Global, medium: &Media) -> Result<Json, AllocError>
 fn external_json(alloc: Global, medium: &External) -> Result<Json, AllocError>
     ensures { IfOk result (λ json. json ≡ objects.external_json medium.now) }
 {
-    let metadata = object(alloc, &medium.metadata)?;
-    let name = string(alloc, &medium.name)?;
-    let range = span_json(alloc, medium.available_range)?;
-    let url = string(alloc, &medium.target_url)?;
-    let values = vec![in alloc; metadata, name, range, url]?;
+    let mut values = Vec::with_capacity(alloc, 4)?;
+    values.push(object(alloc, &medium.metadata)?)?;
+    values.push(string(alloc, &medium.name)?)?;
+    values.push(span_json(alloc, medium.available_range)?)?;
+    values.push(string(alloc, &medium.target_url)?)?;
     written(alloc, Schema::External, values, &medium.rest)
 }
 
 fn missing_json(alloc: Global, medium: &Missing) -> Result<Json, AllocError>
     ensures { IfOk result (λ json. json ≡ objects.missing_json medium.now) }
 {
-    let metadata = object(alloc, &medium.metadata)?;
-    let name = string(alloc, &medium.name)?;
-    let range = span_json(alloc, medium.available_range)?;
-    let values = vec![in alloc; metadata, name, range]?;
+    let mut values = Vec::with_capacity(alloc, 3)?;
+    values.push(object(alloc, &medium.metadata)?)?;
+    values.push(string(alloc, &medium.name)?)?;
+    values.push(span_json(alloc, medium.available_range)?)?;
     written(alloc, Schema::Missing, values, &medium.rest)
 }
 
 fn generator_json(alloc: Global, medium: &Generator) -> Result<Json, AllocError>
     ensures { IfOk result (λ json. json ≡ objects.generator_json medium.now) }
 {
-    let metadata = object(alloc, &medium.metadata)?;
-    let name = string(alloc, &medium.name)?;
-    let range = span_json(alloc, medium.available_range)?;
-    let kind = string(alloc, &medium.generator_kind)?;
-    let values = vec![in alloc; metadata, name, range, kind]?;
+    let mut values = Vec::with_capacity(alloc, 4)?;
+    values.push(object(alloc, &medium.metadata)?)?;
+    values.push(string(alloc, &medium.name)?)?;
+    values.push(span_json(alloc, medium.available_range)?)?;
+    values.push(string(alloc, &medium.generator_kind)?)?;
     written(alloc, Schema::Generator, values, &medium.rest)
 }
 
 fn images_json(alloc: Global, medium: &Sequence) -> Result<Json, AllocError>
     ensures { IfOk result (λ json. json ≡ objects.images_json medium.now) }
 {
-    let metadata = object(alloc, &medium.metadata)?;
-    let name = string(alloc, &medium.name)?;
-    let range = span_json(alloc, medium.available_range)?;
-    let base = string(alloc, &medium.target_url_base)?;
-    let prefix = string(alloc, &medium.name_prefix)?;
-    let suffix = string(alloc, &medium.name_suffix)?;
-    let values = vec![in alloc; metadata, name, range, base, prefix, suffix]?;
+    let mut values = Vec::with_capacity(alloc, 6)?;
+    values.push(object(alloc, &medium.metadata)?)?;
+    values.push(string(alloc, &medium.name)?)?;
+    values.push(span_json(alloc, medium.available_range)?)?;
+    values.push(string(alloc, &medium.target_url_base)?)?;
+    values.push(string(alloc, &medium.name_prefix)?)?;
+    values.push(string(alloc, &medium.name_suffix)?)?;
     written(alloc, Schema::Images, values, &medium.rest)
 }

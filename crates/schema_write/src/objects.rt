@@ -34,10 +34,10 @@ pub fn json_of(alloc: Global, object: &Object) -> Result<Json, AllocError>
 fn collection_json(alloc: Global, collection: &Collection) -> Result<Json, AllocError>
     ensures { IfOk result (λ json. json ≡ objects.collection_json collection.now) }
 {
-    let metadata = object(alloc, &collection.metadata)?;
-    let name = string(alloc, &collection.name)?;
-    let children = Json::List(objects_json(alloc, &collection.children)?);
-    let values = vec![in alloc; metadata, name, children]?;
+    let mut values = Vec::with_capacity(alloc, 3)?;
+    values.push(object(alloc, &collection.metadata)?)?;
+    values.push(string(alloc, &collection.name)?)?;
+    values.push(Json::List(objects_json(alloc, &collection.children)?))?;
     written(alloc, Schema::Collection, values, &collection.rest)
 }
 
@@ -57,10 +57,10 @@ fn objects_json(alloc: Global, inside: &Objects) -> Result<JsonList, AllocError>
 fn timeline_json(alloc: Global, timeline: &Timeline) -> Result<Json, AllocError>
     ensures { IfOk result (λ json. json ≡ objects.timeline_json timeline.now) }
 {
-    let metadata = object(alloc, &timeline.metadata)?;
-    let name = string(alloc, &timeline.name)?;
-    let start = offset_json(alloc, timeline.global_start_time)?;
-    let tracks = stack_json(alloc, &timeline.tracks)?;
-    let values = vec![in alloc; metadata, name, start, tracks]?;
+    let mut values = Vec::with_capacity(alloc, 4)?;
+    values.push(object(alloc, &timeline.metadata)?)?;
+    values.push(string(alloc, &timeline.name)?)?;
+    values.push(offset_json(alloc, timeline.global_start_time)?)?;
+    values.push(stack_json(alloc, &timeline.tracks)?)?;
     written(alloc, Schema::Timeline, values, &timeline.rest)
 }

@@ -1,11 +1,11 @@
-use Rattle.std.proofs.Common.{◌≡◌, ◌∙◌, refl, [], ◌∷◌}
+use Rattle.std.proofs.Common.{◌≡◌, refl, [], ◌∷◌}
 use Rattle.json_value.specs.declared.Json.{Str, Map}
 use Rattle.schema_rows.specs.declared.schemas.Schema.TheVariants as S
 use Rattle.schema_write.specs.Objects.{span_json}
-use Rattle.schema_write.proofs.Values.{cons, written_as}
+use Rattle.schema_write.proofs.Values.{grown, written_as}
 use Rattle.schema_write.proofs.media.external_json.Goals as goal
 
 pub returns : goal.returns
 returns c =
-    let values : c.in_ok-values.values.items ≡ Map c.args.medium.now.metadata ∷ Str c.args.medium.now.name ∷ span_json c.args.medium.now.available_range ∷ Str c.args.medium.now.target_url ∷ [] = c.in_ok-values.ensures.items ∙ cons c.in_ok-metadata.ensures (cons c.in_ok-name.ensures (cons c.in_ok-range.ensures (cons c.in_ok-url.ensures refl))) in
-    written_as c.written.result S.External c.args.medium.now.rest c.in_ok-values.values.items (Map c.args.medium.now.metadata ∷ Str c.args.medium.now.name ∷ span_json c.args.medium.now.available_range ∷ Str c.args.medium.now.target_url ∷ []) values c.written.ensures
+    let values : c.push-4.new.self.items ≡ Map c.args.medium.now.metadata ∷ Str c.args.medium.now.name ∷ span_json c.args.medium.now.available_range ∷ Str c.args.medium.now.target_url ∷ [] = grown c.in_ok-push-4.ensures.items (grown c.in_ok-push-3.ensures.items (grown c.in_ok-push-2.ensures.items (grown c.in_ok-push.ensures.items c.in_ok-values.ensures.items c.in_ok-object.ensures) c.in_ok-string.ensures) c.in_ok-span_json.ensures) c.in_ok-string-2.ensures in
+    written_as c.written.result S.External c.args.medium.now.rest c.push-4.new.self.items (Map c.args.medium.now.metadata ∷ Str c.args.medium.now.name ∷ span_json c.args.medium.now.available_range ∷ Str c.args.medium.now.target_url ∷ []) values c.written.ensures
