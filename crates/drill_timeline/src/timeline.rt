@@ -31,6 +31,8 @@ fn start() -> Time
 fn track(alloc: Global, items: Items) -> Result<Item, AllocError>
     ensures { IfOk result (λ track. track ≡ track_with items) }
 {
+    let children = Children::of(alloc, items)?;
+    let kind = Text::of(alloc, "Video")?;
     Ok(ItemOf::Track(TrackOf {
         metadata: NamedValues::new(alloc),
         name: Text::empty(),
@@ -38,8 +40,8 @@ fn track(alloc: Global, items: Items) -> Result<Item, AllocError>
         effects: Effects::new(alloc),
         markers: Markers::new(alloc),
         enabled: true,
-        children: Children::of(alloc, items)?,
-        kind: Text::of(alloc, "Video")?,
+        children,
+        kind,
         rest: NamedValues::new(alloc),
     }))
 }
@@ -50,14 +52,16 @@ fn tracks(alloc: Global, track: Item) -> Result<Stack, AllocError>
 {
     let mut list = Vec::with_capacity(alloc, 1)?;
     list.push(track)?;
+    let children = Children::of(alloc, Items::of(list))?;
+    let name = Text::of(alloc, "tracks")?;
     Ok(StackOf {
         metadata: NamedValues::new(alloc),
-        name: Text::of(alloc, "tracks")?,
+        name,
         source_range: None,
         effects: Effects::new(alloc),
         markers: Markers::new(alloc),
         enabled: true,
-        children: Children::of(alloc, Items::of(list))?,
+        children,
         rest: NamedValues::new(alloc),
     })
 }

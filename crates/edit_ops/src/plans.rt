@@ -41,6 +41,7 @@ fn overwrite_at(
         IsRefused timeline.now (Edit.Overwrite place at item) fault) }
 {
     if is_empty(&item) {
+        drop(item);
         return Err(EditFault::Empty);
     }
     let ticks = item_ticks(&item);
@@ -68,7 +69,10 @@ pub(crate) fn plan_overwrite(
 {
     match begin(timeline, &place, at) {
         Ok(moment) => overwrite_at(alloc, timeline, place, moment.instant, item, moment.rate),
-        Err(fault) => Err(fault),
+        Err(fault) => {
+            drop(item);
+            Err(fault)
+        }
     }
 }
 
@@ -92,6 +96,7 @@ fn insert_at(
         IsRefused timeline.now (Edit.Insert place at item) fault) }
 {
     if is_empty(&item) {
+        drop(item);
         return Err(EditFault::Empty);
     }
     let ticks = item_ticks(&item);
@@ -118,7 +123,10 @@ pub(crate) fn plan_insert(
 {
     match begin(timeline, &place, at) {
         Ok(moment) => insert_at(alloc, timeline, place, moment.instant, item, moment.rate),
-        Err(fault) => Err(fault),
+        Err(fault) => {
+            drop(item);
+            Err(fault)
+        }
     }
 }
 
@@ -200,6 +208,7 @@ fn fill_gap(
         IsRefused timeline.now (Edit.Fill place at mode item) fault) }
 {
     if is_empty(&item) {
+        drop(item);
         return Err(EditFault::Empty);
     }
     let ticks = item_filling_ticks(mode, &item, room);
@@ -233,13 +242,17 @@ fn fill_at(
     match holding(track_of(timeline, &place), instant) {
         Some(hold) => {
             if !hold.is_gap {
+                drop(item);
                 return Err(EditFault::NotGap);
             }
             fill_gap(
                 alloc, timeline, place, hold.from, hold.ticks, mode, item, rate,
             )
         }
-        None => Err(EditFault::NoItem),
+        None => {
+            drop(item);
+            Err(EditFault::NoItem)
+        }
     }
 }
 
@@ -269,7 +282,10 @@ pub(crate) fn plan_fill(
             item,
             moment.rate,
         ),
-        Err(fault) => Err(fault),
+        Err(fault) => {
+            drop(item);
+            Err(fault)
+        }
     }
 }
 

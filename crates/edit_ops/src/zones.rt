@@ -160,7 +160,10 @@ pub(crate) fn plan_zone(
     let more = change(total, from, ticks, to);
     match pinned(alloc, timeline, &place, more) {
         Ok(()) => put_zone(alloc, timeline, place, from, put, to, rate),
-        Err(fault) => Err(fault),
+        Err(fault) => {
+            drop(put);
+            Err(fault)
+        }
     }
 }
 

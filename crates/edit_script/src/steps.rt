@@ -162,7 +162,10 @@ fn commit(timeline: &mut Timeline, log: &mut Log, patch: Patch) -> Result<(), Co
             log.commit(timeline, patch);
             Ok(())
         }
-        Err(_) => Err(CommandFault::Memory),
+        Err(_) => {
+            drop(patch);
+            Err(CommandFault::Memory)
+        }
     }
 }
 

@@ -144,7 +144,11 @@ fn alone(alloc: Global, item: Item) -> Result<Vec<Item>, RangedFault>
     let mut list = Vec::new(alloc);
     match list.push(item) {
         Ok(()) => Ok(list),
-        Err(_) => Err(RangedFault::Memory),
+        Err(refused) => {
+            drop(refused);
+            drop(list);
+            Err(RangedFault::Memory)
+        }
     }
 }
 

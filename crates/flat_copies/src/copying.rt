@@ -32,8 +32,9 @@ pub fn copy_with(
 ) -> Result<Timeline, AllocError>
     ensures { IfOk result (λ copy. bare copy ≡ bare (with_roots items.items timeline.now)) }
 {
+    let children = Children::of(alloc, Items::of(items))?;
     let mut copy = copy_timeline(alloc, timeline)?;
-    copy.tracks.children = Children::of(alloc, Items::of(items))?;
+    copy.tracks.children = children;
     Ok(copy)
 }
 
@@ -51,8 +52,17 @@ pub fn copy_around(alloc: Global, item: &Item, children: Children) -> Result<Ite
             track.children = children;
             Ok(ItemOf::Track(track))
         }
-        ItemOf::Clip(clip) => Ok(ItemOf::Clip(clip)),
-        ItemOf::Gap(gap) => Ok(ItemOf::Gap(gap)),
-        ItemOf::Transition(transition) => Ok(ItemOf::Transition(transition)),
+        ItemOf::Clip(clip) => {
+            drop(children);
+            Ok(ItemOf::Clip(clip))
+        }
+        ItemOf::Gap(gap) => {
+            drop(children);
+            Ok(ItemOf::Gap(gap))
+        }
+        ItemOf::Transition(transition) => {
+            drop(children);
+            Ok(ItemOf::Transition(transition))
+        }
     }
 }

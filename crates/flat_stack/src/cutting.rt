@@ -36,7 +36,10 @@ fn up_to(alloc: Global, item: &Item, ticks: i128, rate: Rate) -> Result<Item, Al
         return Ok(copy);
     }
     match cut(alloc, item, ticks, rate) {
-        Ok((front, _)) => Ok(front),
+        Ok((front, back)) => {
+            drop(back);
+            Ok(front)
+        }
         Err(CutFault::Phase) => unreachable!(),
         Err(CutFault::Memory) => Err(AllocError),
     }
@@ -53,9 +56,16 @@ fn from_on(alloc: Global, item: Item, ticks: i128, rate: Rate) -> Result<Item, A
         return Ok(item);
     }
     match cut(alloc, &item, ticks, rate) {
-        Ok((_, back)) => Ok(back),
+        Ok((front, back)) => {
+            drop(front);
+            drop(item);
+            Ok(back)
+        }
         Err(CutFault::Phase) => unreachable!(),
-        Err(CutFault::Memory) => Err(AllocError),
+        Err(CutFault::Memory) => {
+            drop(item);
+            Err(AllocError)
+        }
     }
 }
 

@@ -80,7 +80,13 @@ pub(crate) fn in_place(
     ensures { IfOk result
         (λ all. all.items ≡ flattened.in_place kind.now flat (items_of children.now)) }
 {
-    let mut all = copy_front(alloc, children, first)?;
+    let mut all = match copy_front(alloc, children, first) {
+        Ok(front) => front,
+        Err(error) => {
+            drop(flat);
+            return Err(error);
+        }
+    };
     all.push(flat)?;
     copy_others(alloc, children, kind, first + 1, &mut all)?;
     Ok(all)
@@ -91,15 +97,17 @@ pub(crate) fn flat_track(alloc: Global, kind: &Text, items: Vec<Item>) -> Result
     ensures { IfOk result (λ track. track ≡ flattened.flat_track kind.now items.items) }
 {
     let children = Children::of(alloc, Items::of(items))?;
+    let name = Text::of(alloc, "Flattened")?;
+    let kind = Text::of(alloc, kind.as_str())?;
     Ok(ItemOf::Track(TrackOf {
         metadata: NamedValues::new(alloc),
-        name: Text::of(alloc, "Flattened")?,
+        name,
         source_range: None,
         effects: Effects::new(alloc),
         markers: Sequence::new(alloc),
         enabled: true,
         children,
-        kind: Text::of(alloc, kind.as_str())?,
+        kind,
         rest: NamedValues::new(alloc),
     }))
 }
@@ -112,7 +120,13 @@ pub(crate) fn with_last(
 ) -> Result<Vec<Item>, AllocError>
     ensures { IfOk result (λ all. all.items ≡ items_of children.now ++ flat ∷ []) }
 {
-    let mut all = copy_front(alloc, children, children.len())?;
+    let mut all = match copy_front(alloc, children, children.len()) {
+        Ok(front) => front,
+        Err(error) => {
+            drop(flat);
+            return Err(error);
+        }
+    };
     all.push(flat)?;
     Ok(all)
 }

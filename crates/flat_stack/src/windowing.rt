@@ -203,9 +203,22 @@ fn cut_to(
     ensures { IfOk result (λ cut. IsCutTo timeline start from to cut) }
 {
     let rate = flat_rate(&timeline);
-    let tracks = window_tracks(alloc, &timeline.tracks.children, from, to, rate)?;
+    let tracks = match window_tracks(alloc, &timeline.tracks.children, from, to, rate) {
+        Ok(tracks) => tracks,
+        Err(error) => {
+            drop(timeline);
+            return Err(error);
+        }
+    };
+    let children = match Children::of(alloc, Items::of(tracks)) {
+        Ok(children) => children,
+        Err(error) => {
+            drop(timeline);
+            return Err(error);
+        }
+    };
     let mut cut = timeline;
-    cut.tracks.children = Children::of(alloc, Items::of(tracks))?;
+    cut.tracks.children = children;
     cut.global_start_time = Some(start);
     Ok(cut)
 }
@@ -225,12 +238,18 @@ pub fn window(alloc: Global, timeline: Timeline, a: i128, b: i128) -> Result<Tim
 {
     match zone_of(&timeline, a, b) {
         Some((start, from, to)) => match window_fault(&timeline.tracks.children, from, to) {
-            Some(spot) => Err(fault_of(alloc, spot)),
+            Some(spot) => {
+                drop(timeline);
+                Err(fault_of(alloc, spot))
+            }
             None => match cut_to(alloc, timeline, start, from, to) {
                 Ok(cut) => Ok(cut),
                 Err(_) => Err(FlatFault::Memory),
             },
         },
-        None => Err(FlatFault::Range),
+        None => {
+            drop(timeline);
+            Err(FlatFault::Range)
+        }
     }
 }

@@ -91,7 +91,9 @@ fn judged(alloc: Global, item: Item) -> Result<Outcome, AllocError>
     requires { count_of item < 100 }
 {
     let timeline = timeline(alloc, None, item)?;
-    Ok(outcome_of(sound(alloc, &timeline)))
+    let found = sound(alloc, &timeline);
+    drop(timeline);
+    Ok(outcome_of(found))
 }
 
 /// What is found in a timeline of one track with a track of one clip.
@@ -126,11 +128,16 @@ fn late(alloc: Global) -> Item
 /// The record rate and the number of the first frame of a timeline of one track with one clip.
 fn counted(alloc: Global, start: Option<Time>, item: Item) -> Result<(Rate, i128), AllocError> {
     let timeline = timeline(alloc, start, item)?;
-    Ok((record_rate(&timeline), start_frame(&timeline)))
+    let found = (record_rate(&timeline), start_frame(&timeline));
+    drop(timeline);
+    Ok(found)
 }
 
 fn start_of(alloc: Global, source_range: Option<Span>, media: MediaMap) -> i128 {
-    trimmed_start(&clip(alloc, source_range, media))
+    let item = clip(alloc, source_range, media);
+    let start = trimmed_start(&item);
+    drop(item);
+    start
 }
 
 #[test]
@@ -143,7 +150,9 @@ fn a_transition_plays_as_it_is(rt: HostRuntime) -> Result<(), Fail> {
         out_offset: None,
         rest: NamedValues::new(rt.alloc()),
     });
-    assert_eq!(rt; speed(&item), 1_000_000);
+    let found = speed(&item);
+    drop(item);
+    assert_eq!(rt; found, 1_000_000);
     Ok(())
 }
 

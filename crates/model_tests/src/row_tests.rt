@@ -39,7 +39,9 @@ fn listed(
     count: Option<u32>,
 ) -> Result<Option<Listing>, AllocError> {
     let timeline = timeline(alloc, frames(90_000, rate_25()), 21)?;
-    Ok(listing_of(&timeline, Some(1), start, count))
+    let listing = listing_of(&timeline, Some(1), start, count);
+    drop(timeline);
+    Ok(listing)
 }
 
 /// Sends what is listed of a timeline, once that is made. `None` where it has too many items or
@@ -52,12 +54,15 @@ fn sent_of(
 ) -> Result<Option<Result<(), RowFault>>, AllocError> {
     let timeline = made?;
     if 4_294_967_296 <= timeline.tracks.children.items_below() {
+        drop(timeline);
         return Ok(None);
     }
-    match sound(alloc, &timeline) {
-        Ok(()) => Ok(Some(write_rows(alloc, &timeline, listing, out))),
-        Err(_) => Ok(None),
-    }
+    let sent = match sound(alloc, &timeline) {
+        Ok(()) => Some(write_rows(alloc, &timeline, listing, out)),
+        Err(_) => None,
+    };
+    drop(timeline);
+    Ok(sent)
 }
 
 /// Sends what is listed of a clip of two frames at 24 frames a second.

@@ -56,10 +56,12 @@ fn transition(alloc: Global) -> Result<Transition, AllocError> {
 /// How long a leaf is, once it is made.
 fn ticks_of(made: Result<Item, AllocError>) -> Result<Option<i128>, AllocError> {
     let item = made?;
-    match &item {
-        ItemOf::Clip(_) | ItemOf::Gap(_) | ItemOf::Transition(_) => Ok(item.length()),
-        ItemOf::Stack(_) | ItemOf::Track(_) => Ok(None),
-    }
+    let length = match &item {
+        ItemOf::Clip(_) | ItemOf::Gap(_) | ItemOf::Transition(_) => item.length(),
+        ItemOf::Stack(_) | ItemOf::Track(_) => None,
+    };
+    drop(item);
+    Ok(length)
 }
 
 fn clip_item(clip: Result<Clip, AllocError>) -> Result<Item, AllocError> {
@@ -84,7 +86,9 @@ fn lengths_of_leaves(rt: HostRuntime) -> Result<(), Fail> {
 /// Whether a clip has a medium, and which range is available, once it is made.
 fn medium_of(made: Result<Clip, AllocError>) -> Result<(bool, Option<Span>), AllocError> {
     let clip = made?;
-    Ok((clip.media().is_some(), clip.available_range()))
+    let found = (clip.media().is_some(), clip.available_range());
+    drop(clip);
+    Ok(found)
 }
 
 #[test]
@@ -125,7 +129,9 @@ fn places_keep_indexes(rt: HostRuntime) -> Result<(), Fail> {
 /// A copy of an item, once that is made.
 fn copied(alloc: Global, made: Result<Item, AllocError>) -> Result<Item, AllocError> {
     let item = made?;
-    copy_item(alloc, &item)
+    let copy = copy_item(alloc, &item);
+    drop(item);
+    copy
 }
 
 #[test]

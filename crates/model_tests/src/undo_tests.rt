@@ -27,7 +27,9 @@ fn timeline(alloc: Global) -> Result<Timeline, AllocError> {
 /// A copy of a timeline, once that is made.
 fn copied(alloc: Global, made: Result<Timeline, AllocError>) -> Result<Timeline, AllocError> {
     let timeline = made?;
-    copy_timeline(alloc, &timeline)
+    let copy = copy_timeline(alloc, &timeline);
+    drop(timeline);
+    copy
 }
 
 /// A patch that puts three items in place of the first one.
@@ -57,6 +59,7 @@ fn commit(log: &mut Log, timeline: &mut Timeline, patch: Patch) -> bool
     ensures kept { IsKept log.new timeline.new }
 {
     if !timeline.fits(&patch) {
+        drop(patch);
         return false;
     }
     match log.room_commit(timeline, &patch) {
@@ -64,7 +67,10 @@ fn commit(log: &mut Log, timeline: &mut Timeline, patch: Patch) -> bool
             log.commit(timeline, patch);
             true
         }
-        Err(_) => false,
+        Err(_) => {
+            drop(patch);
+            false
+        }
     }
 }
 
@@ -126,19 +132,26 @@ fn outcomes(
     made: Result<Timeline, AllocError>,
     patch: Patch,
 ) -> Result<[Result<usize, Option<UndoFault>>; 4], AllocError> {
-    let mut timeline = made?;
+    let mut timeline = match made {
+        Ok(timeline) => timeline,
+        Err(error) => {
+            drop(patch);
+            return Err(error);
+        }
+    };
     let mut log = Log::new(alloc);
-    Ok(steps(&mut log, &mut timeline, patch))
+    let found = steps(&mut log, &mut timeline, patch);
+    drop(timeline);
+    drop(log);
+    Ok(found)
 }
 
 #[test]
 fn a_change_is_undone_and_done_again(rt: HostRuntime) -> Result<(), Fail> {
     let alloc = rt.alloc();
-    let [undone, nothing_done, redone, nothing_undone] = outcomes(
-        alloc,
-        copied(alloc, timeline(alloc)),
-        patch(alloc)?,
-    )?;
+    let patch = patch(alloc)?;
+    let made = copied(alloc, timeline(alloc));
+    let [undone, nothing_done, redone, nothing_undone] = outcomes(alloc, made, patch)?;
     assert_eq!(rt; undone, Ok(1));
     assert_eq!(rt; nothing_done, Err(Some(UndoFault::NothingDone)));
     assert_eq!(rt; redone, Ok(3));

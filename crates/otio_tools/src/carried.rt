@@ -45,7 +45,11 @@ pub fn timeline_to_list(
 {
     match sound(alloc, &timeline) {
         Ok(()) => sound_to_list(alloc, timeline, media, drop, wide),
-        Err(fault) => Err(unsound(fault)),
+        Err(fault) => {
+            mem::forget(timeline);
+            mem::forget(media);
+            Err(unsound(fault))
+        }
     }
 }
 

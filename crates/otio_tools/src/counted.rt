@@ -16,6 +16,7 @@ use media_list::MediaList;
 use otio_model::Timeline;
 use source_files::Refusal;
 use std::alloc::Global;
+use std::mem;
 
 const COUNTS: Listings = Listings {
     tracks: false,
@@ -37,7 +38,10 @@ pub fn counts_to_write(alloc: Global, timeline: Timeline) -> Result<Planned, Ref
 {
     match sound(alloc, &timeline) {
         Ok(()) => Ok(Planned::Listed(timeline, COUNTS)),
-        Err(fault) => Err(unsound(fault)),
+        Err(fault) => {
+            mem::forget(timeline);
+            Err(unsound(fault))
+        }
     }
 }
 

@@ -15,6 +15,7 @@ use frame_rows::listing_of;
 use otio_model::Timeline;
 use source_files::Refusal;
 use std::alloc::Global;
+use std::mem;
 
 /// What is to be sent of a timeline whose frames are asked for: the rows of one child of its root
 /// or of all, from a record point or its first frame on, so many or up to its end. An error tells
@@ -33,7 +34,10 @@ pub fn frames_to_write(
 {
     match sound(alloc, &timeline) {
         Ok(()) => rows_of(timeline, asked),
-        Err(fault) => Err(unsound(fault)),
+        Err(fault) => {
+            mem::forget(timeline);
+            Err(unsound(fault))
+        }
     }
 }
 
@@ -48,7 +52,10 @@ fn rows_of(timeline: Timeline, asked: FramesAsked) -> Result<Planned, Refusal>
 {
     match listing_of(&timeline, asked.child, asked.start, asked.count) {
         Some(listing) => Ok(Planned::Rows(timeline, listing)),
-        None => Err(Refusal::Broken(range_reason())),
+        None => {
+            mem::forget(timeline);
+            Err(Refusal::Broken(range_reason()))
+        }
     }
 }
 

@@ -216,7 +216,10 @@ fn opened<'a>(
         match opened_timeline(alloc, content, media) {
             Ok(timeline) => match timelines.push(timeline) {
                 Ok(()) => {}
-                Err(_) => return Err(no_memory(name)),
+                Err(refused) => {
+                    mem::forget(refused);
+                    return Err(no_memory(name));
+                }
             },
             Err(refusal) => return Err(refused(name, refusal)),
         }

@@ -141,6 +141,9 @@ pub fn cut(alloc: Global, item: &Item, ticks: i128, rate: Rate) -> Result<(Item,
     match right_piece(alloc, item, ticks, rate) {
         Ok(right) => Ok((left, right)),
         Err(RangedFault::Range) => unreachable!(),
-        Err(RangedFault::Memory) => Err(CutFault::Memory),
+        Err(RangedFault::Memory) => {
+            drop(left);
+            Err(CutFault::Memory)
+        }
     }
 }

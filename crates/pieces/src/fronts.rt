@@ -67,7 +67,10 @@ pub(crate) fn add(list: &mut Vec<Item>, item: Item) -> Result<(), RangedFault>
 {
     match list.push(item) {
         Ok(()) => Ok(()),
-        Err(_) => Err(RangedFault::Memory),
+        Err(refused) => {
+            drop(refused);
+            Err(RangedFault::Memory)
+        }
     }
 }
 
@@ -79,7 +82,11 @@ fn with_last(list: Vec<Item>, item: Item) -> Result<Vec<Item>, RangedFault>
     let mut list = list;
     match list.push(item) {
         Ok(()) => Ok(list),
-        Err(_) => Err(RangedFault::Memory),
+        Err(refused) => {
+            drop(refused);
+            drop(list);
+            Err(RangedFault::Memory)
+        }
     }
 }
 
@@ -114,7 +121,10 @@ pub fn front_items(
                     Ok(all) => Ok(all),
                     Err(_) => Err(RangedFault::Memory),
                 },
-                Err(fault) => Err(fault),
+                Err(fault) => {
+                    drop(done);
+                    Err(fault)
+                }
             };
         }
         match copied(alloc, item) {
@@ -134,6 +144,9 @@ pub fn front_items(
             Ok(all) => Ok(all),
             Err(_) => Err(RangedFault::Memory),
         },
-        Err(fault) => Err(fault),
+        Err(fault) => {
+            drop(done);
+            Err(fault)
+        }
     }
 }

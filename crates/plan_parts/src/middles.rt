@@ -150,7 +150,9 @@ pub fn fill_zone(
         Ok(list) => list,
         Err(_) => return Err(RangedFault::Memory),
     };
-    match between(alloc, list.as_slice(), low, put, high, rate) {
+    let between = between(alloc, list.as_slice(), low, put, high, rate);
+    drop(list);
+    match between {
         Ok(put) => Ok(Middle {
             at: first.count,
             count,

@@ -225,9 +225,9 @@ fn read_media(alloc: Global, members: &Members, place: &Place) -> RowResult
     let pairs = members.as_slice();
     let mut media = Vec::with_capacity(alloc, pairs.len())?;
     for pair in pairs {
+        let key = Text::of(alloc, pair.0.as_str())?;
         let found = read_object(alloc, &MEDIA, &pair.1, place)?;
         let reference = medium_of(alloc, &pair.1, found)?;
-        let key = Text::of(alloc, pair.0.as_str())?;
         media.push((key, reference))?;
     }
     Ok(Value::Media(NamedValues::of(media)))

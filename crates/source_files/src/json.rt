@@ -15,6 +15,7 @@ use json_text::{JsonFault, JsonReader};
 use json_value::Json;
 use limits::{MOST_BYTES, PIECE_BYTES};
 use std::alloc::Global;
+use std::mem;
 
 /// How many bytes a file may have.
 const MOST: usize = MOST_BYTES as usize;
@@ -33,14 +34,21 @@ pub fn read_json<F: Files>(alloc: Global, files: &mut F) -> Result<Json, ReadFau
     let mut taken = 0usize;
     'pieces: while taken <= MOST {
         match files.read(&mut piece) {
-            Err(_) => return Err(ReadFault::Failed),
+            Err(_) => {
+                mem::forget(reader);
+                return Err(ReadFault::Failed);
+            }
             Ok(0) => return value_of(reader),
             Ok(count) => match reader.feed(&piece[..count]) {
                 Ok(()) => taken += count,
-                Err(fault) => return Err(ReadFault::Refused(json_refusal(fault))),
+                Err(fault) => {
+                    mem::forget(reader);
+                    return Err(ReadFault::Refused(json_refusal(fault)));
+                }
             },
         }
     }
+    mem::forget(reader);
     Err(ReadFault::Refused(json_refusal(JsonFault::Large)))
 }
 

@@ -16,6 +16,7 @@ use edl_text::{EdlFault, EdlReader};
 use fault_text::list_reason;
 use limits::{MOST_BYTES, PIECE_BYTES};
 use std::alloc::Global;
+use std::mem;
 use tick_time::Rate;
 
 /// How many bytes a file may have.
@@ -34,14 +35,21 @@ pub fn read_list<F: Files>(alloc: Global, rate: Rate, files: &mut F) -> Result<E
     let mut taken = 0usize;
     'pieces: while taken <= MOST {
         match files.read(&mut piece) {
-            Err(_) => return Err(ReadFault::Failed),
+            Err(_) => {
+                mem::forget(reader);
+                return Err(ReadFault::Failed);
+            }
             Ok(0) => return list_of(reader),
             Ok(count) => match reader.feed(&piece[..count]) {
                 Ok(()) => taken += count,
-                Err(fault) => return Err(ReadFault::Refused(list_refusal(fault))),
+                Err(fault) => {
+                    mem::forget(reader);
+                    return Err(ReadFault::Refused(list_refusal(fault)));
+                }
             },
         }
     }
+    mem::forget(reader);
     Err(ReadFault::Refused(list_refusal(EdlFault::Large)))
 }
 

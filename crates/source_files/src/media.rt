@@ -13,6 +13,7 @@ use fault_text::media_reason;
 use limits::{MOST_BYTES, PIECE_BYTES};
 use media_list::{MediaFault, MediaList, MediaReader};
 use std::alloc::Global;
+use std::mem;
 
 /// How many bytes a file may have.
 const MOST: usize = MOST_BYTES as usize;
@@ -29,14 +30,21 @@ pub fn read_media<F: Files>(alloc: Global, files: &mut F) -> Result<MediaList, R
     let mut taken = 0usize;
     'pieces: while taken <= MOST {
         match files.read(&mut piece) {
-            Err(_) => return Err(ReadFault::Failed),
+            Err(_) => {
+                mem::forget(reader);
+                return Err(ReadFault::Failed);
+            }
             Ok(0) => return rows_of(reader),
             Ok(count) => match reader.feed(&piece[..count]) {
                 Ok(()) => taken += count,
-                Err(fault) => return Err(ReadFault::Refused(media_refusal(fault))),
+                Err(fault) => {
+                    mem::forget(reader);
+                    return Err(ReadFault::Refused(media_refusal(fault)));
+                }
             },
         }
     }
+    mem::forget(reader);
     Err(ReadFault::Refused(media_refusal(MediaFault::Large)))
 }
 

@@ -66,8 +66,14 @@ fn timeline_in(object: Object) -> Result<Timeline, ReadFault>
 {
     match object {
         Object::Timeline(timeline) => Ok(timeline),
-        Object::Collection(_) => Err(ReadFault::Refused(Refusal::Broken(not_timeline_reason()))),
-        Object::Item(_) => Err(ReadFault::Refused(Refusal::Broken(not_timeline_reason()))),
+        Object::Collection(collection) => {
+            mem::forget(collection);
+            Err(ReadFault::Refused(Refusal::Broken(not_timeline_reason())))
+        }
+        Object::Item(item) => {
+            mem::forget(item);
+            Err(ReadFault::Refused(Refusal::Broken(not_timeline_reason())))
+        }
     }
 }
 

@@ -16,6 +16,7 @@ use crate::objects::{read_object, read_timeline};
 use crate::scripts::read_commands;
 use dev_io::{Files, Opened};
 use std::alloc::Global;
+use std::mem;
 use tick_time::Rate;
 
 /// What the files hold, one after another. Each is opened, read to its end and judged as what it is
@@ -44,7 +45,10 @@ pub fn read_sources<'a, F: Files>(
         match read_source(alloc, source, files) {
             Ok(content) => match contents.push(content) {
                 Ok(()) => {}
-                Err(_) => return Err(stop_at(source.name, ReadFault::Refused(Refusal::Memory))),
+                Err(refused) => {
+                    mem::forget(refused);
+                    return Err(stop_at(source.name, ReadFault::Refused(Refusal::Memory)));
+                }
             },
             Err(fault) => return Err(stop_at(source.name, fault)),
         }

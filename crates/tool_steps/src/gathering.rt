@@ -48,7 +48,10 @@ fn checked(alloc: Global, timeline: Timeline) -> Result<Timeline, ToolFault>
 {
     match sound(alloc, &timeline) {
         Ok(()) => Ok(timeline),
-        Err(why) => Err(unsound(why)),
+        Err(why) => {
+            drop(timeline);
+            Err(unsound(why))
+        }
     }
 }
 
@@ -147,7 +150,11 @@ pub(crate) fn gathered(
     ensures fault { IfErr result (Told (IsUngathered joining inputs.items)) }
 {
     match joining {
-        Some(joining) => joined_by(alloc, inputs.as_slice(), joining),
+        Some(joining) => {
+            let all = joined_by(alloc, inputs.as_slice(), joining);
+            drop(inputs);
+            all
+        }
         None => Ok(the_one(inputs)),
     }
 }

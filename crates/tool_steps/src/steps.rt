@@ -60,9 +60,22 @@ fn tracks_of(alloc: Global, children: &Children, kind: &Text) -> Result<Children
 fn only_of(alloc: Global, timeline: Timeline, kind: TrackKind) -> Result<Timeline, AllocError>
     ensures { IfOk result (IsOnly (Some kind) timeline) }
 {
-    let name = kind_name(alloc, kind)?;
+    let name = match kind_name(alloc, kind) {
+        Ok(name) => name,
+        Err(error) => {
+            drop(timeline);
+            return Err(error);
+        }
+    };
+    let tracks = match tracks_of(alloc, &timeline.tracks.children, &name) {
+        Ok(tracks) => tracks,
+        Err(error) => {
+            drop(timeline);
+            return Err(error);
+        }
+    };
     let mut kept = timeline;
-    kept.tracks.children = tracks_of(alloc, &kept.tracks.children, &name)?;
+    kept.tracks.children = tracks;
     Ok(kept)
 }
 
@@ -130,10 +143,13 @@ fn part_of(alloc: Global, timeline: Timeline, asked: Window) -> Result<Timeline,
             Ok(part) => Ok(part),
             Err(why) => Err(at(0, why)),
         },
-        None => Err(ToolFault::At {
-            input: 0,
-            fault: FlatFault::Range,
-        }),
+        None => {
+            drop(timeline);
+            Err(ToolFault::At {
+                input: 0,
+                fault: FlatFault::Range,
+            })
+        }
     }
 }
 
@@ -178,6 +194,7 @@ fn narrow(timeline: Timeline) -> Result<Timeline, ToolFault>
     if timeline.tracks.children.items_below() < MOST_HELD {
         Ok(timeline)
     } else {
+        drop(timeline);
         Err(ToolFault::Memory)
     }
 }
@@ -220,8 +237,14 @@ fn flat_as(
         Flattening::Audio => flat_of(alloc, timeline, TrackKind::Audio, keep),
         Flattening::All => match flat_of(alloc, timeline, TrackKind::Video, keep) {
             Ok(pictures) => match flat_of(alloc, &pictures, TrackKind::Audio, keep) {
-                Ok(flat) => Ok(flat),
-                Err(fault) => Err(fault),
+                Ok(flat) => {
+                    drop(pictures);
+                    Ok(flat)
+                }
+                Err(fault) => {
+                    drop(pictures);
+                    Err(fault)
+                }
             },
             Err(fault) => Err(fault),
         },
@@ -241,7 +264,11 @@ fn flattened(
     ensures fault { IfErr result (Told (IsUnflat asked keep timeline)) }
 {
     match asked {
-        Some(asked) => flat_as(alloc, &timeline, asked, keep),
+        Some(asked) => {
+            let flat = flat_as(alloc, &timeline, asked, keep);
+            drop(timeline);
+            flat
+        }
         None => Ok(timeline),
     }
 }

@@ -14,5 +14,5 @@ pub returns : goal.returns
 returns c =
     let fits = c.ranges.from in
     let fits_to = c.ranges.to in
-    let made = simp to_z-of_z at c.in_ok-tracks.ensures in
-    cut_is c.args.timeline c.args.start c.args.from c.args.to c.flat_rate-rate.result c.in_ok-tracks.tracks.items c.in_ok-cut.field-0 c.flat_rate-rate.ensures made (c.in_ok-cut.ensures ∙ ap listed c.of.ensures)
+    let made = simp to_z-of_z at c.in-Ok.ensures in
+    cut_is c.args.timeline c.args.start c.args.from c.args.to c.flat_rate-rate.result c.in-Ok.tracks.items c.in-Ok-of.children c.flat_rate-rate.ensures made (c.in-Ok-of.ensures ∙ ap listed c.of.ensures)

@@ -43,8 +43,8 @@ kept-requires-clause-there c =
     there_as (items_of c.args.children.now) _ _ c.ahead-first.result.count
     c.touched-count.result c.ahead-first.ensures.count c.touched-count.ensures
 
-pub between-requires-clause-faultless : goal.between-requires-clause-faultless
-between-requires-clause-faultless c =
+pub between-between-requires-clause-faultless : goal.between-between-requires-clause-faultless
+between-between-requires-clause-faultless c =
     subst AreCuttable (sym c.as_slice.ensures.value) c.in-Ok.ensures.faultless
 
 pub returns-in-Ok-between-clause-made : goal.returns-in-Ok-between-clause-made
@@ -96,8 +96,8 @@ returns-in-Ok-between-clause-few c =
     (omega (arith, ints, c.less-low.ensures.value, c.less-high.ensures.value, c.requires.to))
     (c.as_slice.ensures.value ∙ c.in-Ok.ensures.made) c.in-Ok-between.ensures.made
 
-pub returns-clause-far : goal.returns-clause-far
-returns-clause-far c = λ e n.
+pub returns-in-Err-between-clause-far : goal.returns-in-Err-between-clause-far
+returns-in-Err-between-clause-far c = λ e n.
     let bounds = ahead_short (items_of c.args.children.now) _ _ c.ahead-first.result.ticks
     c.requires.faultless c.ahead-first.ensures.ticks in
     let t = c.ahead-first.ensures.ticks in

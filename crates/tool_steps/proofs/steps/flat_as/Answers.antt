@@ -8,8 +8,8 @@ returns-in-Ok-flat_of-clause-flat c =
     (sym c.in-All.is)
     (c.in-Ok.pictures, c.in-Ok.ensures.flat, c.in-Ok-flat_of.ensures.flat)
 
-pub returns-in-Ok-clause-fault : goal.returns-in-Ok-clause-fault
-returns-in-Ok-clause-fault c = λ n.
+pub returns-in-Err-flat_of-clause-fault : goal.returns-in-Err-flat_of-clause-fault
+returns-in-Err-flat_of-clause-fault c = λ n.
     subst (λ j. IsUnflat (Some j) c.args.keep c.args.timeline.now c.in-Err-flat_of.fault)
     (sym c.in-All.is)
     (inr (c.in-Ok.pictures, c.in-Ok.ensures.flat, c.in-Err-flat_of.ensures.fault n))
