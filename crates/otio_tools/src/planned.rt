@@ -423,18 +423,33 @@ fn judge(
     ensures desk { IfOk result (λ planned. IsDesk planned → ⊥) }
 {
     match command {
-        Command::ListToList { drop, wide, .. } => list_to_write(list_in(content), drop, wide),
+        Command::ListToList { drop, wide, .. } => {
+            mem::forget(media);
+            list_to_write(list_in(content), drop, wide)
+        }
         Command::ListToObjects { rate: _ } => conformed_to_write(alloc, list_in(content), media),
         Command::TimelineToList { drop, wide } => {
             timeline_to_list(alloc, timeline_in(content), media, drop, wide)
         }
-        Command::ToObjects => Ok(Planned::Root(object_in(content))),
-        Command::ToJson => Ok(Planned::Value(value_in(content))),
-        Command::Frames(asked) => frames_to_write(alloc, timeline_in(content), asked),
+        Command::ToObjects => {
+            mem::forget(media);
+            Ok(Planned::Root(object_in(content)))
+        }
+        Command::ToJson => {
+            mem::forget(media);
+            Ok(Planned::Value(value_in(content)))
+        }
+        Command::Frames(asked) => {
+            mem::forget(media);
+            frames_to_write(alloc, timeline_in(content), asked)
+        }
         Command::ListFrames { rate: _, frames } => {
             conformed_frames_to_write(alloc, list_in(content), media, frames)
         }
-        Command::Stat => counts_to_write(alloc, timeline_in(content)),
+        Command::Stat => {
+            mem::forget(media);
+            counts_to_write(alloc, timeline_in(content))
+        }
         Command::ListStat { rate: _ } => {
             conformed_counts_to_write(alloc, list_in(content), media)
         }
