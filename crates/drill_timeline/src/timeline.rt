@@ -50,7 +50,13 @@ fn track(alloc: Global, items: Items) -> Result<Item, AllocError>
 fn tracks(alloc: Global, track: Item) -> Result<Stack, AllocError>
     ensures { IfOk result (λ tracks. tracks ≡ stack_with track) }
 {
-    let mut list = Vec::with_capacity(alloc, 1)?;
+    let mut list = match Vec::with_capacity(alloc, 1) {
+        Ok(list) => list,
+        Err(_) => {
+            drop(track);
+            return Err(AllocError);
+        }
+    };
     list.push(track)?;
     let children = Children::of(alloc, Items::of(list))?;
     let name = Text::of(alloc, "tracks")?;
