@@ -121,10 +121,7 @@ pub fn front_items(
                     Ok(all) => Ok(all),
                     Err(_) => Err(RangedFault::Memory),
                 },
-                Err(fault) => {
-                    drop(done);
-                    Err(fault)
-                }
+                Err(fault) => Err(fault),
             };
         }
         match copied(alloc, item) {
@@ -144,9 +141,6 @@ pub fn front_items(
             Ok(all) => Ok(all),
             Err(_) => Err(RangedFault::Memory),
         },
-        Err(fault) => {
-            drop(done);
-            Err(fault)
-        }
+        Err(fault) => Err(fault),
     }
 }

@@ -23,7 +23,8 @@ use tick_time::Rate;
 /// read as before the next is opened; the first that isn't there, can't be read or isn't what it is
 /// read as ends the reading, and nothing behind its fault is read.
 ///
-/// An error tells the name of that file and why. Want of memory may come at any file.
+/// An error tells the name of that file and why. Want of memory may come at any file. What was read
+/// of a file that is refused isn't freed.
 pub fn read_sources<'a, F: Files>(
     alloc: Global,
     sources: &[Source<'a>],
