@@ -1,6 +1,6 @@
 //! The latest event line, which M2 lines and notes may still change.
 
-ghost use Rattle.std.specs.Prelude.{◌≡◌, ◌++◌, List, ℕ, Some, map, true, false, IfOk, MatchOption, OnOk};
+ghost use Rattle.std.specs.Prelude.{◌≡◌, ◌++◌, ◌∷◌, [], List, ℕ, Some, map, true, false, IfOk, MatchOption, OnOk};
 ghost use Rattle.edl_line.specs.Views.{reel_said};
 ghost use Rattle.edl_text.specs.Events.{where_set};
 ghost use Rattle.edl_text.specs.Sides.{reel_of as reel_named, begun as begun_by, duration as duration_of, is_cut as is_cut_kind};
@@ -220,6 +220,17 @@ impl Pending {
         Ok(())
     }
 
+    /// Adds the events of the line on the channels before a second sound.
+    fn push_before(&self, alloc: Global, events: &mut Vec<Event>) -> Result<(), AllocError>
+        ensures { OnOk result (events.new.items ≡ events.old.items
+            ++ map (event_of self.now) (where_set self.now.channels.picture Channel.V)
+            ++ map (event_of self.now) (where_set self.now.channels.first_sound Channel.A)) }
+    {
+        self.push_on(alloc, self.channels.picture, Channel::V, events)?;
+        self.push_on(alloc, self.channels.first_sound, Channel::A, events)?;
+        Ok(())
+    }
+
     /// The event of the line on one channel, in the same memory.
     fn into_event(self, alloc: Global, channel: Channel) -> Result<Event, AllocError>
         ensures { IfOk result (λ event. event ≡ event_of self channel) }
@@ -234,27 +245,50 @@ impl Pending {
         })
     }
 
+    /// Adds the event of the line on its last channel, in the same memory.
+    fn push_last(
+        self,
+        alloc: Global,
+        channel: Channel,
+        events: &mut Vec<Event>,
+    ) -> Result<(), AllocError>
+        ensures { OnOk result (events.new.items
+            ≡ events.old.items ++ event_of self channel ∷ []) }
+    {
+        events.push(self.into_event(alloc, channel)?)?;
+        Ok(())
+    }
+
     /// Adds the events of the line; the last takes the sides of the line.
     pub(crate) fn push_to(self, alloc: Global, events: &mut Vec<Event>) -> Result<(), AllocError>
         ensures { OnOk result (events.new.items ≡ events.old.items ++ events_given self) }
     {
         if self.frames.record_in == self.frames.record_out {
+            drop(self);
             return Ok(());
         }
         if self.channels.second_sound {
-            self.push_on(alloc, self.channels.picture, Channel::V, events)?;
-            self.push_on(alloc, self.channels.first_sound, Channel::A, events)?;
-            events.push(self.into_event(alloc, Channel::A2)?)?;
-            return Ok(());
+            return match self.push_before(alloc, events) {
+                Ok(()) => self.push_last(alloc, Channel::A2, events),
+                Err(error) => {
+                    drop(self);
+                    Err(error)
+                }
+            };
         }
         if self.channels.first_sound {
-            self.push_on(alloc, self.channels.picture, Channel::V, events)?;
-            events.push(self.into_event(alloc, Channel::A)?)?;
-            return Ok(());
+            return match self.push_on(alloc, self.channels.picture, Channel::V, events) {
+                Ok(()) => self.push_last(alloc, Channel::A, events),
+                Err(error) => {
+                    drop(self);
+                    Err(error)
+                }
+            };
         }
         if self.channels.picture {
-            events.push(self.into_event(alloc, Channel::V)?)?;
+            return self.push_last(alloc, Channel::V, events);
         }
+        drop(self);
         Ok(())
     }
 }
