@@ -37,13 +37,45 @@ const NONE: [(&str, TcFault); 15] = [
     ("-1:00:00:00", TcFault::Form),
 ];
 
+/// That bytes read as a number, or as this fault.
+fn reads_as(
+    rt: &impl Abort,
+    text: &[u8],
+    rate: Rate,
+    drop_frame: bool,
+    answer: Result<i64, TcFault>,
+) {
+    assert_eq!(rt; read(text, rate, drop_frame), answer);
+}
+
+/// That a number has this label, or this fault.
+fn label_is(
+    rt: &impl Abort,
+    number: i64,
+    rate: Rate,
+    drop_frame: bool,
+    answer: Result<[u8; 11], TcFault>,
+) {
+    assert_eq!(rt; label(number, rate, drop_frame), answer);
+}
+
+/// That drop-frame labels read as they should, and that those that do are the numbers' labels.
+fn are_drop_labels(rt: &impl Abort, rate: Rate, labels: &[(&[u8; 11], Result<i64, TcFault>)]) {
+    for (text, answer) in labels.iter() {
+        reads_as(rt, text.as_slice(), rate, true, *answer);
+        if let Ok(number) = *answer {
+            label_is(rt, number, rate, true, Ok(**text));
+        }
+    }
+}
+
 #[test]
 #[tactic(auto, unfolding(tick_time::specs::Rates::is_rate))]
 fn known_labels(rt: HostRuntime) {
     let film = whole_rate(24);
     for (text, number) in KNOWN.iter() {
-        assert_eq!(rt; read(text.as_slice(), film, false), Ok(*number));
-        assert_eq!(rt; label(*number, film, false), Ok(**text));
+        reads_as(&rt, text.as_slice(), film, false, Ok(*number));
+        label_is(&rt, *number, film, false, Ok(**text));
     }
 }
 
@@ -52,7 +84,7 @@ fn known_labels(rt: HostRuntime) {
 fn no_labels(rt: HostRuntime) {
     let film = whole_rate(24);
     for (text, fault) in NONE.iter() {
-        assert_eq!(rt; read(text.as_bytes(), film, false), Err(*fault));
+        reads_as(&rt, text.as_bytes(), film, false, Err(*fault));
     }
 }
 
@@ -123,21 +155,16 @@ const DROP_30: [(&[u8; 11], Result<i64, TcFault>); 12] = [
 #[test]
 fn drop_frame_at_30(rt: HostRuntime) {
     let rate = rate_30_drop();
-    for (text, answer) in DROP_30.iter() {
-        assert_eq!(rt; read(text.as_slice(), rate, true), *answer);
-        if let Ok(n) = *answer {
-            assert_eq!(rt; label(n, rate, true), Ok(**text));
-        }
-    }
-    assert_eq!(rt; read(b"00:01:00;02", rate, false), Ok(1_800));
+    are_drop_labels(&rt, rate, DROP_30.as_slice());
+    reads_as(&rt, b"00:01:00;02", rate, false, Ok(1_800));
     assert_eq!(rt; label_frame(b"00:01:00;02", rate, false), Some(1_800));
     assert_eq!(rt; label_frame(b"00:01:00;00", rate, false), None);
-    assert_eq!(rt; read(b"00:01:00:02", rate, true), Ok(1_800));
-    assert_eq!(rt; read(b"00:01:00:00", rate, false), Ok(1_800));
-    assert_eq!(rt; label(1_800, rate, false), Ok(*b"00:01:00:00"));
-    assert_eq!(rt; label(2_589_408, rate, true), Err(TcFault::Day));
-    assert_eq!(rt; label(-1, rate, true), Err(TcFault::Day));
-    assert_eq!(rt; label(2_589_408, rate, false), Ok(*b"23:58:33:18"));
+    reads_as(&rt, b"00:01:00:02", rate, true, Ok(1_800));
+    reads_as(&rt, b"00:01:00:00", rate, false, Ok(1_800));
+    label_is(&rt, 1_800, rate, false, Ok(*b"00:01:00:00"));
+    label_is(&rt, 2_589_408, rate, true, Err(TcFault::Day));
+    label_is(&rt, -1, rate, true, Err(TcFault::Day));
+    label_is(&rt, 2_589_408, rate, false, Ok(*b"23:58:33:18"));
 }
 
 /// Labels at 60000/1001 with drop-frame.
@@ -154,13 +181,8 @@ const DROP_60: [(&[u8; 11], Result<i64, TcFault>); 7] = [
 #[test]
 fn drop_frame_at_60(rt: HostRuntime) {
     let rate = rate_60_drop();
-    for (text, answer) in DROP_60.iter() {
-        assert_eq!(rt; read(text.as_slice(), rate, true), *answer);
-        if let Ok(n) = *answer {
-            assert_eq!(rt; label(n, rate, true), Ok(**text));
-        }
-    }
-    assert_eq!(rt; label(5_178_816, rate, true), Err(TcFault::Day));
+    are_drop_labels(&rt, rate, DROP_60.as_slice());
+    label_is(&rt, 5_178_816, rate, true, Err(TcFault::Day));
 }
 
 /// The first number of a minute, with drop-frame at 30000/1001 or twice that: 17 982 or 35 964
@@ -178,33 +200,31 @@ fn first_number(tens: u32, minute: u32, twice: u32) -> u32
     twice * (tens * 17_982 + before)
 }
 
+/// That the first label of a minute has its last digit, and reads as the number again.
+fn begins_minute(rt: &impl Abort, number: i64, rate: Rate, digit: u8, left_out: u8) {
+    match label(number, rate, true) {
+        Ok(text) => {
+            assert_eq!(rt;
+                [text[4], text[6], text[7], text[8], text[9], text[10]],
+                [digit, b'0', b'0', b';', b'0', left_out]
+            );
+            reads_as(rt, text.as_slice(), rate, false, Ok(number));
+        }
+        Err(_) => assert!(rt; false, "no label"),
+    }
+}
+
 #[test]
 fn each_minute_of_a_day(rt: HostRuntime) {
     for tens in 0..144u32 {
         for minute in 0..10u32 {
+            let digit = b'0' + minute as u8;
             let slow = i64::from(first_number(tens, minute, 1));
             let left_out = if minute == 0 { b'0' } else { b'2' };
-            match label(slow, rate_30_drop(), true) {
-                Ok(text) => {
-                    assert_eq!(rt; text[4], b'0' + minute as u8);
-                    assert_eq!(rt;
-                        [text[6], text[7], text[8], text[9], text[10]],
-                        [b'0', b'0', b';', b'0', left_out]
-                    );
-                    assert_eq!(rt; read(text.as_slice(), rate_30_drop(), false), Ok(slow));
-                }
-                Err(_) => assert!(rt; false, "no label"),
-            }
+            begins_minute(&rt, slow, rate_30_drop(), digit, left_out);
             let fast = i64::from(first_number(tens, minute, 2));
             let left_out = if minute == 0 { b'0' } else { b'4' };
-            match label(fast, rate_60_drop(), true) {
-                Ok(text) => {
-                    assert_eq!(rt; text[4], b'0' + minute as u8);
-                    assert_eq!(rt; text[10], left_out);
-                    assert_eq!(rt; read(text.as_slice(), rate_60_drop(), false), Ok(fast));
-                }
-                Err(_) => assert!(rt; false, "no label"),
-            }
+            begins_minute(&rt, fast, rate_60_drop(), digit, left_out);
         }
     }
 }
@@ -214,11 +234,11 @@ fn first_and_last(rt: &impl Abort, rate: Rate, last: &[u8; 11], count: i64)
     requires low { pos 1 ≤ℤ count }
     requires high { count ≤ℤ pos 10000000 }
 {
-    assert_eq!(rt; label(0, rate, false), Ok(*b"00:00:00:00"));
-    assert_eq!(rt; read(b"00:00:00:00", rate, false), Ok(0));
-    assert_eq!(rt; label(count - 1, rate, false), Ok(*last));
-    assert_eq!(rt; read(last.as_slice(), rate, false), Ok(count - 1));
-    assert_eq!(rt; label(count, rate, false), Err(TcFault::Day));
+    label_is(rt, 0, rate, false, Ok(*b"00:00:00:00"));
+    reads_as(rt, b"00:00:00:00", rate, false, Ok(0));
+    label_is(rt, count - 1, rate, false, Ok(*last));
+    reads_as(rt, last.as_slice(), rate, false, Ok(count - 1));
+    label_is(rt, count, rate, false, Err(TcFault::Day));
 }
 
 #[test]
@@ -236,23 +256,35 @@ fn first_and_last_of_a_day(rt: HostRuntime) {
 #[test]
 #[tactic(auto, unfolding(tick_time::specs::Rates::is_rate))]
 fn no_timecode_comes_first(rt: HostRuntime) {
-    assert_eq!(rt;
-        read(b"nothing", whole_rate(120), false),
-        Err(TcFault::NoTimecode)
+    reads_as(
+        &rt,
+        b"nothing",
+        whole_rate(120),
+        false,
+        Err(TcFault::NoTimecode),
     );
-    assert_eq!(rt;
-        read(b"00:00:00;00", whole_rate(30), false),
-        Err(TcFault::NoTimecode)
+    reads_as(
+        &rt,
+        b"00:00:00;00",
+        whole_rate(30),
+        false,
+        Err(TcFault::NoTimecode),
     );
-    assert_eq!(rt;
-        read(b"        ;", rate_24_slow(), false),
-        Err(TcFault::NoTimecode)
+    reads_as(
+        &rt,
+        b"        ;",
+        rate_24_slow(),
+        false,
+        Err(TcFault::NoTimecode),
     );
-    assert_eq!(rt;
-        read(b"nothing", whole_rate(24), true),
-        Err(TcFault::NoTimecode)
+    reads_as(
+        &rt,
+        b"nothing",
+        whole_rate(24),
+        true,
+        Err(TcFault::NoTimecode),
     );
-    assert_eq!(rt; read(b"nothing", whole_rate(24), false), Err(TcFault::Form));
-    assert_eq!(rt; label(-1, whole_rate(24), true), Err(TcFault::NoTimecode));
-    assert_eq!(rt; label(-1, whole_rate(120), false), Err(TcFault::NoTimecode));
+    reads_as(&rt, b"nothing", whole_rate(24), false, Err(TcFault::Form));
+    label_is(&rt, -1, whole_rate(24), true, Err(TcFault::NoTimecode));
+    label_is(&rt, -1, whole_rate(120), false, Err(TcFault::NoTimecode));
 }

@@ -11,4 +11,6 @@ mod rate_tests;
 #[cfg(test)]
 mod tick_tests;
 #[cfg(test)]
+mod tool_tests;
+#[cfg(test)]
 mod word_tests;

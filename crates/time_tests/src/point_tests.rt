@@ -1,6 +1,7 @@
 //! Words and the points that they name.
 
 use record_points::{RecordPoint, frame_at, point_of, whole_number};
+use std::process::Abort;
 use std::test::Fail;
 use tick_time::{Decimal, Rate, is_numeral};
 
@@ -59,6 +60,14 @@ fn frame_of(word: &str, rate: Rate) -> Option<i64> {
     frame_at(point_of(word)?, rate)
 }
 
+// That a word names a frame at a rate, or none.
+fn frame_is(rt: &impl Abort, word: &str, rate: &[u8], frame: Option<i64>) {
+    match rate_of(rate) {
+        Some(rate) => assert_eq!(rt; frame_of(word, rate), frame, "{word}"),
+        None => assert!(rt; false, "{word}"),
+    }
+}
+
 #[test]
 fn frames(rt: HostRuntime) -> Result<(), Fail> {
     for (word, rate, frame) in [
@@ -74,10 +83,7 @@ fn frames(rt: HostRuntime) -> Result<(), Fail> {
         ("24:00:00:00", b"24", None),
         ("00:00:00:00", b"12.5", None),
     ] {
-        match rate_of(rate) {
-            Some(rate) => assert_eq!(rt; frame_of(word, rate), frame, "{word}"),
-            None => assert!(rt; false, "{word}"),
-        }
+        frame_is(&rt, word, rate, frame);
     }
     Ok(())
 }

@@ -47,6 +47,32 @@ fn speed_of(text: &[u8]) -> Result<i64, TimeFault>
     Ok(Scalar::of(&Decimal::read(text)?)?.0)
 }
 
+fn parts_are(rt: &impl Abort, text: &[u8], wanted: Result<(bool, u128, i128), TimeFault>)
+    requires { IsNumeral text.now }
+{
+    assert_eq!(rt; parts(text), wanted);
+}
+
+fn fraction_is(rt: &impl Abort, text: &[u8], wanted: Result<(i64, i64), TimeFault>)
+    requires { IsNumeral text.now }
+{
+    assert_eq!(rt; fraction_of(text), wanted);
+}
+
+fn ticks_are(rt: &impl Abort, text: &[u8], rate: Rate, wanted: Result<i128, TimeFault>)
+    requires { IsNumeral text.now }
+{
+    assert_eq!(rt; ticks_of(text, rate), wanted);
+}
+
+// The ticks of a rate's unit and of its frame, and its count of timecode.
+fn counts_are(rt: &impl Abort, text: &[u8], wanted: (i128, i128, Option<i64>))
+    requires { IsNumeral text.now }
+{
+    let rate = rate_of(text).expect(rt, "a rate");
+    assert_eq!(rt; (rate.unit(), rate.frame_ticks(), rate.nominal()), wanted);
+}
+
 fn value_is(rt: &impl Abort, text: &[u8], rate: Rate, written: &str)
     requires { IsNumeral text.now }
 {
@@ -76,16 +102,16 @@ fn speed_is(rt: &impl Abort, text: &[u8], written: &str)
 
 #[test]
 fn numerals(rt: HostRuntime) {
-    assert_eq!(rt; parts(b"0"), Ok((false, 0, 0)));
-    assert_eq!(rt; parts(b"-0.000e5"), Ok((false, 0, 0)));
-    assert_eq!(rt; parts(b"24.0"), Ok((false, 24, 0)));
-    assert_eq!(rt; parts(b"2400"), Ok((false, 24, 2)));
-    assert_eq!(rt; parts(b"-0.5"), Ok((true, 5, -1)));
-    assert_eq!(rt; parts(b"1E+2"), Ok((false, 1, 2)));
-    assert_eq!(rt; parts(b"12e-3"), Ok((false, 12, -3)));
-    assert_eq!(rt; parts(b"10.010"), Ok((false, 1001, -2)));
-    assert_eq!(rt; parts(b"1e999"), Ok((false, 1, 999)));
-    assert_eq!(rt; parts(b"1e-999"), Ok((false, 1, -999)));
+    parts_are(&rt, b"0", Ok((false, 0, 0)));
+    parts_are(&rt, b"-0.000e5", Ok((false, 0, 0)));
+    parts_are(&rt, b"24.0", Ok((false, 24, 0)));
+    parts_are(&rt, b"2400", Ok((false, 24, 2)));
+    parts_are(&rt, b"-0.5", Ok((true, 5, -1)));
+    parts_are(&rt, b"1E+2", Ok((false, 1, 2)));
+    parts_are(&rt, b"12e-3", Ok((false, 12, -3)));
+    parts_are(&rt, b"10.010", Ok((false, 1001, -2)));
+    parts_are(&rt, b"1e999", Ok((false, 1, 999)));
+    parts_are(&rt, b"1e-999", Ok((false, 1, -999)));
 }
 
 #[test]
@@ -120,79 +146,89 @@ fn forms_of_numerals(rt: HostRuntime) {
 
 #[test]
 fn long_numerals(rt: HostRuntime) {
-    assert_eq!(rt;
-        parts(b"99999999999999999999999999999999999999"),
-        Ok((false, 99999999999999999999999999999999999999, 0))
+    parts_are(
+        &rt,
+        b"99999999999999999999999999999999999999",
+        Ok((false, 99999999999999999999999999999999999999, 0)),
     );
-    assert_eq!(rt;
-        parts(b"999999999999999999999999999999999999999"),
-        Err(TimeFault::TooLong)
+    parts_are(
+        &rt,
+        b"999999999999999999999999999999999999999",
+        Err(TimeFault::TooLong),
     );
-    assert_eq!(rt;
-        parts(b"100000000000000000000000000000000000001"),
-        Err(TimeFault::TooLong)
+    parts_are(
+        &rt,
+        b"100000000000000000000000000000000000001",
+        Err(TimeFault::TooLong),
     );
-    assert_eq!(rt;
-        parts(b"1000000000000000000000000000000000000000000000000000000000000"),
-        Ok((false, 1, 60))
+    parts_are(
+        &rt,
+        b"1000000000000000000000000000000000000000000000000000000000000",
+        Ok((false, 1, 60)),
     );
-    assert_eq!(rt;
-        parts(b"0.0000000000000000000000000000000000000000000000000000000000001"),
-        Ok((false, 1, -61))
+    parts_are(
+        &rt,
+        b"0.0000000000000000000000000000000000000000000000000000000000001",
+        Ok((false, 1, -61)),
     );
-    assert_eq!(rt;
-        parts(b"0.0111111111111111111111111111111111111110"),
-        Ok((false, 11111111111111111111111111111111111111, -39))
+    parts_are(
+        &rt,
+        b"0.0111111111111111111111111111111111111110",
+        Ok((false, 11111111111111111111111111111111111111, -39)),
     );
-    assert_eq!(rt; parts(b"1e0999"), Err(TimeFault::TooLong));
-    assert_eq!(rt; parts(b"0e0000"), Err(TimeFault::TooLong));
-    assert_eq!(rt; parts(b"1e-0001"), Err(TimeFault::TooLong));
+    parts_are(&rt, b"1e0999", Err(TimeFault::TooLong));
+    parts_are(&rt, b"0e0000", Err(TimeFault::TooLong));
+    parts_are(&rt, b"1e-0001", Err(TimeFault::TooLong));
 }
 
 #[test]
 fn rates(rt: HostRuntime) {
-    assert_eq!(rt; fraction_of(b"29.97"), Ok((30_000, 1001)));
-    assert_eq!(rt; fraction_of(b"23.976"), Ok((24_000, 1001)));
-    assert_eq!(rt; fraction_of(b"23.98"), Ok((24_000, 1001)));
-    assert_eq!(rt; fraction_of(b"59.94"), Ok((60_000, 1001)));
-    assert_eq!(rt; fraction_of(b"14.985"), Ok((15_000, 1001)));
-    assert_eq!(rt; fraction_of(b"47.952"), Ok((48_000, 1001)));
-    assert_eq!(rt; fraction_of(b"119.88"), Ok((120_000, 1001)));
-    assert_eq!(rt; fraction_of(b"24"), Ok((24, 1)));
-    assert_eq!(rt; fraction_of(b"24.0000000"), Ok((24, 1)));
-    assert_eq!(rt; fraction_of(b"12.5"), Ok((25, 2)));
-    assert_eq!(rt; fraction_of(b"1"), Ok((1, 1)));
-    assert_eq!(rt; fraction_of(b"705600000000"), Ok((705_600_000_000, 1)));
-    assert_eq!(rt; fraction_of(b"1.000001e6"), Err(TimeFault::Rate));
-    assert_eq!(rt; fraction_of(b"29.5"), Err(TimeFault::Rate));
+    fraction_is(&rt, b"29.97", Ok((30_000, 1001)));
+    fraction_is(&rt, b"23.976", Ok((24_000, 1001)));
+    fraction_is(&rt, b"23.98", Ok((24_000, 1001)));
+    fraction_is(&rt, b"59.94", Ok((60_000, 1001)));
+    fraction_is(&rt, b"14.985", Ok((15_000, 1001)));
+    fraction_is(&rt, b"47.952", Ok((48_000, 1001)));
+    fraction_is(&rt, b"119.88", Ok((120_000, 1001)));
+    fraction_is(&rt, b"24", Ok((24, 1)));
+    fraction_is(&rt, b"24.0000000", Ok((24, 1)));
+    fraction_is(&rt, b"12.5", Ok((25, 2)));
+    fraction_is(&rt, b"1", Ok((1, 1)));
+    fraction_is(&rt, b"705600000000", Ok((705_600_000_000, 1)));
+    fraction_is(&rt, b"1.000001e6", Err(TimeFault::Rate));
+    fraction_is(&rt, b"29.5", Err(TimeFault::Rate));
 }
 
 #[test]
 fn rate_edges(rt: HostRuntime) {
-    assert_eq!(rt; fraction_of(b"29.98002997"), Ok((30_000, 1001)));
-    assert_eq!(rt;
-        fraction_of(b"29.980029970029970029970029970029970029"),
-        Ok((30_000, 1001))
+    fraction_is(&rt, b"29.98002997", Ok((30_000, 1001)));
+    fraction_is(
+        &rt,
+        b"29.980029970029970029970029970029970029",
+        Ok((30_000, 1001)),
     );
-    assert_eq!(rt;
-        fraction_of(b"29.98002997002997002997002997002997003"),
-        Err(TimeFault::Rate)
+    fraction_is(
+        &rt,
+        b"29.98002997002997002997002997002997003",
+        Err(TimeFault::Rate),
     );
-    assert_eq!(rt;
-        fraction_of(b"29.960029970029970029970029970029970029"),
-        Err(TimeFault::Rate)
+    fraction_is(
+        &rt,
+        b"29.960029970029970029970029970029970029",
+        Err(TimeFault::Rate),
     );
-    assert_eq!(rt;
-        fraction_of(b"29.96002997002997002997002997002997003"),
-        Ok((30_000, 1001))
+    fraction_is(
+        &rt,
+        b"29.96002997002997002997002997002997003",
+        Ok((30_000, 1001)),
     );
-    assert_eq!(rt; fraction_of(b"0.999999"), Err(TimeFault::Rate));
-    assert_eq!(rt; fraction_of(b"24.0000001"), Err(TimeFault::Rate));
-    assert_eq!(rt; fraction_of(b"-24"), Err(TimeFault::Rate));
-    assert_eq!(rt; fraction_of(b"705600000001"), Err(TimeFault::Rate));
-    assert_eq!(rt; fraction_of(b"0"), Err(TimeFault::Rate));
-    assert_eq!(rt; fraction_of(b"1e30"), Err(TimeFault::Rate));
-    assert_eq!(rt; fraction_of(b"1e-50"), Err(TimeFault::Rate));
+    fraction_is(&rt, b"0.999999", Err(TimeFault::Rate));
+    fraction_is(&rt, b"24.0000001", Err(TimeFault::Rate));
+    fraction_is(&rt, b"-24", Err(TimeFault::Rate));
+    fraction_is(&rt, b"705600000001", Err(TimeFault::Rate));
+    fraction_is(&rt, b"0", Err(TimeFault::Rate));
+    fraction_is(&rt, b"1e30", Err(TimeFault::Rate));
+    fraction_is(&rt, b"1e-50", Err(TimeFault::Rate));
 }
 
 #[test]
@@ -212,24 +248,24 @@ fn rate_texts(rt: HostRuntime) {
 
 #[test]
 fn units_and_counts(rt: HostRuntime) {
-    let rate = rate_of(b"24").expect(&rt, "a rate");
-    assert_eq!(rt;
-        (rate.unit(), rate.frame_ticks(), rate.nominal()),
-        (29_400_000_000, 29_400_000_000_000_000, Some(24))
+    counts_are(
+        &rt,
+        b"24",
+        (29_400_000_000, 29_400_000_000_000_000, Some(24)),
     );
-    let rate = rate_of(b"29.97").expect(&rt, "a rate");
-    assert_eq!(rt;
-        (rate.unit(), rate.frame_ticks(), rate.nominal()),
-        (23_543_520_000, 23_543_520_000_000_000, Some(30))
+    counts_are(
+        &rt,
+        b"29.97",
+        (23_543_520_000, 23_543_520_000_000_000, Some(30)),
     );
-    let rate = rate_of(b"59.94").expect(&rt, "a rate");
-    assert_eq!(rt; (rate.unit(), rate.nominal()), (11_771_760_000, Some(60)));
-    let rate = rate_of(b"119.88").expect(&rt, "a rate");
-    assert_eq!(rt; (rate.unit(), rate.nominal()), (5_885_880_000, None));
-    let rate = rate_of(b"64").expect(&rt, "a rate");
-    assert_eq!(rt; rate.nominal(), None);
-    let rate = rate_of(b"12.5").expect(&rt, "a rate");
-    assert_eq!(rt; (rate.unit(), rate.nominal()), (56_448_000_000, None));
+    counts_are(
+        &rt,
+        b"59.94",
+        (11_771_760_000, 11_771_760_000_000_000, Some(60)),
+    );
+    counts_are(&rt, b"119.88", (5_885_880_000, 5_885_880_000_000_000, None));
+    counts_are(&rt, b"64", (11_025_000_000, 11_025_000_000_000_000, None));
+    counts_are(&rt, b"12.5", (56_448_000_000, 56_448_000_000_000_000, None));
 }
 
 #[test]
@@ -255,36 +291,58 @@ fn values(rt: HostRuntime) {
 #[test]
 fn far_values(rt: HostRuntime) {
     let rate = rate_of(b"24").expect(&rt, "a rate");
-    assert_eq!(rt;
-        ticks_of(b"33.333333333333336", rate),
-        Ok(979_999_990_200_000_000)
+    ticks_are(
+        &rt,
+        b"33.333333333333336",
+        rate,
+        Ok(979_999_990_200_000_000),
     );
-    assert_eq!(rt;
-        ticks_of(b"24000000", rate),
-        Ok(705_600_000_000_000_000_000_000)
+    ticks_are(&rt, b"24000000", rate, Ok(705_600_000_000_000_000_000_000));
+    ticks_are(&rt, b"24000000.000001", rate, Err(TimeFault::Range));
+    ticks_are(&rt, b"-24000000.000001", rate, Err(TimeFault::Range));
+    ticks_are(
+        &rt,
+        b"24000000.0000005",
+        rate,
+        Ok(705_600_000_000_000_000_000_000),
     );
-    assert_eq!(rt; ticks_of(b"24000000.000001", rate), Err(TimeFault::Range));
-    assert_eq!(rt; ticks_of(b"-24000000.000001", rate), Err(TimeFault::Range));
-    assert_eq!(rt;
-        ticks_of(b"24000000.0000005", rate),
-        Ok(705_600_000_000_000_000_000_000)
+    ticks_are(&rt, b"1e999", rate, Err(TimeFault::Range));
+    ticks_are(
+        &rt,
+        b"99999999999999999999999999999999999999",
+        rate,
+        Err(TimeFault::Range),
     );
-    assert_eq!(rt; ticks_of(b"1e999", rate), Err(TimeFault::Range));
-    assert_eq!(rt;
-        ticks_of(b"99999999999999999999999999999999999999", rate),
-        Err(TimeFault::Range)
-    );
-    assert_eq!(rt; ticks_of(b"-1e20", rate), Err(TimeFault::Range));
+    ticks_are(&rt, b"-1e20", rate, Err(TimeFault::Range));
 }
 
 #[test]
 fn more_than_a_binary_float_holds(rt: HostRuntime) {
     let rate = rate_of(b"705600000000.0").expect(&rt, "a rate");
     value_is(&rt, b"9007199254740993.0", rate, "9007199254740993.0");
-    assert_eq!(rt;
-        ticks_of(b"9007199254740993.0", rate),
-        Ok(9_007_199_254_740_993_000_000)
+    ticks_are(
+        &rt,
+        b"9007199254740993.0",
+        rate,
+        Ok(9_007_199_254_740_993_000_000),
     );
+}
+
+// The ticks of a time, and the numerator of its rate.
+fn time_is(rt: &impl Abort, time: Time, ticks: i128, num: i64) {
+    assert_eq!(rt; (time.ticks, time.rate.num), (ticks, num));
+}
+
+// The texts of a time and of its rate, and that it is read again.
+fn is_written(rt: &impl Abort, time: Time, value: &str, rate: &str) {
+    assert_eq!(rt; time.value_text().as_str(), value);
+    assert_eq!(rt; time.rate.text().as_str(), rate);
+    let again = time_read_again(&time).expect(rt, "a time");
+    assert_eq!(rt; again.ticks, time.ticks);
+}
+
+fn is_out_of_range(rt: &impl Abort, time: Result<Time, TimeFault>) {
+    assert_eq!(rt; time.map(|time| time.ticks), Err(TimeFault::Range));
 }
 
 #[test]
@@ -292,37 +350,23 @@ fn sums(rt: HostRuntime) {
     let film = Time::frames(1, rate_of(b"24").expect(&rt, "a rate")).expect(&rt, "a time");
     let video = Time::frames(1, rate_of(b"25").expect(&rt, "a rate")).expect(&rt, "a time");
     let sum = film.add(video).expect(&rt, "a time");
-    assert_eq!(rt; sum.ticks, 57_624_000_000_000_000);
-    assert_eq!(rt; sum.value_text().as_str(), "57624000000.0");
-    assert_eq!(rt; sum.rate.text().as_str(), "705600000000.0");
-    assert_eq!(rt;
-        time_read_again(&sum).expect(&rt, "a time").ticks,
-        sum.ticks
-    );
+    time_is(&rt, sum, 57_624_000_000_000_000, 705_600_000_000);
+    is_written(&rt, sum, "57624000000.0", "705600000000.0");
     let twice = Time::frames(48, film.rate)
         .expect(&rt, "a time")
         .add(Time::frames(50, video.rate).expect(&rt, "a time"));
     assert_eq!(rt; twice.expect(&rt, "a time").rate.num, 25);
     let none = film.sub(film).expect(&rt, "a time");
-    assert_eq!(rt; (none.ticks, none.rate.num), (0, 24));
+    time_is(&rt, none, 0, 24);
     let less = video.sub(film).expect(&rt, "a time");
-    assert_eq!(rt;
-        (less.ticks, less.rate.num),
-        (-1_176_000_000_000_000, 705_600_000_000)
-    );
+    time_is(&rt, less, -1_176_000_000_000_000, 705_600_000_000);
     assert_eq!(rt; film.compare(&video), Ordering::Greater);
     assert_eq!(rt; video.compare(&film), Ordering::Less);
     let most = Time::frames(24_000_000, film.rate).expect(&rt, "a time");
-    assert_eq!(rt;
-        most.add(film).map(|time| time.ticks),
-        Err(TimeFault::Range)
-    );
-    assert_eq!(rt;
-        Time::frames(-24_000_001, film.rate).map(|time| time.ticks),
-        Err(TimeFault::Range)
-    );
+    is_out_of_range(&rt, most.add(film));
+    is_out_of_range(&rt, Time::frames(-24_000_001, film.rate));
     let near = Time::near(1, film.rate).expect(&rt, "a time");
-    assert_eq!(rt; (near.ticks, near.rate.num), (1, 705_600_000_000));
+    time_is(&rt, near, 1, 705_600_000_000);
 }
 
 #[test]

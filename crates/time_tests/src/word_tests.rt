@@ -1,15 +1,12 @@
 //! Command lines and what they ask for.
 
-use command_words::{
-    Command, DrillAsked, Flattening, FramesAsked, Joining, Request, Task, ToolAsked, TrackKind,
-    Window, WordsFault, request_of,
-};
-use rate_words::rate_of;
+use command_words::{Command, DrillAsked, FramesAsked, Request, Task, WordsFault, request_of};
 use record_points::RecordPoint;
 use std::alloc::{AllocError, Global};
+use std::process::Abort;
 use std::test::Fail;
 
-fn words_of(alloc: Global, line: &str) -> Result<Vec<String>, AllocError> {
+pub(crate) fn words_of(alloc: Global, line: &str) -> Result<Vec<String>, AllocError> {
     let mut words = Vec::new(alloc);
     for word in line.split_whitespace() {
         words.push(String::from_str(alloc, word)?)?;
@@ -18,7 +15,7 @@ fn words_of(alloc: Global, line: &str) -> Result<Vec<String>, AllocError> {
 }
 
 // The command on files that words ask for.
-fn requested<'a>(alloc: Global, words: &'a [String]) -> Option<Request<'a>> {
+pub(crate) fn requested<'a>(alloc: Global, words: &'a [String]) -> Option<Request<'a>> {
     match request_of(alloc, words) {
         Ok(Task::OnFiles(request)) => Some(request),
         Ok(Task::Drill(_)) => None,
@@ -45,6 +42,106 @@ fn asks_for_nothing(alloc: Global, line: &str) -> Result<bool, AllocError> {
     }
 }
 
+// That a line asks for a list of a list, at a rate of this numerator.
+fn asks_for_list(
+    rt: &impl Abort,
+    alloc: Global,
+    line: &str,
+    num: i64,
+    drop_frame: bool,
+    wide: bool,
+) -> Result<(), Fail> {
+    let words = words_of(alloc, line)?;
+    let found = match requested(alloc, words.as_slice()) {
+        Some(request) => match request.command {
+            Command::ListToList { rate, drop, wide } => {
+                Some((request.name.ends_with(".edl"), rate.num, drop, wide))
+            }
+            _ => None,
+        },
+        None => None,
+    };
+    assert_eq!(rt; found, Some((true, num, drop_frame, wide)), "{line}");
+    Ok(())
+}
+
+// That a line asks for this command on the file of this name. An empty name is the line's last word.
+fn asks_for_file(
+    rt: &impl Abort,
+    alloc: Global,
+    line: &str,
+    command: Command,
+    name: &str,
+    target: Option<&str>,
+) -> Result<(), Fail> {
+    let mut words = words_of(alloc, line)?;
+    if name.is_empty() {
+        words.push(String::from_str(alloc, "")?)?;
+    }
+    let found = match requested(alloc, words.as_slice()) {
+        Some(request) => Some((request.command, request.name, request.target)),
+        None => None,
+    };
+    assert_eq!(rt; found, Some((command, name, target)), "{line}");
+    Ok(())
+}
+
+// That a line asks for this command.
+fn asks_for_command(
+    rt: &impl Abort,
+    alloc: Global,
+    line: &str,
+    command: Command,
+) -> Result<(), Fail> {
+    let words = words_of(alloc, line)?;
+    let found = match requested(alloc, words.as_slice()) {
+        Some(request) => Some(request.command),
+        None => None,
+    };
+    assert_eq!(rt; found, Some(command), "{line}");
+    Ok(())
+}
+
+// That a line asks for this command, into this output.
+fn asks_into(
+    rt: &impl Abort,
+    alloc: Global,
+    line: &str,
+    command: Command,
+    target: Option<&str>,
+) -> Result<(), Fail> {
+    let words = words_of(alloc, line)?;
+    let found = match requested(alloc, words.as_slice()) {
+        Some(request) => Some((request.command, request.target)),
+        None => None,
+    };
+    assert_eq!(rt; found, Some((command, target)), "{line}");
+    Ok(())
+}
+
+// That a line asks for this command, with this media list.
+fn asks_with_media(
+    rt: &impl Abort,
+    alloc: Global,
+    line: &str,
+    command: Command,
+    media: Option<&str>,
+) -> Result<(), Fail> {
+    let words = words_of(alloc, line)?;
+    let found = match requested(alloc, words.as_slice()) {
+        Some(request) => Some((request.command, request.others.media)),
+        None => None,
+    };
+    assert_eq!(rt; found, Some((command, media)), "{line}");
+    Ok(())
+}
+
+// That a line asks for nothing.
+pub(crate) fn is_refused(rt: &impl Abort, alloc: Global, line: &str) -> Result<(), Fail> {
+    assert!(rt; asks_for_nothing(alloc, line)?, "{line}");
+    Ok(())
+}
+
 #[test]
 fn lines_ask_for_lists(rt: HostRuntime) -> Result<(), Fail> {
     for (line, num, drop, wide) in [
@@ -59,25 +156,7 @@ fn lines_ask_for_lists(rt: HostRuntime) -> Result<(), Fail> {
         ("convert --wide --drop --to edl .edl", 24, true, true),
         ("convert --from edl --to edl x.edl", 24, false, false),
     ] {
-        let words = words_of(rt.alloc(), line)?;
-        match requested(rt.alloc(), words.as_slice()) {
-            Some(request) => {
-                assert!(rt; request.name.ends_with(".edl"), "{line}");
-                match request.command {
-                    Command::ListToList {
-                        rate,
-                        drop: asked,
-                        wide: widens,
-                    } => {
-                        assert_eq!(rt; rate.num, num, "{line}");
-                        assert_eq!(rt; asked, drop, "{line}");
-                        assert_eq!(rt; widens, wide, "{line}");
-                    }
-                    _ => assert!(rt; false, "{line}"),
-                }
-            }
-            None => assert!(rt; false, "{line}"),
-        }
+        asks_for_list(&rt, rt.alloc(), line, num, drop, wide)?;
     }
     Ok(())
 }
@@ -102,18 +181,13 @@ fn lines_ask_for_timelines_as_lists(rt: HostRuntime) -> Result<(), Fail> {
             None,
         ),
     ] {
-        let words = words_of(rt.alloc(), line)?;
-        match requested(rt.alloc(), words.as_slice()) {
-            Some(request) => {
-                assert_eq!(rt;
-                    request.command,
-                    Command::TimelineToList { drop, wide },
-                    "{line}"
-                );
-                assert_eq!(rt; request.others.media, media, "{line}");
-            }
-            None => assert!(rt; false, "{line}"),
-        }
+        asks_with_media(
+            &rt,
+            rt.alloc(),
+            line,
+            Command::TimelineToList { drop, wide },
+            media,
+        )?;
     }
     Ok(())
 }
@@ -125,14 +199,7 @@ fn lines_ask_for_json(rt: HostRuntime) -> Result<(), Fail> {
         ("convert x --rate 24 --to json", "x"),
         ("convert --drop x.edl.json --to json --wide", "x.edl.json"),
     ] {
-        let words = words_of(rt.alloc(), line)?;
-        match requested(rt.alloc(), words.as_slice()) {
-            Some(request) => {
-                assert_eq!(rt; request.name, name, "{line}");
-                assert_eq!(rt; request.command, Command::ToJson, "{line}");
-            }
-            None => assert!(rt; false, "{line}"),
-        }
+        asks_for_file(&rt, rt.alloc(), line, Command::ToJson, name, None)?;
     }
     Ok(())
 }
@@ -167,7 +234,7 @@ fn other_lines_ask_for_nothing(rt: HostRuntime) -> Result<(), Fail> {
         "convert --to json x --rate",
         "convert -o -x y",
     ] {
-        assert!(rt; asks_for_nothing(rt.alloc(), line)?, "{line}");
+        is_refused(&rt, rt.alloc(), line)?;
     }
     Ok(())
 }
@@ -190,14 +257,7 @@ fn lines_ask_for_objects_and_outputs(rt: HostRuntime) -> Result<(), Fail> {
         ("convert --media m x", Command::ToObjects, None),
         ("convert --media - --to json -", Command::ToJson, None),
     ] {
-        let words = words_of(rt.alloc(), line)?;
-        match requested(rt.alloc(), words.as_slice()) {
-            Some(request) => {
-                assert_eq!(rt; request.command, command, "{line}");
-                assert_eq!(rt; request.target, target, "{line}");
-            }
-            None => assert!(rt; false, "{line}"),
-        }
+        asks_into(&rt, rt.alloc(), line, command, target)?;
     }
     let words = words_of(rt.alloc(), "convert -o l.edl a.edl")?;
     match requested(rt.alloc(), words.as_slice()) {
@@ -226,18 +286,12 @@ fn lines_ask_for_frames(rt: HostRuntime) -> Result<(), Fail> {
             None,
         ),
     ] {
-        let words = words_of(rt.alloc(), line)?;
         let asked = FramesAsked {
             child,
             start,
             count,
         };
-        match requested(rt.alloc(), words.as_slice()) {
-            Some(request) => {
-                assert_eq!(rt; request.command, Command::Frames(asked), "{line}");
-            }
-            None => assert!(rt; false, "{line}"),
-        }
+        asks_for_command(&rt, rt.alloc(), line, Command::Frames(asked))?;
     }
     Ok(())
 }
@@ -274,8 +328,30 @@ fn other_lines_ask_for_no_frames(rt: HostRuntime) -> Result<(), Fail> {
         "convert --start 0 x",
         "convert --count 1 x",
     ] {
-        assert!(rt; asks_for_nothing(rt.alloc(), line)?, "{line}");
+        is_refused(&rt, rt.alloc(), line)?;
     }
+    Ok(())
+}
+
+// That a line asks for the edits of a script, of a list at a rate of this numerator or of a timeline.
+fn asks_for_edit(
+    rt: &impl Abort,
+    alloc: Global,
+    line: &str,
+    num: Option<i64>,
+    script: &str,
+    media: Option<&str>,
+) -> Result<(), Fail> {
+    let words = words_of(alloc, line)?;
+    let found = match requested(alloc, words.as_slice()) {
+        Some(request) => Some((
+            edited_at(request.command),
+            request.others.script,
+            request.others.media,
+        )),
+        None => None,
+    };
+    assert_eq!(rt; found, Some((Some(num), Some(script), media)), "{line}");
     Ok(())
 }
 
@@ -298,16 +374,7 @@ fn lines_ask_for_edits(rt: HostRuntime) -> Result<(), Fail> {
             Some("m"),
         ),
     ] {
-        let words = words_of(rt.alloc(), line)?;
-        let found = match requested(rt.alloc(), words.as_slice()) {
-            Some(request) => Some((
-                edited_at(request.command),
-                request.others.script,
-                request.others.media,
-            )),
-            None => None,
-        };
-        assert_eq!(rt; found, Some((Some(num), Some(script), media)), "{line}");
+        asks_for_edit(&rt, rt.alloc(), line, num, script, media)?;
     }
     Ok(())
 }
@@ -341,7 +408,7 @@ fn other_lines_ask_for_no_edits(rt: HostRuntime) -> Result<(), Fail> {
         "convert --script s x",
         "frames --script s x",
     ] {
-        assert!(rt; asks_for_nothing(rt.alloc(), line)?, "{line}");
+        is_refused(&rt, rt.alloc(), line)?;
     }
     Ok(())
 }
@@ -354,6 +421,23 @@ fn conformed_at(command: Command) -> Option<(i64, bool)> {
         Command::ListFrames { rate, .. } => Some((rate.num, true)),
         _ => None,
     }
+}
+
+// That a line asks for a list that is conformed, with this media list.
+fn asks_for_conformed_list(
+    rt: &impl Abort,
+    alloc: Global,
+    line: &str,
+    conformed: (i64, bool),
+    media: Option<&str>,
+) -> Result<(), Fail> {
+    let words = words_of(alloc, line)?;
+    let found = match requested(alloc, words.as_slice()) {
+        Some(request) => Some((request.others.media, conformed_at(request.command))),
+        None => None,
+    };
+    assert_eq!(rt; found, Some((media, Some(conformed))), "{line}");
+    Ok(())
 }
 
 #[test]
@@ -381,12 +465,7 @@ fn lines_ask_for_conformed_lists(rt: HostRuntime) -> Result<(), Fail> {
             true,
         ),
     ] {
-        let words = words_of(rt.alloc(), line)?;
-        let found = match requested(rt.alloc(), words.as_slice()) {
-            Some(request) => Some((request.others.media, conformed_at(request.command))),
-            None => None,
-        };
-        assert_eq!(rt; found, Some((media, Some((num, listed)))), "{line}");
+        asks_for_conformed_list(&rt, rt.alloc(), line, (num, listed), media)?;
     }
     Ok(())
 }
@@ -420,35 +499,41 @@ fn clap_reads_the_words(rt: HostRuntime) -> Result<(), Fail> {
         ("convert --to json --", Command::ToJson, "", None),
         ("edit --script=s -- -", Command::Edit, "-", None),
     ] {
-        let mut words = words_of(rt.alloc(), line)?;
-        if name.is_empty() {
-            words.push(String::from_str(rt.alloc(), "")?)?;
-        }
-        match requested(rt.alloc(), words.as_slice()) {
-            Some(request) => {
-                assert_eq!(rt; request.command, command, "{line}");
-                assert_eq!(rt; request.name, name, "{line}");
-                assert_eq!(rt; request.target, target, "{line}");
-            }
-            None => assert!(rt; false, "{line}"),
-        }
+        asks_for_file(&rt, rt.alloc(), line, command, name, target)?;
     }
+    Ok(())
+}
+
+// The script that words ask for: none where they ask for nothing.
+fn script_asked<'a>(alloc: Global, words: &'a [String]) -> Option<Option<&'a str>> {
+    match requested(alloc, words) {
+        Some(request) => Some(request.others.script),
+        None => None,
+    }
+}
+
+// The script that the words of a line and an empty word behind them ask for.
+fn empty_word_asks(
+    rt: &impl Abort,
+    alloc: Global,
+    line: &str,
+    last: Option<&str>,
+    script: Option<Option<&str>>,
+) -> Result<(), Fail> {
+    let mut words = words_of(alloc, line)?;
+    words.push(String::new(alloc))?;
+    for word in last {
+        words.push(String::from_str(alloc, word)?)?;
+    }
+    assert_eq!(rt; script_asked(alloc, words.as_slice()), script, "{line}");
     Ok(())
 }
 
 #[test]
 fn an_empty_name_may_stand_anywhere(rt: HostRuntime) -> Result<(), Fail> {
-    let mut words = words_of(rt.alloc(), "edit --media m --script")?;
-    words.push(String::from_str(rt.alloc(), "")?)?;
-    words.push(String::from_str(rt.alloc(), "x")?)?;
-    match requested(rt.alloc(), words.as_slice()) {
-        Some(request) => assert_eq!(rt; request.others.script, Some("")),
-        None => assert!(rt; false),
-    }
-    let mut words = words_of(rt.alloc(), "convert x --rate")?;
-    words.push(String::from_str(rt.alloc(), "")?)?;
-    assert!(rt; requested(rt.alloc(), words.as_slice()).is_none());
-    Ok(())
+    let line = "edit --media m --script";
+    empty_word_asks(&rt, rt.alloc(), line, Some("x"), Some(Some("")))?;
+    empty_word_asks(&rt, rt.alloc(), "convert x --rate", None, None)
 }
 
 #[test]
@@ -474,7 +559,7 @@ fn clap_refuses_the_words(rt: HostRuntime) -> Result<(), Fail> {
         "convert -- x y",
         "edit --script s -- x --media m",
     ] {
-        assert!(rt; asks_for_nothing(rt.alloc(), line)?, "{line}");
+        is_refused(&rt, rt.alloc(), line)?;
     }
     for line in ["convert -", "convert x --", "convert -o - x"] {
         assert!(rt; !asks_for_nothing(rt.alloc(), line)?, "{line}");
@@ -482,238 +567,15 @@ fn clap_refuses_the_words(rt: HostRuntime) -> Result<(), Fail> {
     Ok(())
 }
 
-// `tool` without an option.
-fn plain_tool() -> ToolAsked {
-    ToolAsked {
-        joining: None,
-        only: None,
-        remove_transitions: false,
-        trim: None,
-        flatten: None,
-        keep_flattened: false,
-        list_tracks: false,
-        list_clips: false,
-        list_media: false,
-        stats: false,
-    }
-}
-
-// The names of the files that a line reads, with one space between, and its command.
-fn files_of(alloc: Global, line: &str) -> Result<Option<(String, Command)>, AllocError> {
+// That a line asks for this drill.
+fn asks_for_drill(
+    rt: &impl Abort,
+    alloc: Global,
+    line: &str,
+    asked: DrillAsked<'_>,
+) -> Result<(), Fail> {
     let words = words_of(alloc, line)?;
-    match requested(alloc, words.as_slice()) {
-        Some(request) => {
-            let mut names = String::from_str(alloc, request.name)?;
-            for &name in request.others.more.as_slice() {
-                names.push_str(" ")?;
-                names.push_str(name)?;
-            }
-            Ok(Some((names, request.command)))
-        }
-        None => Ok(None),
-    }
-}
-
-// Whether a line asks for this command on these files.
-fn asks_for(alloc: Global, line: &str, names: &str, command: Command) -> Result<bool, AllocError> {
-    match files_of(alloc, line)? {
-        Some((found, asked)) => Ok(found.as_str() == names && asked == command),
-        None => Ok(false),
-    }
-}
-
-#[test]
-fn lines_ask_for_several_files(rt: HostRuntime) -> Result<(), Fail> {
-    let Some(rate) = rate_of(b"24") else {
-        assert!(rt; false);
-        return Ok(());
-    };
-    let stacked = ToolAsked {
-        joining: Some(Joining::Stack),
-        ..plain_tool()
-    };
-    for (line, names, command) in [
-        ("cat x", "x", Command::Cat),
-        ("cat a b --media m c -o y d", "a b c d", Command::Cat),
-        ("cat a -- --b -", "a --b -", Command::Cat),
-        (
-            "cat --rate 24 a b.edl",
-            "a b.edl",
-            Command::ListCat { rate },
-        ),
-        ("cat a.edl b", "a.edl b", Command::ListCat { rate }),
-        ("stat x", "x", Command::Stat),
-        ("stat - --media -", "-", Command::Stat),
-        ("stat .edl", ".edl", Command::ListStat { rate }),
-        ("tool x", "x", Command::Tool(plain_tool())),
-        ("tool a b --stack c", "a b c", Command::Tool(stacked)),
-        (
-            "tool a.edl --stack",
-            "a.edl",
-            Command::ListTool {
-                rate,
-                tool: stacked,
-            },
-        ),
-    ] {
-        assert!(rt; asks_for(rt.alloc(), line, names, command)?, "{line}");
-    }
-    Ok(())
-}
-
-// Whether a line asks for this of the one file `x`.
-fn asks_for_tool(alloc: Global, line: &str, tool: ToolAsked) -> Result<bool, AllocError> {
-    asks_for(alloc, line, "x", Command::Tool(tool))
-}
-
-#[test]
-fn lines_ask_for_tool_listings(rt: HostRuntime) -> Result<(), Fail> {
-    let plain = plain_tool();
-    for (line, tool) in [
-        (
-            "tool x --list-tracks --stats",
-            ToolAsked {
-                list_tracks: true,
-                stats: true,
-                ..plain
-            },
-        ),
-        (
-            "tool x --list-media",
-            ToolAsked {
-                list_media: true,
-                ..plain
-            },
-        ),
-        (
-            "tool --list-clips x",
-            ToolAsked {
-                list_clips: true,
-                ..plain
-            },
-        ),
-    ] {
-        assert!(rt; asks_for_tool(rt.alloc(), line, tool)?, "{line}");
-    }
-    Ok(())
-}
-
-#[test]
-fn lines_ask_for_tool_tracks(rt: HostRuntime) -> Result<(), Fail> {
-    let plain = plain_tool();
-    for (line, tool) in [
-        (
-            "tool x --video-only",
-            ToolAsked {
-                only: Some(TrackKind::Video),
-                ..plain
-            },
-        ),
-        (
-            "tool x --audio-only",
-            ToolAsked {
-                only: Some(TrackKind::Audio),
-                ..plain
-            },
-        ),
-        (
-            "tool x --remove-transitions",
-            ToolAsked {
-                remove_transitions: true,
-                ..plain
-            },
-        ),
-        (
-            "tool x --concat",
-            ToolAsked {
-                joining: Some(Joining::Concat),
-                ..plain
-            },
-        ),
-    ] {
-        assert!(rt; asks_for_tool(rt.alloc(), line, tool)?, "{line}");
-    }
-    Ok(())
-}
-
-#[test]
-fn lines_ask_for_tool_flattening(rt: HostRuntime) -> Result<(), Fail> {
-    let plain = plain_tool();
-    for (line, tool) in [
-        (
-            "tool --flatten=all x",
-            ToolAsked {
-                flatten: Some(Flattening::All),
-                ..plain
-            },
-        ),
-        (
-            "tool x --flatten audio --keep-flattened-tracks",
-            ToolAsked {
-                flatten: Some(Flattening::Audio),
-                keep_flattened: true,
-                ..plain
-            },
-        ),
-        (
-            "tool x --flatten video",
-            ToolAsked {
-                flatten: Some(Flattening::Video),
-                ..plain
-            },
-        ),
-    ] {
-        assert!(rt; asks_for_tool(rt.alloc(), line, tool)?, "{line}");
-    }
-    Ok(())
-}
-
-#[test]
-fn a_line_asks_for_a_tool_window(rt: HostRuntime) -> Result<(), Fail> {
-    let start = RecordPoint::Frame(4);
-    let end = RecordPoint::Label(*b"01:00:00:00");
-    let tool = ToolAsked {
-        trim: Some(Window { start, end }),
-        ..plain_tool()
-    };
-    let line = "tool x --trim 4,01:00:00:00";
-    assert!(rt; asks_for_tool(rt.alloc(), line, tool)?);
-    Ok(())
-}
-
-#[test]
-fn other_lines_ask_for_no_tools(rt: HostRuntime) -> Result<(), Fail> {
-    for line in [
-        "cat",
-        "stat",
-        "tool",
-        "stat a b",
-        "cat - -",
-        "cat a - b -",
-        "cat - a.edl --media -",
-        "stat a.edl - ",
-        "cat x --stats",
-        "stat x --stats",
-        "cat x --rate 29.5",
-        "tool a b",
-        "tool a --concat --stack",
-        "tool a b --concat --stack",
-        "tool a --video-only --audio-only",
-        "tool a --stats --stats",
-        "tool a --trim 4",
-        "tool a --trim 4,",
-        "tool a --trim ,4",
-        "tool a --trim 4,5,6",
-        "tool a --trim 4,05",
-        "tool a --trim 1 2",
-        "tool a --flatten both",
-        "tool a --flatten",
-        "tool a --flatten all --flatten all",
-        "tool a --script s",
-        "convert x --stats",
-    ] {
-        assert!(rt; asks_for_nothing(rt.alloc(), line)?, "{line}");
-    }
+    assert_eq!(rt; drilled(alloc, words.as_slice()), Some(asked), "{line}");
     Ok(())
 }
 
@@ -726,17 +588,12 @@ fn lines_ask_for_drills(rt: HostRuntime) -> Result<(), Fail> {
         ("drill 7 --output - 1", 7, 1, Some("-")),
         ("drill -- 24 5", 24, 5, None),
     ] {
-        let words = words_of(rt.alloc(), line)?;
         let asked = DrillAsked {
             seed,
             count,
             target,
         };
-        assert_eq!(rt;
-            drilled(rt.alloc(), words.as_slice()),
-            Some(asked),
-            "{line}"
-        );
+        asks_for_drill(&rt, rt.alloc(), line, asked)?;
     }
     Ok(())
 }
@@ -764,7 +621,7 @@ fn other_lines_ask_for_no_drill(rt: HostRuntime) -> Result<(), Fail> {
         "drill -o a -o b 1 2",
         "Drill 1 2",
     ] {
-        assert!(rt; asks_for_nothing(rt.alloc(), line)?, "{line}");
+        is_refused(&rt, rt.alloc(), line)?;
     }
     Ok(())
 }

@@ -11,5 +11,5 @@ rate_of-requires g c = numeral false (codes "705600000000") (codes "0") ([]) fal
 pub value_is-requires : goal.value_is-requires
 value_is-requires g c = numeral false (codes "9007199254740993") (codes "0") ([]) false ([]) _ refl refl (absent refl refl refl)
 
-pub ticks_of-requires : goal.ticks_of-requires
-ticks_of-requires g c = numeral false (codes "9007199254740993") (codes "0") ([]) false ([]) _ refl refl (absent refl refl refl)
+pub ticks_are-requires : goal.ticks_are-requires
+ticks_are-requires g c = numeral false (codes "9007199254740993") (codes "0") ([]) false ([]) _ refl refl (absent refl refl refl)
