@@ -1,7 +1,7 @@
 //! The texts of messages.
 
 use coord::CoordFault;
-use dev_io::{MemOut, OutBuffer};
+use dev_io::{MemOut, OutBuffer, WriteFault};
 use edl_frames::{NotCarried, Why};
 use edl_text::EdlFault;
 use fault_text::{
@@ -14,102 +14,78 @@ use schema_rows::SchemaFault;
 use sequences::Text;
 use std::alloc::Global;
 use std::process::Abort;
-use std::test::Fail;
 
-// Compares what is told with a text.
-fn check(rt: &impl Abort, alloc: Global, reason: &Option<Reason>, want: &str) -> Result<(), Fail> {
-    let mut out = MemOut::new(alloc, 100)?;
+/// Sends what is told of a fault.
+fn send(out: &mut MemOut, reason: &Option<Reason>) -> Result<(), WriteFault> {
     let mut buffer = OutBuffer::new();
     if let Some(reason) = reason {
-        put_reason(&mut buffer, &mut out, reason);
+        put_reason(&mut buffer, out, reason);
     }
-    buffer.flush(&mut out)?;
-    assert_eq!(rt; out.sent(), want.as_bytes());
-    Ok(())
+    buffer.flush(out)
+}
+
+fn tells(rt: &impl Abort, alloc: Global, reason: Option<Reason>, wanted: &str) {
+    let mut out = MemOut::new(alloc, 100).expect(rt, "a device");
+    send(&mut out, &reason).expect(rt, "all sent");
+    drop(reason);
+    assert_eq!(rt; out.sent(), wanted.as_bytes());
+    drop(out);
+}
+
+/// The place of these indices.
+fn place_of(rt: &impl Abort, alloc: Global, indices: &[u32]) -> Place {
+    let mut place = Place::new(alloc);
+    for index in indices {
+        place.push(*index).expect(rt, "a place");
+    }
+    place
 }
 
 #[test]
-fn numbers(rt: HostRuntime) -> Result<(), Fail> {
+fn numbers(rt: HostRuntime) {
     let alloc = rt.alloc();
-    check(
-        &rt,
-        alloc,
-        &json_reason(JsonFault::Syntax(33_554_431)),
-        ": J1 Syntax at 33554431\n",
-    )?;
-    check(&rt, alloc, &json_reason(JsonFault::Large), ": J4 Large\n")?;
-    check(&rt, alloc, &json_reason(JsonFault::Memory), "")?;
-    check(
-        &rt,
-        alloc,
-        &list_reason(EdlFault::Split(10)),
-        ": L6 Split at 10\n",
-    )?;
-    check(
-        &rt,
-        alloc,
-        &Some(no_timecode_reason()),
-        ": N15 NoTimecode at .\n",
-    )?;
-    check(&rt, alloc, &Some(reel_reason(8)), ": L11 Reel at 8\n")?;
-    check(&rt, alloc, &Some(day_reason(7)), ": L10 Day at 7\n")
+    let syntax = json_reason(JsonFault::Syntax(33_554_431));
+    tells(&rt, alloc, syntax, ": J1 Syntax at 33554431\n");
+    tells(&rt, alloc, json_reason(JsonFault::Large), ": J4 Large\n");
+    tells(&rt, alloc, json_reason(JsonFault::Memory), "");
+    let split = list_reason(EdlFault::Split(10));
+    tells(&rt, alloc, split, ": L6 Split at 10\n");
+    let none = Some(no_timecode_reason());
+    tells(&rt, alloc, none, ": N15 NoTimecode at .\n");
+    tells(&rt, alloc, Some(reel_reason(8)), ": L11 Reel at 8\n");
+    tells(&rt, alloc, Some(day_reason(7)), ": L10 Day at 7\n");
 }
 
 #[test]
-fn places(rt: HostRuntime) -> Result<(), Fail> {
+fn places(rt: HostRuntime) {
     let alloc = rt.alloc();
     let newer = SchemaFault::Newer(Place::new(alloc));
-    check(&rt, alloc, &schema_reason(newer), ": S3 Newer at .\n")?;
-    let mut place = Place::new(alloc);
-    place.push(0)?;
-    place.push(12)?;
-    check(
-        &rt,
-        alloc,
-        &coord_reason(CoordFault::Long(place)),
-        ": K4 Long at 0/12\n",
-    )
+    tells(&rt, alloc, schema_reason(newer), ": S3 Newer at .\n");
+    let long = CoordFault::Long(place_of(&rt, alloc, &[0, 12]));
+    tells(&rt, alloc, coord_reason(long), ": K4 Long at 0/12\n");
 }
 
 #[test]
-fn children_that_are_not_carried(rt: HostRuntime) -> Result<(), Fail> {
+fn children_that_are_not_carried(rt: HostRuntime) {
     let alloc = rt.alloc();
-    let mut place = Place::new(alloc);
-    place.push(1)?;
-    place.push(0)?;
-    let fault = NotCarried::At {
-        place,
+    let overlap = not_carried_reason(NotCarried::At {
+        place: place_of(&rt, alloc, &[1, 0]),
         why: Why::Overlap,
-    };
-    check(
-        &rt,
-        alloc,
-        &not_carried_reason(fault),
-        ": N10 Overlap at 1/0\n",
-    )?;
-    let whole = NotCarried::At {
+    });
+    tells(&rt, alloc, overlap, ": N10 Overlap at 1/0\n");
+    let events = not_carried_reason(NotCarried::At {
         place: Place::new(alloc),
         why: Why::Events,
-    };
-    check(
-        &rt,
-        alloc,
-        &not_carried_reason(whole),
-        ": N13 Events at .\n",
-    )?;
-    check(&rt, alloc, &not_carried_reason(NotCarried::Memory), "")
+    });
+    tells(&rt, alloc, events, ": N13 Events at .\n");
+    tells(&rt, alloc, not_carried_reason(NotCarried::Memory), "");
 }
 
 #[test]
-fn members(rt: HostRuntime) -> Result<(), Fail> {
+fn members(rt: HostRuntime) {
     let alloc = rt.alloc();
-    let mut place = Place::new(alloc);
-    place.push(4_294_967_295)?;
-    let fault = SchemaFault::Field(place, Text::of(alloc, "kind")?);
-    check(
-        &rt,
-        alloc,
-        &schema_reason(fault),
-        ": S4 Field at 4294967295 kind\n",
-    )
+    let place = place_of(&rt, alloc, &[4_294_967_295]);
+    let name = Text::of(alloc, "kind").expect(&rt, "a text");
+    let field = schema_reason(SchemaFault::Field(place, name));
+    tells(&rt, alloc, field, ": S4 Field at 4294967295 kind\n");
 }

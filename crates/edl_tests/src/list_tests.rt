@@ -5,20 +5,26 @@ use crate::film::rate_24;
 use edl_list::{Channel, Cross, Event, EventList, Reel, Side};
 use owned::Owned;
 use sequences::{Sequence, Text};
-use std::alloc::{AllocError, Global};
-use std::test::Fail;
+use std::alloc::Global;
+use std::process::Abort;
+
+/// The text of a string, where there is memory.
+pub fn text_of(rt: &impl Abort, alloc: Global, text: &str) -> Text {
+    Text::of(alloc, text).expect(rt, "a text")
+}
 
 /// Forty-eight frames of a reel, from a frame on.
-fn side(alloc: Global, reel: &str, src_in: i64) -> Result<Side, AllocError>
+fn side(rt: &impl Abort, alloc: Global, reel: &str, src_in: i64) -> Side
     requires { src_in ≤ℤ pos 1000000 }
 {
-    Ok(Side {
-        reel: Reel::Named(Text::of(alloc, reel)?),
-        name: Some(Text::of(alloc, "a clip")?),
+    let name = text_of(rt, alloc, "a clip");
+    Side {
+        reel: Reel::Named(text_of(rt, alloc, reel)),
+        name: Some(name),
         src_in,
         src_out: src_in + 48,
         speed: None,
-    })
+    }
 }
 
 /// Twenty-four frames of black, at twice the speed.
@@ -32,44 +38,67 @@ fn black() -> Side {
     }
 }
 
+fn dissolve(rt: &impl Abort, alloc: Global) -> Cross {
+    let from = side(rt, alloc, "TAPE2", 0);
+    Cross::Dissolve {
+        frames: 12,
+        from: Owned::of(alloc, from).expect(rt, "a side"),
+    }
+}
+
+fn wipe(rt: &impl Abort, alloc: Global) -> Cross {
+    Cross::Wipe {
+        code: 1,
+        frames: 24,
+        from: Owned::of(alloc, black()).expect(rt, "a side"),
+    }
+}
+
 /// An event of forty-eight frames that begins in this way.
-fn event(alloc: Global, channel: Channel, cross: Cross) -> Result<Event, AllocError> {
-    Ok(Event {
+fn event(rt: &impl Abort, alloc: Global, channel: Channel, cross: Cross) -> Event {
+    Event {
         line: 3,
         channel,
-        to: side(alloc, "TAPE1", 86_400)?,
+        to: side(rt, alloc, "TAPE1", 86_400),
         cross,
         rec_in: 0,
         rec_out: 48,
-    })
+    }
+}
+
+fn events(rt: &impl Abort, alloc: Global) -> Vec<Event> {
+    let cut = event(rt, alloc, Channel::V, Cross::Cut);
+    let dissolve = event(rt, alloc, Channel::A, dissolve(rt, alloc));
+    let wipe = event(rt, alloc, Channel::A2, wipe(rt, alloc));
+    vec![in alloc; cut, dissolve, wipe].expect(rt, "a list")
+}
+
+fn list_of_each_kind(rt: &impl Abort, alloc: Global) -> EventList {
+    EventList {
+        title: text_of(rt, alloc, "of each kind"),
+        rate: rate_24(),
+        drop: false,
+        events: Sequence::of(events(rt, alloc)),
+    }
+}
+
+fn shown(rt: &impl Abort, alloc: Global, list: &EventList) -> String {
+    format!(in alloc; "{list:?}").expect(rt, "a text")
+}
+
+fn has_word(rt: &impl Abort, text: &str, word: &str) {
+    assert!(rt; text.contains(word), "{word}");
 }
 
 #[test]
-fn events_of_each_kind(rt: HostRuntime) -> Result<(), Fail> {
+fn events_of_each_kind(rt: HostRuntime) {
     let alloc = rt.alloc();
-    let dissolve = Cross::Dissolve {
-        frames: 12,
-        from: Owned::of(alloc, side(alloc, "TAPE2", 0)?)?,
-    };
-    let wipe = Cross::Wipe {
-        code: 1,
-        frames: 24,
-        from: Owned::of(alloc, black())?,
-    };
-    let list = EventList {
-        title: Text::of(alloc, "of each kind")?,
-        rate: rate_24(),
-        drop: false,
-        events: Sequence::of(vec![in alloc;
-            event(alloc, Channel::V, Cross::Cut)?,
-            event(alloc, Channel::A, dissolve)?,
-            event(alloc, Channel::A2, wipe)?,
-        ]?),
-    };
+    let list = list_of_each_kind(&rt, alloc);
     assert_eq!(rt; list.title.as_str(), "of each kind");
     assert_eq!(rt; list.events.len(), 3);
-    let shown = format!(in alloc; "{list:?}")?;
-    assert!(rt; shown.as_str().contains("TAPE2"));
-    assert!(rt; shown.as_str().contains("Wipe"));
-    Ok(())
+    let shown = shown(&rt, alloc, &list);
+    drop(list);
+    has_word(&rt, shown.as_str(), "TAPE2");
+    has_word(&rt, shown.as_str(), "Wipe");
+    drop(shown);
 }

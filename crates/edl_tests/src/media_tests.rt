@@ -5,43 +5,31 @@ ghost use Rattle.std.specs.Prelude.{◌<◌};
 use media_list::{MediaFault, MediaList, MediaReader, MediaRow};
 use sequences::Text;
 use std::alloc::{AllocError, Global};
-use std::test::Fail;
+use std::process::Abort;
 
-/// Texts that are no list, and their faults.
-const FAULTS: [(&str, MediaFault); 24] = [
-    ("A1\t24\t0\t1", MediaFault::Line(1)),
-    ("A1\t24\t0\t1\ta\tb", MediaFault::Line(1)),
-    ("BL\t24\t0\t1\ta", MediaFault::Line(1)),
-    ("\t24\t0\t1\ta", MediaFault::Line(1)),
-    ("A 1\t24\t0\t1\ta", MediaFault::Line(1)),
-    (
-        "THIRTY-THREE-BYTES-ARE-NO-REEL-01\t24\t0\t1\ta",
-        MediaFault::Line(1),
-    ),
-    ("A1\t024\t0\t1\ta", MediaFault::Line(1)),
-    ("A1\t24\t-1\t1\ta", MediaFault::Line(1)),
-    ("A1\t24\t\t1\ta", MediaFault::Line(1)),
-    ("A1\t24\t0\t0000000000000000001\ta", MediaFault::Line(1)),
-    ("A1\t24\t00:00:00.00\t1\ta", MediaFault::Line(1)),
-    (" # no comment", MediaFault::Line(1)),
-    ("\n\r", MediaFault::Line(2)),
-    ("A1\t0.5\t99:00:00:00\t0\ta", MediaFault::Rate(1)),
-    ("A1\t1e9999\t0\t1\ta", MediaFault::Rate(1)),
-    ("A1\t24\t24:00:00:00\t1\ta", MediaFault::Range(1)),
-    ("A1\t24\t00:00:00;00\t1\ta", MediaFault::Range(1)),
-    ("A1\t29.97\t00:01:00;00\t1\ta", MediaFault::Range(1)),
-    ("A1\t24\t0\t0\ta", MediaFault::Range(1)),
-    ("A1\t24\t1\t24000000\ta", MediaFault::Range(1)),
-    ("A1\t24\t0\t1\ta\nA1\t24\t0\t1\ta", MediaFault::ReelTwice(2)),
-    (
-        "A1\t24\t0\t1\ta\r\n\n#\nA2\t24\t0\t1\ta\n",
-        MediaFault::UrlTwice(4),
-    ),
-    ("A1\t24\t0\t1\ta\nA1\t24\t0\t0\ta", MediaFault::Range(2)),
-    (
-        "A1\t24\t0\t1\ta\nA1\t24\t0\t1\ta\nB",
-        MediaFault::ReelTwice(2),
-    ),
+/// Texts whose first line has the wrong form.
+const FORMS: [&str; 12] = [
+    "A1\t24\t0\t1",
+    "A1\t24\t0\t1\ta\tb",
+    "BL\t24\t0\t1\ta",
+    "\t24\t0\t1\ta",
+    "A 1\t24\t0\t1\ta",
+    "THIRTY-THREE-BYTES-ARE-NO-REEL-01\t24\t0\t1\ta",
+    "A1\t024\t0\t1\ta",
+    "A1\t24\t-1\t1\ta",
+    "A1\t24\t\t1\ta",
+    "A1\t24\t0\t0000000000000000001\ta",
+    "A1\t24\t00:00:00.00\t1\ta",
+    " # no comment",
+];
+
+/// Texts of one line, whose media is out of range.
+const RANGES: [&str; 5] = [
+    "A1\t24\t24:00:00:00\t1\ta",
+    "A1\t24\t00:00:00;00\t1\ta",
+    "A1\t29.97\t00:01:00;00\t1\ta",
+    "A1\t24\t0\t0\ta",
+    "A1\t24\t1\t24000000\ta",
 ];
 
 /// Texts of one row: its rate, its start and its count.
@@ -75,6 +63,10 @@ fn fault_of(alloc: Global, bytes: &[u8]) -> Option<MediaFault> {
     MediaList::read(alloc, bytes).err()
 }
 
+fn fault_is(rt: &impl Abort, alloc: Global, bytes: &[u8], wanted: MediaFault) {
+    assert_eq!(rt; fault_of(alloc, bytes), Some(wanted), "{bytes:?}");
+}
+
 /// Whether the row of the reel `A1`, or the only row, has this rate, start and count.
 fn is_row(rows: &[MediaRow], rate: &str, start: i64, count: i64) -> bool {
     match rows {
@@ -83,24 +75,11 @@ fn is_row(rows: &[MediaRow], rate: &str, start: i64, count: i64) -> bool {
     }
 }
 
-/// Whether a text is a list of one such row.
-fn has_row(alloc: Global, text: &str, rate: &str, start: i64, count: i64) -> bool {
-    match MediaList::read(alloc, text.as_bytes()) {
-        Ok(list) => is_row(list.rows(), rate, start, count),
-        Err(_) => false,
-    }
-}
-
-/// The number that the row of a reel starts at.
-fn start_by_reel(alloc: Global, list: &MediaList, reel: &str) -> Result<Option<i64>, AllocError> {
-    let reel = Text::of(alloc, reel)?;
-    Ok(list.by_reel(&reel).map(|row| row.start))
-}
-
-/// The number that the row of a URL starts at.
-fn start_by_url(alloc: Global, list: &MediaList, url: &str) -> Result<Option<i64>, AllocError> {
-    let url = Text::of(alloc, url)?;
-    Ok(list.by_url(&url).map(|row| row.start))
+/// Checks that a text is a list of one such row.
+fn row_is(rt: &impl Abort, alloc: Global, text: &str, rate: &str, start: i64, count: i64) {
+    let list = MediaList::read(alloc, text.as_bytes()).expect(rt, "a list");
+    assert!(rt; is_row(list.rows(), rate, start, count), "{text}");
+    drop(list);
 }
 
 /// The text of a list of so many rows, of which each starts at its index.
@@ -114,41 +93,88 @@ fn text_of(alloc: Global, count: u32) -> Result<String, AllocError> {
 
 #[test]
 fn refuses_what_is_no_list(rt: HostRuntime) {
-    for (text, fault) in FAULTS {
-        assert_eq!(rt; fault_of(rt.alloc(), text.as_bytes()), Some(fault));
+    let alloc = rt.alloc();
+    for text in FORMS {
+        fault_is(&rt, alloc, text.as_bytes(), MediaFault::Line(1));
     }
+    for text in RANGES {
+        fault_is(&rt, alloc, text.as_bytes(), MediaFault::Range(1));
+    }
+    fault_is(&rt, alloc, b"\n\r", MediaFault::Line(2));
+    let low = b"A1\t0.5\t99:00:00:00\t0\ta";
+    fault_is(&rt, alloc, low, MediaFault::Rate(1));
+    let high = b"A1\t1e9999\t0\t1\ta";
+    fault_is(&rt, alloc, high, MediaFault::Rate(1));
+    let reels = b"A1\t24\t0\t1\ta\nA1\t24\t0\t1\ta";
+    fault_is(&rt, alloc, reels, MediaFault::ReelTwice(2));
+    let urls = b"A1\t24\t0\t1\ta\r\n\n#\nA2\t24\t0\t1\ta\n";
+    fault_is(&rt, alloc, urls, MediaFault::UrlTwice(4));
+    let range = b"A1\t24\t0\t1\ta\nA1\t24\t0\t0\ta";
+    fault_is(&rt, alloc, range, MediaFault::Range(2));
+    let form = b"A1\t24\t0\t1\ta\nA1\t24\t0\t1\ta\nB";
+    fault_is(&rt, alloc, form, MediaFault::ReelTwice(2));
 }
 
 #[test]
 fn refuses_bytes_that_are_no_text(rt: HostRuntime) {
-    assert_eq!(rt; fault_of(rt.alloc(), b"#\xff"), Some(MediaFault::Line(1)));
-    assert_eq!(rt;
-        fault_of(rt.alloc(), b"\nA1\t24\t0\t1\t\xff"),
-        Some(MediaFault::Line(2))
+    fault_is(&rt, rt.alloc(), b"#\xff", MediaFault::Line(1));
+    fault_is(
+        &rt,
+        rt.alloc(),
+        b"\nA1\t24\t0\t1\t\xff",
+        MediaFault::Line(2),
     );
 }
 
 #[test]
 fn reads_one_row(rt: HostRuntime) {
     for (text, rate, start, count) in ROWS {
-        assert!(rt; has_row(rt.alloc(), text, rate, start, count));
+        row_is(&rt, rt.alloc(), text, rate, start, count);
     }
 }
 
+fn list_of(rt: &impl Abort, alloc: Global, count: u32) -> MediaList {
+    let text = text_of(alloc, count).expect(rt, "a text");
+    let list = MediaList::read(alloc, text.as_str().as_bytes());
+    drop(text);
+    list.expect(rt, "a list")
+}
+
+/// Checks the number that the row of a key starts at.
+fn row_starts_at(rt: &impl Abort, key: &str, row: Option<&MediaRow>, start: Option<i64>) {
+    assert_eq!(rt; row.map(|row| row.start), start, "{key}");
+}
+
+fn reel_starts_at(
+    rt: &impl Abort,
+    alloc: Global,
+    list: &MediaList,
+    reel: &str,
+    start: Option<i64>,
+) {
+    let key = Text::of(alloc, reel).expect(rt, "a reel");
+    row_starts_at(rt, reel, list.by_reel(&key), start);
+    drop(key);
+}
+
+fn url_starts_at(rt: &impl Abort, alloc: Global, list: &MediaList, url: &str, start: Option<i64>) {
+    let key = Text::of(alloc, url).expect(rt, "a URL");
+    row_starts_at(rt, url, list.by_url(&key), start);
+    drop(key);
+}
+
 #[test]
-fn looks_up_among_many(rt: HostRuntime) -> Result<(), Fail> {
-    let text = text_of(rt.alloc(), 2000)?;
-    let list = MediaList::read(rt.alloc(), text.as_str().as_bytes())
-        .ok()
-        .ok_or("a list")?;
+fn looks_up_among_many(rt: HostRuntime) {
+    let alloc = rt.alloc();
+    let list = list_of(&rt, alloc, 2000);
     assert_eq!(rt; list.rows().len(), 2000);
-    assert_eq!(rt; start_by_reel(rt.alloc(), &list, "R0")?, Some(0));
-    assert_eq!(rt; start_by_reel(rt.alloc(), &list, "R1999")?, Some(1999));
-    assert_eq!(rt; start_by_reel(rt.alloc(), &list, "R2000")?, None);
-    assert_eq!(rt; start_by_url(rt.alloc(), &list, "r1234.mov")?, Some(1234));
-    assert_eq!(rt; start_by_url(rt.alloc(), &list, "r1234.mo")?, None);
-    assert_eq!(rt; start_by_url(rt.alloc(), &list, "R1")?, None);
-    Ok(())
+    reel_starts_at(&rt, alloc, &list, "R0", Some(0));
+    reel_starts_at(&rt, alloc, &list, "R1999", Some(1999));
+    reel_starts_at(&rt, alloc, &list, "R2000", None);
+    url_starts_at(&rt, alloc, &list, "r1234.mov", Some(1234));
+    url_starts_at(&rt, alloc, &list, "r1234.mo", None);
+    url_starts_at(&rt, alloc, &list, "R1", None);
+    drop(list);
 }
 
 /// The list or the fault of a text that is fed in pieces of so many bytes.
@@ -169,21 +195,20 @@ fn fault_in_pieces(alloc: Global, text: &[u8], size: usize) -> Option<MediaFault
     read_in_pieces(alloc, text, size).err()
 }
 
-/// How many rows a text in pieces says.
-fn rows_in_pieces(alloc: Global, text: &[u8], size: usize) -> Option<usize>
+/// Checks how many rows a text in pieces says.
+fn count_in_pieces_is(rt: &impl Abort, alloc: Global, text: &[u8], size: usize, count: usize)
     requires { 0 < size }
 {
-    match read_in_pieces(alloc, text, size) {
-        Ok(list) => Some(list.rows().len()),
-        Err(_) => None,
-    }
+    let list = read_in_pieces(alloc, text, size).expect(rt, "a list");
+    assert_eq!(rt; list.rows().len(), count);
+    drop(list);
 }
 
 #[test]
 fn reads_pieces(rt: HostRuntime) {
     let text = b"A1\t24\t0\t1\ta\r\n#\nA2\t24\t0\t1\tb\r\n";
-    assert_eq!(rt; rows_in_pieces(rt.alloc(), text, 1), Some(2));
-    assert_eq!(rt; rows_in_pieces(rt.alloc(), text, 7), Some(2));
+    count_in_pieces_is(&rt, rt.alloc(), text, 1, 2);
+    count_in_pieces_is(&rt, rt.alloc(), text, 7, 2);
     assert_eq!(rt;
         fault_in_pieces(rt.alloc(), b"#\nA1\t24\t0\t0\ta\nB", 3),
         Some(MediaFault::Range(2))

@@ -1,16 +1,11 @@
 // Small lists of events.
-ghost use Rattle.std.specs.Prelude.{◌≡◌};
-
 use edl_list::{Channel, Cross, Event, Reel, Side};
 use edl_order::{first_overlap, in_record_order};
-use std::test::Fail;
+use std::alloc::Global;
+use std::process::Abort;
 
 // A cut from black on a line, a channel and a record span.
-fn cut(line: u32, channel: Channel, rec_in: i64, rec_out: i64) -> Event
-    ensures line { result.line ≡ line }
-    ensures rec_in { result.rec_in ≡ rec_in }
-    ensures rec_out { result.rec_out ≡ rec_out }
-{
+fn cut(line: u32, channel: Channel, rec_in: i64, rec_out: i64) -> Event {
     Event {
         line,
         channel,
@@ -27,6 +22,11 @@ fn cut(line: u32, channel: Channel, rec_in: i64, rec_out: i64) -> Event
     }
 }
 
+fn overlap_is(rt: &impl Abort, alloc: Global, events: [Event; 3], wanted: Option<u32>) {
+    assert_eq!(rt; first_overlap(alloc, &events), Ok(wanted));
+    drop(events);
+}
+
 #[test]
 fn names_the_line_of_an_overlap(rt: HostRuntime) {
     let events = [
@@ -34,8 +34,7 @@ fn names_the_line_of_an_overlap(rt: HostRuntime) {
         cut(4, Channel::A, 24, 72),
         cut(7, Channel::V, 0, 25),
     ];
-    let found = first_overlap(rt.alloc(), &events);
-    assert!(rt; matches!(found, Ok(Some(7))));
+    overlap_is(&rt, rt.alloc(), events, Some(7));
 }
 
 #[test]
@@ -45,24 +44,28 @@ fn spans_that_touch_have_no_overlap(rt: HostRuntime) {
         cut(4, Channel::A2, 0, 25),
         cut(7, Channel::V, 0, 24),
     ];
-    let found = first_overlap(rt.alloc(), &events);
-    assert!(rt; matches!(found, Ok(None)));
+    overlap_is(&rt, rt.alloc(), events, None);
+}
+
+// The lines of five events.
+fn lines_of(events: &[Event]) -> Option<[u32; 5]> {
+    match events {
+        [a, b, c, d, e] => Some([a.line, b.line, c.line, d.line, e.line]),
+        _ => None,
+    }
 }
 
 #[test]
-fn events_stand_in_record_order(rt: HostRuntime) -> Result<(), Fail> {
+fn events_stand_in_record_order(rt: HostRuntime) {
     let events = vec![in rt.alloc();
         cut(9, Channel::A2, 24, 72),
         cut(3, Channel::A, 24, 72),
         cut(7, Channel::V, 24, 25),
         cut(8, Channel::A2, 0, 24),
         cut(2, Channel::A2, 24, 72),
-    ]?;
-    let ordered = in_record_order(events)?;
-    let mut lines = Vec::new(rt.alloc());
-    for event in ordered.as_slice() {
-        lines.push(event.line)?;
-    }
-    assert_eq!(rt; lines.as_slice(), &[8, 7, 3, 2, 9][..]);
-    Ok(())
+    ]
+    .expect(&rt, "a list");
+    let ordered = in_record_order(events).expect(&rt, "a list");
+    assert_eq!(rt; lines_of(ordered.as_slice()), Some([8, 7, 3, 2, 9]));
+    drop(ordered);
 }

@@ -1,28 +1,24 @@
 //! Lists of a few lines, in pieces of several sizes.
 ghost use Rattle.std.specs.Prelude.{◌<◌};
 
-use edl_list::{Channel, Cross, Event, EventList, Reel};
+use edl_list::{Channel, Cross, Event, EventList, Reel, Side};
 use edl_text::{EdlFault, EdlReader};
 use smpte_tc::label;
 use std::alloc::Global;
-use std::test::Fail;
+use std::process::Abort;
 use tick_time::{Decimal, Rate, is_numeral};
 
 /// The rate of a numeral.
-fn rate_of(numeral: &str) -> Result<Rate, Fail> {
-    if !is_numeral(numeral.as_bytes()) {
-        return Err("a numeral".into());
-    }
-    let decimal = Decimal::read(numeral.as_bytes()).ok().ok_or("a decimal")?;
-    let rate = Rate::of(&decimal).ok().ok_or("a rate")?;
-    Ok(rate)
+fn rate_of(rt: &impl Abort, numeral: &str) -> Rate {
+    assert!(rt; is_numeral(numeral.as_bytes()));
+    let decimal = Decimal::read(numeral.as_bytes()).expect(rt, "a decimal");
+    Rate::of(&decimal).expect(rt, "a rate")
 }
 
-/// The list of a text that comes in pieces of that size.
-fn read(alloc: Global, rate: Rate, text: &str, size: usize) -> Result<EventList, EdlFault>
+/// The reader fed a text in pieces of that size, and the piece of a fault twice.
+fn feed_pieces(reader: &mut EdlReader, text: &str, size: usize) -> Result<(), EdlFault>
     requires { 0 < size }
 {
-    let mut reader = EdlReader::new(alloc, rate);
     for piece in text.as_bytes().chunks(size) {
         match reader.feed(piece) {
             Ok(()) => {}
@@ -32,7 +28,23 @@ fn read(alloc: Global, rate: Rate, text: &str, size: usize) -> Result<EventList,
             }
         }
     }
+    Ok(())
+}
+
+/// The list of a text that comes in pieces of that size.
+fn read(alloc: Global, rate: Rate, text: &str, size: usize) -> Result<EventList, EdlFault>
+    requires { 0 < size }
+{
+    let mut reader = EdlReader::new(alloc, rate);
+    feed_pieces(&mut reader, text, size)?;
     reader.finish()
+}
+
+/// The list of a text that has one.
+fn list_of(rt: &impl Abort, alloc: Global, rate: Rate, text: &str, size: usize) -> EventList
+    requires { 0 < size }
+{
+    read(alloc, rate, text, size).expect(rt, "a list")
 }
 
 /// The fault of a text, the same in pieces of each size.
@@ -61,32 +73,89 @@ fn is_event(event: &Event, line: u32, frames: [i64; 4], reel: &str) -> bool {
         && event.rec_out == rec_out
 }
 
+fn fault_is(rt: &impl Abort, alloc: Global, rate: Rate, text: &str, wanted: EdlFault) {
+    assert!(rt; fault_of(alloc, rate, text) == Some(wanted), "{text}");
+}
+
+/// Whether the side has this name, these frames and this speed.
+fn is_side(side: &Side, name: &str, frames: [i64; 2], speed: u16) -> bool {
+    let named = match &side.name {
+        Some(found) => found.as_str() == name,
+        None => false,
+    };
+    let [src_in, src_out] = frames;
+    named && side.src_in == src_in && side.src_out == src_out && side.speed == Some(speed)
+}
+
+fn list_has(rt: &impl Abort, list: &EventList, title: &str, events: usize) {
+    assert_eq!(rt; list.title.as_str(), title);
+    assert_eq!(rt; list.events.len(), events);
+}
+
+fn event_at<'a>(rt: &impl Abort, list: &'a EventList, index: usize) -> &'a Event {
+    list.events.get(index).expect(rt, "an event")
+}
+
+fn event_is(rt: &impl Abort, event: &Event, line: u32, frames: [i64; 4], reel: &str) {
+    assert!(rt; is_event(event, line, frames, reel), "line {line}");
+}
+
+fn channel_is(rt: &impl Abort, event: &Event, wanted: Channel) {
+    assert!(rt; event.channel == wanted);
+}
+
+fn side_is(rt: &impl Abort, side: &Side, name: &str, frames: [i64; 2], speed: u16) {
+    assert!(rt; is_side(side, name, frames, speed), "{name}");
+}
+
+/// The outgoing side of an event that begins with a dissolve over so many frames.
+fn dissolved_side<'a>(rt: &impl Abort, event: &'a Event, wanted: u16) -> &'a Side {
+    match &event.cross {
+        Cross::Dissolve { frames, from } if *frames == wanted => from.get(),
+        _ => panic!(rt; "no dissolve over {wanted} frames"),
+    }
+}
+
+fn one_cut_is_read(rt: &impl Abort, list: &EventList) {
+    list_has(rt, list, "ONE", 1);
+    assert!(rt; !list.drop);
+    let event = event_at(rt, list, 0);
+    event_is(rt, event, 4, [86_400, 86_448, 240, 288], "TAPE1");
+    channel_is(rt, event, Channel::V);
+}
+
 #[test]
-fn one_cut(rt: HostRuntime) -> Result<(), Fail> {
+fn one_cut(rt: HostRuntime) {
     let text =
         "TITLE: ONE\r\nFCM: NON-DROP FRAME\n\n7 TAPE1 V C 01:00:00:00 01:00:02:00 00:00:10:00 00:00:12:00";
+    let rate = rate_of(&rt, "24");
     for size in [1usize, 2, 7, 4096] {
-        let list = read(rt.alloc(), rate_of("24")?, text, size)?;
-        assert_eq!(rt; list.title.as_str(), "ONE");
-        assert!(rt; !list.drop);
-        assert_eq!(rt; list.events.len(), 1);
-        let event = list.events.get(0).ok_or("an event")?;
-        assert!(rt; is_event(event, 4, [86_400, 86_448, 240, 288], "TAPE1"));
-        assert!(rt; event.channel == Channel::V);
+        let list = list_of(&rt, rt.alloc(), rate, text, size);
+        one_cut_is_read(&rt, &list);
+        drop(list);
     }
-    Ok(())
 }
 
 #[test]
-fn no_event(rt: HostRuntime) -> Result<(), Fail> {
-    let list = read(rt.alloc(), rate_of("100")?, "TITLE: EMPTY", 7)?;
-    assert_eq!(rt; list.title.as_str(), "EMPTY");
-    assert_eq!(rt; list.events.len(), 0);
-    Ok(())
+fn no_event(rt: HostRuntime) {
+    let rate = rate_of(&rt, "100");
+    let list = list_of(&rt, rt.alloc(), rate, "TITLE: EMPTY", 7);
+    list_has(&rt, &list, "EMPTY", 0);
+    drop(list);
+}
+
+fn dissolve_is_read(rt: &impl Abort, list: &EventList) {
+    list_has(rt, list, "", 2);
+    event_is(rt, event_at(rt, list, 0), 1, [24, 48, 0, 24], "A1");
+    let second = event_at(rt, list, 1);
+    event_is(rt, second, 3, [120, 120, 24, 48], "A1");
+    side_is(rt, &second.to, "two", [120, 120], 0);
+    let from = dissolved_side(rt, second, 12);
+    side_is(rt, from, "one", [48, 48], 240);
 }
 
 #[test]
-fn a_dissolve_of_one_reel(rt: HostRuntime) -> Result<(), Fail> {
+fn a_dissolve_of_one_reel(rt: HostRuntime) {
     let text = "1 A1 V C 00:00:01:00 00:00:02:00 00:00:00:00 00:00:01:00
 2 A1 V C 00:00:02:00 00:00:02:00 00:00:01:00 00:00:01:00
 000002 A1 V D 012 00:00:05:00 00:00:05:00 00:00:01:00 00:00:02:00
@@ -95,59 +164,51 @@ M2 A1 000.0 00:00:05:00
 * FROM CLIP NAME: one
 * TO CLIP NAME: two
 ";
+    let rate = rate_of(&rt, "24");
     for size in [1usize, 2, 7, 4096] {
-        let list = read(rt.alloc(), rate_of("24")?, text, size)?;
-        assert_eq!(rt; list.events.len(), 2);
-        let first = list.events.get(0).ok_or("an event")?;
-        assert!(rt; is_event(first, 1, [24, 48, 0, 24], "A1"));
-        let second = list.events.get(1).ok_or("an event")?;
-        assert!(rt; is_event(second, 3, [120, 120, 24, 48], "A1"));
-        assert!(rt; second.to.speed == Some(0));
-        match &second.cross {
-            Cross::Dissolve { frames, from } => {
-                let from = from.get();
-                assert_eq!(rt; *frames, 12);
-                assert!(rt; from.speed == Some(240));
-                assert!(rt; from.src_in == 48 && from.src_out == 48);
-                let name = from.name.as_ref().ok_or("a name")?;
-                assert_eq!(rt; name.as_str(), "one");
-            }
-            _ => return Err("a dissolve".into()),
-        }
-        let name = second.to.name.as_ref().ok_or("a name")?;
-        assert_eq!(rt; name.as_str(), "two");
+        let list = list_of(&rt, rt.alloc(), rate, text, size);
+        dissolve_is_read(&rt, &list);
+        drop(list);
     }
-    Ok(())
 }
 
 #[test]
-fn three_channels_and_an_earlier_line(rt: HostRuntime) -> Result<(), Fail> {
+fn three_channels_and_an_earlier_line(rt: HostRuntime) {
     let text = "1 T1 AA/V C 00:00:00:00 00:00:01:00 00:00:01:00 00:00:02:00
 999999 THIRTY-TWO-BYTES-ARE-ONE-REEL-01 A2 C 00:00:00:00 00:00:01:00 00:00:00:00 00:00:01:00";
-    let list = read(rt.alloc(), rate_of("24")?, text, 7)?;
-    assert_eq!(rt; list.events.len(), 4);
-    let first = list.events.get(0).ok_or("an event")?;
-    assert!(rt; is_event(first, 2, [0, 24, 0, 24], "THIRTY-TWO-BYTES-ARE-ONE-REEL-01"));
-    let last = list.events.get(3).ok_or("an event")?;
-    assert!(rt; is_event(last, 1, [0, 24, 24, 48], "T1"));
-    assert!(rt; last.channel == Channel::A2);
-    Ok(())
+    let rate = rate_of(&rt, "24");
+    let list = list_of(&rt, rt.alloc(), rate, text, 7);
+    list_has(&rt, &list, "", 4);
+    let first = event_at(&rt, &list, 0);
+    event_is(
+        &rt,
+        first,
+        2,
+        [0, 24, 0, 24],
+        "THIRTY-TWO-BYTES-ARE-ONE-REEL-01",
+    );
+    let last = event_at(&rt, &list, 3);
+    event_is(&rt, last, 1, [0, 24, 24, 48], "T1");
+    channel_is(&rt, last, Channel::A2);
+    drop(list);
 }
 
 #[test]
-fn drop_frame(rt: HostRuntime) -> Result<(), Fail> {
+fn drop_frame(rt: HostRuntime) {
     let text = "FCM: DROP FRAME\n1 T1 V C 00:00:00:00 00:00:00:10 01:00:00:00 01:00:00:10\n";
-    let list = read(rt.alloc(), rate_of("29.97")?, text, 2)?;
+    let rate = rate_of(&rt, "29.97");
+    let list = list_of(&rt, rt.alloc(), rate, text, 2);
     assert!(rt; list.drop);
-    let event = list.events.get(0).ok_or("an event")?;
-    assert!(rt; is_event(event, 2, [0, 10, 107_892, 107_902], "T1"));
-    assert!(rt; fault_of(rt.alloc(), rate_of("100")?, text) == Some(EdlFault::Timecode(2)));
-    Ok(())
+    let event = event_at(&rt, &list, 0);
+    event_is(&rt, event, 2, [0, 10, 107_892, 107_902], "T1");
+    drop(list);
+    let rate = rate_of(&rt, "100");
+    fault_is(&rt, rt.alloc(), rate, text, EdlFault::Timecode(2));
 }
 
 #[test]
-fn faults(rt: HostRuntime) -> Result<(), Fail> {
-    let rate = rate_of("24")?;
+fn faults(rt: HostRuntime) {
+    let rate = rate_of(&rt, "24");
     let table = [
         (
             "1 T1 V C 00:00:00:00 00:00:01:00 00:00:00:00 00:00:02:00",
@@ -183,23 +244,21 @@ fn faults(rt: HostRuntime) -> Result<(), Fail> {
         ),
     ];
     for (text, fault) in table {
-        assert!(rt; fault_of(rt.alloc(), rate, text) == Some(fault), "{text}");
+        fault_is(&rt, rt.alloc(), rate, text, fault);
     }
-    Ok(())
 }
 
 #[test]
-fn faults_of_order(rt: HostRuntime) -> Result<(), Fail> {
-    let rate = rate_of("24")?;
+fn faults_of_order(rt: HostRuntime) {
+    let rate = rate_of(&rt, "24");
     let back = "1 T1 V C 00:00:01:00 00:00:00:00 00:00:00:00 00:00:01:00";
-    assert!(rt; fault_of(rt.alloc(), rate, back) == Some(EdlFault::Order(1)));
+    fault_is(&rt, rt.alloc(), rate, back, EdlFault::Order(1));
     let apart =
         "1 T1 V C 00:00:00:00 00:00:01:00 00:00:00:00 00:00:01:00\n1 T1 V D 024 00:00:00:00 00:00:01:00 00:00:01:01 00:00:02:01";
-    assert!(rt; fault_of(rt.alloc(), rate, apart) == Some(EdlFault::Order(2)));
+    fault_is(&rt, rt.alloc(), rate, apart, EdlFault::Order(2));
     let over =
         "1 T1 V C 00:00:00:00 00:00:01:00 00:00:00:00 00:00:01:00\n2 T1 B C 00:00:00:00 00:00:01:00 00:00:00:23 00:00:01:23";
-    assert!(rt; fault_of(rt.alloc(), rate, over) == Some(EdlFault::Overlap(2)));
-    Ok(())
+    fault_is(&rt, rt.alloc(), rate, over, EdlFault::Overlap(2));
 }
 
 /// The reader fed the label of a frame and the bytes behind it.
@@ -211,22 +270,33 @@ fn feed_label(reader: &mut EdlReader, rate: Rate, n: u32, end: &[u8]) -> Result<
     reader.feed(end)
 }
 
-/// How many events there are in a list of so many cuts, each of one frame.
-fn cuts_read(alloc: Global, rate: Rate, count: u32) -> Result<usize, EdlFault> {
-    let mut reader = EdlReader::new(alloc, rate);
+/// The reader fed so many cuts, each of one frame.
+fn feed_cuts(reader: &mut EdlReader, rate: Rate, count: u32) -> Result<(), EdlFault> {
     for n in 0..count {
         reader.feed(b"001 TAPE1 V C 00:00:00:00 00:00:00:01 ")?;
-        feed_label(&mut reader, rate, n, b" ")?;
-        feed_label(&mut reader, rate, n + 1, b"\n")?;
+        feed_label(reader, rate, n, b" ")?;
+        feed_label(reader, rate, n + 1, b"\n")?;
     }
-    let list = reader.finish()?;
-    Ok(list.events.len())
+    Ok(())
+}
+
+/// The list of so many cuts.
+fn read_cuts(alloc: Global, rate: Rate, count: u32) -> Result<EventList, EdlFault> {
+    let mut reader = EdlReader::new(alloc, rate);
+    feed_cuts(&mut reader, rate, count)?;
+    reader.finish()
+}
+
+fn cuts_are_read(rt: &impl Abort, alloc: Global, rate: Rate, count: u32, events: usize) {
+    let list = read_cuts(alloc, rate, count).expect(rt, "a list");
+    assert_eq!(rt; list.events.len(), events);
+    drop(list);
 }
 
 #[test]
-fn many_events(rt: HostRuntime) -> Result<(), Fail> {
-    for (count, events) in [(999u32, 999usize), (1_000, 1_000), (20_000, 20_000)] {
-        assert_eq!(rt; cuts_read(rt.alloc(), rate_of("24")?, count), Ok(events));
-    }
-    Ok(())
+fn many_events(rt: HostRuntime) {
+    let rate = rate_of(&rt, "24");
+    cuts_are_read(&rt, rt.alloc(), rate, 999, 999);
+    cuts_are_read(&rt, rt.alloc(), rate, 1_000, 1_000);
+    cuts_are_read(&rt, rt.alloc(), rate, 20_000, 20_000);
 }

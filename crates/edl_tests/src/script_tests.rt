@@ -2,6 +2,7 @@
 use otio_model::{FillMode, RemoveMode};
 use script_text::{Act, Put, ScriptFault, read_script};
 use std::alloc::Global;
+use std::process::Abort;
 
 // The number of an act, from 1 on.
 fn kind_of(act: &Act) -> i64 {
@@ -32,6 +33,10 @@ fn read_as(alloc: Global, line: &str) -> i64 {
         Err(ScriptFault::Line(1)) => 0,
         Err(_) => -2,
     }
+}
+
+fn line_is(rt: &impl Abort, alloc: Global, line: &str, wanted: i64) {
+    assert_eq!(rt; read_as(alloc, line), wanted, "{line}");
 }
 
 #[test]
@@ -68,7 +73,7 @@ fn reads_words_and_places(rt: HostRuntime) {
         ("undo\r", 0),
     ];
     for (line, wanted) in table {
-        assert!(rt; read_as(rt.alloc(), line) == wanted, "{line}");
+        line_is(&rt, rt.alloc(), line, wanted);
     }
 }
 
@@ -108,20 +113,31 @@ fn reads_numbers_and_arguments(rt: HostRuntime) {
         ("slip 0 1 2 3", 0),
     ];
     for (line, wanted) in table {
-        assert!(rt; read_as(rt.alloc(), line) == wanted, "{line}");
+        line_is(&rt, rt.alloc(), line, wanted);
     }
 }
 
-#[test]
-fn reads_the_parts(rt: HostRuntime) {
-    let script = "# one\r\n\r\nfill 3/0 -7 fit clip \"a b\" R1 12 34\nremove 1 2 close\r\n";
-    let Ok(commands) = read_script(rt.alloc(), script.as_bytes()) else {
-        assert!(rt; false);
-        return;
-    };
-    assert!(rt; commands.len() == 2);
-    assert!(rt; commands[0].line == 3 && commands[1].line == 4);
-    match &commands[0].act {
+// Whether it is a clip of this name, this reel and this range.
+fn is_clip(put: &Put, wanted_name: &str, wanted_reel: &str, range: [i64; 2]) -> bool {
+    match put {
+        Put::Clip {
+            name,
+            reel,
+            start,
+            length,
+        } => {
+            let [wanted_start, wanted_length] = range;
+            name.as_str() == wanted_name
+                && reel.as_str() == wanted_reel
+                && *start == wanted_start
+                && *length == wanted_length
+        }
+        Put::Gap(_) => false,
+    }
+}
+
+fn first_is_a_fill(rt: &impl Abort, act: &Act) {
+    match act {
         Act::Fill {
             place,
             at,
@@ -130,44 +146,40 @@ fn reads_the_parts(rt: HostRuntime) {
         } => {
             assert!(rt; place.len() == 2 && place.index(0) == Some(3) && place.index(1) == Some(0));
             assert!(rt; *at == -7 && *mode == FillMode::Fit);
-            match put {
-                Put::Clip {
-                    name,
-                    reel,
-                    start,
-                    length,
-                } => {
-                    assert!(rt; name.as_str() == "a b" && reel.as_str() == "R1");
-                    assert!(rt; *start == 12 && *length == 34);
-                }
-                Put::Gap(_) => assert!(rt; false),
-            }
+            assert!(rt; is_clip(put, "a b", "R1", [12, 34]));
         }
-        _ => assert!(rt; false),
+        _ => panic!(rt; "no fill"),
     }
-    match &commands[1].act {
+}
+
+fn second_is_a_removal(rt: &impl Abort, act: &Act) {
+    match act {
         Act::Remove { mode, .. } => assert!(rt; *mode == RemoveMode::Close),
-        _ => assert!(rt; false),
+        _ => panic!(rt; "no removal"),
     }
 }
 
 #[test]
+fn reads_the_parts(rt: HostRuntime) {
+    let script = "# one\r\n\r\nfill 3/0 -7 fit clip \"a b\" R1 12 34\nremove 1 2 close\r\n";
+    let commands = read_script(rt.alloc(), script.as_bytes()).expect(&rt, "a script");
+    assert!(rt; commands.len() == 2);
+    assert!(rt; commands[0].line == 3 && commands[1].line == 4);
+    first_is_a_fill(&rt, &commands[0].act);
+    second_is_a_removal(&rt, &commands[1].act);
+    drop(commands);
+}
+
+fn first_fault_is(rt: &impl Abort, alloc: Global, script: &[u8], wanted: Option<ScriptFault>) {
+    assert_eq!(rt; read_script(alloc, script).err(), wanted, "{script:?}");
+}
+
+#[test]
 fn tells_the_first_fault(rt: HostRuntime) {
-    let table = [
-        ("undo\nnone\nnone", Some(2)),
-        ("undo\n\n#\n x", Some(4)),
-        ("undo\r\nredo\r\n", None),
-        ("undo\nredo\r", Some(2)),
-    ];
-    for (script, line) in table {
-        match (read_script(rt.alloc(), script.as_bytes()), line) {
-            (Ok(_), None) => {}
-            (Err(ScriptFault::Line(found)), Some(wanted)) => assert!(rt;
-                found == wanted,
-                "{script}"
-            ),
-            _ => assert!(rt; false, "{script}"),
-        }
-    }
-    assert!(rt; read_script(rt.alloc(), b"# \xff").err() == Some(ScriptFault::Line(1)));
+    let alloc = rt.alloc();
+    first_fault_is(&rt, alloc, b"undo\nnone\nnone", Some(ScriptFault::Line(2)));
+    first_fault_is(&rt, alloc, b"undo\n\n#\n x", Some(ScriptFault::Line(4)));
+    first_fault_is(&rt, alloc, b"undo\r\nredo\r\n", None);
+    first_fault_is(&rt, alloc, b"undo\nredo\r", Some(ScriptFault::Line(2)));
+    first_fault_is(&rt, alloc, b"# \xff", Some(ScriptFault::Line(1)));
 }

@@ -7,12 +7,13 @@ ghost use Rattle.edl_list.specs.Labelled.{IsLabelled};
 ghost use Rattle.edl_list.specs.Layouts.{narrow, wide_layout, FitsEvent};
 
 use crate::film::rate_24;
+use crate::list_tests::text_of;
 use dev_io::MemOut;
 use edl_layout::{first_label_past_day, first_wide_reel, write_event, write_list};
 use edl_list::{Channel, Cross, Event, EventList, Reel, Side};
 use sequences::{Sequence, Text};
-use std::alloc::{AllocError, Global};
-use std::test::Fail;
+use std::alloc::Global;
+use std::process::Abort;
 use tick_time::Rate;
 
 /// Two seconds of black at twice the speed.
@@ -40,52 +41,58 @@ fn black(name: Text, rate: Rate) -> Event
     }
 }
 
+fn device(rt: &impl Abort, alloc: Global) -> MemOut {
+    MemOut::new(alloc, 400).expect(rt, "a device")
+}
+
+fn has_sent(rt: &impl Abort, out: MemOut, wanted: &[u8]) {
+    assert_eq!(rt; out.sent(), wanted);
+    drop(out);
+}
+
 #[test]
-fn an_empty_list(rt: HostRuntime) -> Result<(), Fail> {
+fn an_empty_list(rt: HostRuntime) {
     let alloc = rt.alloc();
     let list = EventList {
-        title: Text::of(alloc, "\tEMPTY ")?,
+        title: text_of(&rt, alloc, "\tEMPTY "),
         rate: rate_24(),
         drop: false,
         events: Sequence::new(alloc),
     };
-    let mut out = MemOut::new(alloc, 100)?;
-    write_list(&list, false, false, &mut out)?;
-    assert_eq!(rt;
-        out.sent(),
-        b"TITLE: EMPTY\nFCM: NON-DROP FRAME\n".as_slice()
-    );
+    let mut out = device(&rt, alloc);
+    write_list(&list, false, false, &mut out).expect(&rt, "all sent");
+    has_sent(&rt, out, b"TITLE: EMPTY\nFCM: NON-DROP FRAME\n");
     assert_eq!(rt; first_label_past_day(&list, true), None);
     assert_eq!(rt; first_wide_reel(&list), None);
-    Ok(())
+    drop(list);
 }
 
 #[test]
-fn an_event(rt: HostRuntime) -> Result<(), Fail> {
+fn an_event(rt: HostRuntime) {
     let alloc = rt.alloc();
     let rate = rate_24();
-    let event = black(Text::of(alloc, " a\tb\x7f")?, rate);
-    let mut out = MemOut::new(alloc, 400)?;
-    write_event(&event, 12, rate, false, false, &mut out)?;
+    let event = black(text_of(&rt, alloc, " a\tb\x7f"), rate);
+    let mut out = device(&rt, alloc);
+    write_event(&event, 12, rate, false, false, &mut out).expect(&rt, "all sent");
+    drop(event);
     let want = b"012  BL       A2    C        00:00:01:00 00:00:05:00 01:00:00:00 01:00:02:00
 M2   BL       048.0                00:00:01:00
 * FROM CLIP NAME: a b
 ";
-    assert_eq!(rt; out.sent(), want.as_slice());
-    Ok(())
+    has_sent(&rt, out, want);
 }
 
 #[test]
-fn a_wide_event(rt: HostRuntime) -> Result<(), Fail> {
+fn a_wide_event(rt: HostRuntime) {
     let alloc = rt.alloc();
     let rate = rate_24();
-    let event = black(Text::of(alloc, "")?, rate);
-    let mut out = MemOut::new(alloc, 400)?;
-    write_event(&event, 1000, rate, false, true, &mut out)?;
+    let event = black(text_of(&rt, alloc, ""), rate);
+    let mut out = device(&rt, alloc);
+    write_event(&event, 1000, rate, false, true, &mut out).expect(&rt, "all sent");
+    drop(event);
     let want =
         b"001000  BL                               A2    C        00:00:01:00 00:00:05:00 01:00:00:00 01:00:02:00
 M2   BL                               048.0                00:00:01:00
 ";
-    assert_eq!(rt; out.sent(), want.as_slice());
-    Ok(())
+    has_sent(&rt, out, want);
 }

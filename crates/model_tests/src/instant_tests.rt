@@ -3,13 +3,14 @@
 ghost use Rattle.std.specs.Prelude.{◌≡◌, ◌<◌, ◌+◌, IfOk};
 ghost use Rattle.otio_model.specs.Counts.{count, count_of};
 
-use crate::trees::{FRAME, frames, one, played, rate_25, span, span_at, timeline_of, track, warp};
+use crate::trees::{FRAME, frames, one, played, rate_25, span, span_at, timeline_of, track, warps};
 use coord::{CoordFault, record_rate, sound, speed, start_frame, trimmed_start};
 use otio_model::{Effects, Item, ItemOf, Media, MediaMap, Missing, Timeline, Transition};
-use sequences::{NamedValues, Sequence, Text};
+use sequences::{NamedValues, Text};
 use std::alloc::{AllocError, Global};
+use std::process::Abort;
 use std::test::Fail;
-use tick_time::{Rate, Span, Time};
+use tick_time::{Rate, Scalar, Span, Time};
 
 /// An hour at 25 frames a second.
 fn hour() -> Option<Time> {
@@ -45,12 +46,19 @@ fn clip(alloc: Global, source_range: Option<Span>, media_references: MediaMap) -
     ))
 }
 
+/// A track of one item.
+fn track_of(alloc: Global, item: Item) -> Result<Item, AllocError>
+    ensures { IfOk result (λ track. count_of track ≡ count_of item + 1) }
+{
+    Ok(track(alloc, one(alloc, item)?))
+}
+
 /// A timeline of one track with one item.
 fn timeline(alloc: Global, start: Option<Time>, item: Item) -> Result<Timeline, AllocError>
     ensures { IfOk result (λ timeline. count timeline.tracks.children ≡ count_of item + 1) }
 {
-    let inner = one(alloc, item)?;
-    Ok(timeline_of(alloc, start, one(alloc, track(alloc, inner))?))
+    let track = track_of(alloc, item)?;
+    Ok(timeline_of(alloc, start, one(alloc, track)?))
 }
 
 /// What was found in a timeline.
@@ -96,25 +104,25 @@ fn judged(alloc: Global, item: Item) -> Result<Outcome, AllocError>
     Ok(outcome_of(found))
 }
 
-/// What is found in a timeline of one track with a track of one clip.
-fn judged_deeper(alloc: Global, item: Item) -> Result<Outcome, AllocError>
-    requires { count_of item ≡ 1 }
+/// Holds what is found in a timeline of one track with one item.
+fn is_judged(rt: &impl Abort, alloc: Global, item: Item, wanted: Outcome) -> Result<(), Fail>
+    requires { count_of item < 100 }
 {
-    let inner = one(alloc, item)?;
-    judged(alloc, track(alloc, inner))
+    assert_eq!(rt; judged(alloc, item)?, wanted);
+    Ok(())
 }
 
 /// A clip that is played at 2000 times its speed.
 fn fast(alloc: Global) -> Result<Item, AllocError>
     ensures { IfOk result (λ item. count_of item ≡ 1) }
 {
-    let effects = vec![in alloc; warp(alloc, 1_000_000_000)?, warp(alloc, 2_000_000)?]?;
+    let effects = warps(alloc, Scalar(1_000_000_000), Scalar(2_000_000))?;
     Ok(ItemOf::Clip(played(
         alloc,
         Text::empty(),
         span(0, 24),
         MediaMap::new(alloc),
-        Effects::of(Sequence::of(effects)),
+        effects,
     )))
 }
 
@@ -131,6 +139,19 @@ fn counted(alloc: Global, start: Option<Time>, item: Item) -> Result<(Rate, i128
     let found = (record_rate(&timeline), start_frame(&timeline));
     drop(timeline);
     Ok(found)
+}
+
+/// Holds that such a timeline counts at 25 frames a second, from this frame on.
+fn counts_at_25(
+    rt: &impl Abort,
+    alloc: Global,
+    start: Option<Time>,
+    item: Item,
+    frame: i128,
+) -> Result<(), Fail> {
+    let (rate, first) = counted(alloc, start, item)?;
+    assert_eq!(rt; (rate.num, first), (25, frame));
+    Ok(())
 }
 
 fn start_of(alloc: Global, source_range: Option<Span>, media: MediaMap) -> i128 {
@@ -174,52 +195,40 @@ fn a_clip_without_one_starts_with_its_media(rt: HostRuntime) -> Result<(), Fail>
 fn a_timeline_counts_at_the_rate_of_its_media(rt: HostRuntime) -> Result<(), Fail> {
     let media = media(rt.alloc(), span_at(0, 200, rate_25()))?;
     let item = clip(rt.alloc(), span(0, 24), media);
-    let (rate, start) = counted(rt.alloc(), None, item)?;
-    assert_eq!(rt; rate.num, 25);
-    assert_eq!(rt; start, 0);
-    Ok(())
+    counts_at_25(&rt, rt.alloc(), None, item, 0)
 }
 
 #[test]
 fn a_timeline_counts_at_the_rate_of_its_start(rt: HostRuntime) -> Result<(), Fail> {
     let item = clip(rt.alloc(), None, MediaMap::new(rt.alloc()));
-    let (rate, start) = counted(rt.alloc(), hour(), item)?;
-    assert_eq!(rt; rate.num, 25);
-    assert_eq!(rt; start, 90_000);
-    Ok(())
+    counts_at_25(&rt, rt.alloc(), hour(), item, 90_000)
 }
 
 #[test]
 fn a_track_of_a_clip_without_a_range_has_no_length(rt: HostRuntime) -> Result<(), Fail> {
     let media = media(rt.alloc(), None)?;
     let item = clip(rt.alloc(), None, media);
-    assert_eq!(rt; judged(rt.alloc(), item)?, Outcome::NoLength(0));
-    Ok(())
+    is_judged(&rt, rt.alloc(), item, Outcome::NoLength(0))
 }
 
 #[test]
 fn a_timeline_of_a_clip_with_a_range_is_sound(rt: HostRuntime) -> Result<(), Fail> {
     let item = clip(rt.alloc(), span(24, 48), MediaMap::new(rt.alloc()));
-    assert_eq!(rt; judged(rt.alloc(), item)?, Outcome::Sound);
-    Ok(())
+    is_judged(&rt, rt.alloc(), item, Outcome::Sound)
 }
 
 #[test]
 fn a_speed_is_found_at_each_depth(rt: HostRuntime) -> Result<(), Fail> {
-    assert_eq!(rt; judged(rt.alloc(), fast(rt.alloc())?)?, Outcome::Speed(2));
-    assert_eq!(rt;
-        judged_deeper(rt.alloc(), fast(rt.alloc())?)?,
-        Outcome::Speed(3)
-    );
-    Ok(())
+    let alloc = rt.alloc();
+    is_judged(&rt, alloc, fast(alloc)?, Outcome::Speed(2))?;
+    let deeper = track_of(alloc, fast(alloc)?)?;
+    is_judged(&rt, alloc, deeper, Outcome::Speed(3))
 }
 
 #[test]
 fn an_end_is_found_at_each_depth(rt: HostRuntime) -> Result<(), Fail> {
-    assert_eq!(rt; judged(rt.alloc(), late(rt.alloc()))?, Outcome::Long(2));
-    assert_eq!(rt;
-        judged_deeper(rt.alloc(), late(rt.alloc()))?,
-        Outcome::Long(3)
-    );
-    Ok(())
+    let alloc = rt.alloc();
+    is_judged(&rt, alloc, late(alloc), Outcome::Long(2))?;
+    let deeper = track_of(alloc, late(alloc))?;
+    is_judged(&rt, alloc, deeper, Outcome::Long(3))
 }

@@ -3,7 +3,7 @@
 ghost use Rattle.std.specs.Prelude.{◌≡◌, IfOk};
 ghost use Rattle.otio_model.specs.Counts.{count, count_of};
 
-use crate::trees::{frames, gap, played, rate_25, span, timeline_of, track, two};
+use crate::trees::{frames, gap, one, played, rate_25, span, timeline_of, track, two};
 use coord::sound;
 use dev_io::MemOut;
 use frame_rows::{Listing, RowFault, listing_of, write_rows};
@@ -11,6 +11,7 @@ use otio_model::{Children, Effects, Item, ItemOf, Items, MediaMap, Timeline};
 use record_points::RecordPoint;
 use sequences::Text;
 use std::alloc::{AllocError, Global};
+use std::process::Abort;
 use std::test::Fail;
 use tick_time::{Span, Time};
 
@@ -44,6 +45,18 @@ fn listed(
     Ok(listing)
 }
 
+/// Holds what is listed of it.
+fn lists(
+    rt: &impl Abort,
+    alloc: Global,
+    start: Option<RecordPoint>,
+    count: Option<u32>,
+    wanted: Option<Listing>,
+) -> Result<(), Fail> {
+    assert_eq!(rt; listed(alloc, start, count)?, wanted);
+    Ok(())
+}
+
 /// Sends what is listed of a timeline, once that is made. `None` where it has too many items or
 /// isn't sound.
 fn sent_of(
@@ -74,6 +87,25 @@ fn written(
     sent_of(alloc, timeline(alloc, None, 2), listing, out)
 }
 
+/// Holds how such a listing ends.
+fn ends(
+    rt: &impl Abort,
+    sent: Result<Option<Result<(), RowFault>>, AllocError>,
+    wanted: Result<(), RowFault>,
+) -> Result<(), Fail> {
+    assert_eq!(rt; sent?, Some(wanted));
+    Ok(())
+}
+
+/// Holds what is sent of a clip of two frames at 24 frames a second.
+fn writes(rt: &impl Abort, alloc: Global, listing: &Listing, wanted: &[u8]) -> Result<(), Fail> {
+    let mut out = MemOut::new(alloc, 200)?;
+    ends(rt, written(alloc, listing, &mut out), Ok(()))?;
+    assert_eq!(rt; out.sent(), wanted);
+    drop(out);
+    Ok(())
+}
+
 /// So many clips of one frame, each of the frame of its media that has its index.
 fn clips(alloc: Global, count: i64) -> Result<Items, AllocError> {
     let mut list = Vec::new(alloc);
@@ -87,9 +119,8 @@ fn clips(alloc: Global, count: i64) -> Result<Items, AllocError> {
 /// A timeline of one track of so many clips of one frame.
 fn long_timeline(alloc: Global, count: i64) -> Result<Timeline, AllocError> {
     let children = Children::of(alloc, clips(alloc, count)?)?;
-    let mut items = Items::new(alloc);
-    items.push(track(alloc, children))?;
-    Ok(timeline_of(alloc, None, Children::of(alloc, items)?))
+    let root = one(alloc, track(alloc, children))?;
+    Ok(timeline_of(alloc, None, root))
 }
 
 /// Sends what is listed of a track of so many clips of one frame.
@@ -109,15 +140,14 @@ fn a_listing_ends_with_the_longest_child(rt: HostRuntime) -> Result<(), Fail> {
         from: 90_000,
         count: 22,
     };
-    assert_eq!(rt; listed(rt.alloc(), None, None)?, Some(want));
+    lists(&rt, rt.alloc(), None, None, Some(want))?;
     let behind = Some(RecordPoint::Frame(90_022));
     let want = Listing {
         child: Some(1),
         from: 90_022,
         count: 0,
     };
-    assert_eq!(rt; listed(rt.alloc(), behind, None)?, Some(want));
-    Ok(())
+    lists(&rt, rt.alloc(), behind, None, Some(want))
 }
 
 #[test]
@@ -128,39 +158,32 @@ fn a_label_is_read_at_the_record_rate(rt: HostRuntime) -> Result<(), Fail> {
         from: 90_024,
         count: 3,
     };
-    assert_eq!(rt; listed(rt.alloc(), label, Some(3))?, Some(want));
+    lists(&rt, rt.alloc(), label, Some(3), Some(want))?;
     let past = Some(RecordPoint::Label(*b"01:00:00:25"));
-    assert_eq!(rt; listed(rt.alloc(), past, Some(3))?, None);
+    lists(&rt, rt.alloc(), past, Some(3), None)?;
     let drop = Some(RecordPoint::Label(*b"01:00:00;24"));
-    assert_eq!(rt; listed(rt.alloc(), drop, Some(3))?, None);
-    Ok(())
+    lists(&rt, rt.alloc(), drop, Some(3), None)
 }
 
 #[test]
 fn lines_go_by_frames_and_then_by_children(rt: HostRuntime) -> Result<(), Fail> {
-    let mut out = MemOut::new(rt.alloc(), 200)?;
     let listing = Listing {
         child: None,
         from: -1,
         count: 3,
     };
-    assert_eq!(rt; written(rt.alloc(), &listing, &mut out)?, Some(Ok(())));
     let want = b"-1 0 -\n-1 1 -\n0 0 -\n0 1 name:\"c\"@0\n1 0 -\n1 1 name:\"c\"@1\n";
-    assert_eq!(rt; out.sent(), want.as_slice());
-    Ok(())
+    writes(&rt, rt.alloc(), &listing, want)
 }
 
 #[test]
 fn a_child_that_is_not_there_has_no_lines(rt: HostRuntime) -> Result<(), Fail> {
-    let mut out = MemOut::new(rt.alloc(), 200)?;
     let listing = Listing {
         child: Some(2),
         from: 0,
         count: 3,
     };
-    assert_eq!(rt; written(rt.alloc(), &listing, &mut out)?, Some(Ok(())));
-    assert_eq!(rt; out.sent(), b"".as_slice());
-    Ok(())
+    writes(&rt, rt.alloc(), &listing, b"")
 }
 
 #[test]
@@ -172,11 +195,12 @@ fn a_stream_that_fails_ends_the_lines(rt: HostRuntime) -> Result<(), Fail> {
         from: 0,
         count: 1000,
     };
-    let stopped = Some(Err(RowFault::Sink));
-    assert_eq!(rt; written(rt.alloc(), &listing, &mut out)?, stopped);
+    let stopped = written(rt.alloc(), &listing, &mut out);
+    ends(&rt, stopped, Err(RowFault::Sink))?;
     // the lines of frames 0 to 255, of which the first 10, 90 and 156 have one, two and three
     // digits
     assert_eq!(rt; out.sent().len(), 10 * 6 + 90 * 7 + 156 * 8);
+    drop(out);
     Ok(())
 }
 
@@ -190,17 +214,24 @@ fn lines_of_clips(alloc: Global, count: i64) -> Result<String, AllocError> {
     Ok(lines)
 }
 
-#[test]
-fn each_frame_of_99_000_clips_is_shown(rt: HostRuntime) -> Result<(), Fail> {
-    let mut out = MemOut::new(rt.alloc(), 3_000_000)?;
+/// Holds that each frame of 99 000 clips is sent.
+fn check_clips(rt: &impl Abort, alloc: Global, out: &mut MemOut) -> Result<(), Fail> {
     let listing = Listing {
         child: Some(0),
         from: 0,
         count: 99_000,
     };
-    let shown = written_long(rt.alloc(), 99_000, &listing, &mut out)?;
-    assert_eq!(rt; shown, Some(Ok(())));
-    let lines = lines_of_clips(rt.alloc(), 99_000)?;
+    ends(rt, written_long(alloc, 99_000, &listing, out), Ok(()))?;
+    let lines = lines_of_clips(alloc, 99_000)?;
     assert!(rt; out.sent() == lines.as_bytes());
+    drop(lines);
     Ok(())
+}
+
+#[test]
+fn each_frame_of_99_000_clips_is_shown(rt: HostRuntime) -> Result<(), Fail> {
+    let mut out = MemOut::new(rt.alloc(), 3_000_000)?;
+    let held = check_clips(&rt, rt.alloc(), &mut out);
+    drop(out);
+    held
 }

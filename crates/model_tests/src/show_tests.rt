@@ -27,11 +27,19 @@ fn mix<'a>(
 }
 
 // Compares what is sent for a picture with a text.
-fn check(rt: &impl Abort, alloc: Global, picture: &Picture<'_>, want: &str) -> Result<(), Fail> {
+fn prints(rt: &impl Abort, alloc: Global, picture: &Picture<'_>, want: &str) -> Result<(), Fail> {
     let mut out = MemOut::new(alloc, 200)?;
-    print_show(picture, &mut out)?;
+    let printed = print_show(picture, &mut out);
     assert_eq!(rt; out.sent(), want.as_bytes());
+    drop(out);
+    printed?;
     Ok(())
+}
+
+fn check(rt: &impl Abort, alloc: Global, picture: Picture<'_>, want: &str) -> Result<(), Fail> {
+    let held = prints(rt, alloc, &picture, want);
+    drop(picture);
+    held
 }
 
 fn sequence(texts: &[Text; 3]) -> Picture<'_> {
@@ -39,30 +47,36 @@ fn sequence(texts: &[Text; 3]) -> Picture<'_> {
     frame(KeyRef::Sequence(base, prefix, suffix), 0)
 }
 
-#[test]
-fn frames_by_their_keys(rt: HostRuntime) -> Result<(), Fail> {
-    let alloc = rt.alloc();
-    let a = Text::of(alloc, "a.mov")?;
-    check(&rt, alloc, &Picture::Blank, "-")?;
-    check(&rt, alloc, &frame(KeyRef::Url(&a), 66), "url:\"a.mov\"@66")?;
+fn check_keys(rt: &impl Abort, alloc: Global, text: &Text) -> Result<(), Fail> {
+    check(rt, alloc, Picture::Blank, "-")?;
+    check(rt, alloc, frame(KeyRef::Url(text), 66), "url:\"a.mov\"@66")?;
     check(
-        &rt,
+        rt,
         alloc,
-        &frame(KeyRef::Generator(&a), 0),
+        frame(KeyRef::Generator(text), 0),
         "gen:\"a.mov\"@0",
     )?;
     check(
-        &rt,
+        rt,
         alloc,
-        &frame(KeyRef::Reel(&a), 54),
+        frame(KeyRef::Reel(text), 54),
         "reel:\"a.mov\"@54",
     )?;
     check(
-        &rt,
+        rt,
         alloc,
-        &frame(KeyRef::Name(&a), -3),
+        frame(KeyRef::Name(text), -3),
         "name:\"a.mov\"@-3",
     )
+}
+
+#[test]
+fn frames_by_their_keys(rt: HostRuntime) -> Result<(), Fail> {
+    let alloc = rt.alloc();
+    let text = Text::of(alloc, "a.mov")?;
+    let held = check_keys(&rt, alloc, &text);
+    drop(text);
+    held
 }
 
 #[test]
@@ -76,7 +90,7 @@ fn a_frame_of_a_sequence(rt: HostRuntime) -> Result<(), Fail> {
     check(
         &rt,
         alloc,
-        &sequence(&texts),
+        sequence(&texts),
         "seq:\"day \\\"4\\\"/sky.#.exr\"@0",
     )
 }
@@ -96,7 +110,7 @@ fn mixes_of_two(rt: HostRuntime) -> Result<(), Fail> {
     check(
         &rt,
         alloc,
-        &of_two,
+        of_two,
         "mix(dissolve 11/12 url:\"a.mov\"@77 url:\"b.mov\"@105)",
     )
 }
@@ -116,7 +130,7 @@ fn a_mix_in_a_mix(rt: HostRuntime) -> Result<(), Fail> {
     check(
         &rt,
         alloc,
-        &outer,
+        outer,
         "mix(wipe 007 1/12 mix(\"iris \\\"in\\\"\" 5/12 - name:\"iris \\\"in\\\"\"@-1) -)",
     )
 }

@@ -1,103 +1,104 @@
 //! Lengths, places and copies of leaves, speeds of effects, and searches over children.
 
-use crate::trees::{FRAME, frames, gap, played, rate_24, span, warp};
+use crate::trees::{FRAME, frames, gap, played, rate_24, span, warps};
 use otio_model::{
-    Children, Clip, Effect, Effects, External, Item, ItemOf, Items, Media, MediaMap, Place,
-    Transition, copy_item, copy_place,
+    Children, Clip, Effects, External, Item, ItemOf, Items, Media, MediaMap, Place, Transition,
+    copy_item, copy_place,
 };
-use sequences::{NamedValues, Sequence, Text};
+use sequences::{NamedValues, Text};
 use std::alloc::{AllocError, Global};
+use std::process::Abort;
 use std::test::Fail;
-use tick_time::Span;
+use tick_time::{Scalar, Span};
 
-/// A clip of these media, that uses those of the key `m`.
-fn clip_of(
-    alloc: Global,
-    source_range: Option<Span>,
-    media_references: MediaMap,
-) -> Result<Clip, AllocError> {
-    let name = Text::of(alloc, "c")?;
+/// A clip of these media, that uses those of this key.
+fn clip_of(alloc: Global, key: Text, media_references: MediaMap) -> Clip {
     let effects = Effects::new(alloc);
-    Ok(Clip {
-        active_media_reference_key: Text::of(alloc, "m")?,
-        ..played(alloc, name, source_range, media_references, effects)
-    })
+    Clip {
+        active_media_reference_key: key,
+        ..played(alloc, Text::empty(), None, media_references, effects)
+    }
 }
 
 /// A reference to a file.
 fn external(alloc: Global, available_range: Option<Span>) -> Result<Media, AllocError> {
+    let target_url = Text::of(alloc, "a.mov")?;
     Ok(Media::External(External {
         metadata: NamedValues::new(alloc),
-        name: Text::of(alloc, "e")?,
+        name: Text::empty(),
         available_range,
-        target_url: Text::of(alloc, "a.mov")?,
+        target_url,
         rest: NamedValues::new(alloc),
     }))
 }
 
-/// A clip with one medium, under that key.
-fn clip_under(alloc: Global, key: &str, available_range: Option<Span>) -> Result<Clip, AllocError> {
+/// The media that are one, under that key.
+fn media_of(alloc: Global, key: Text, medium: Media) -> Result<MediaMap, AllocError> {
     let mut media = MediaMap::new(alloc);
-    media.put(Text::of(alloc, key)?, external(alloc, available_range)?)?;
-    clip_of(alloc, None, media)
+    media.put(key, medium)?;
+    Ok(media)
+}
+
+/// A clip with one medium, under that key, that uses those of the key `m`.
+fn clip_under(alloc: Global, key: &str, available_range: Option<Span>) -> Result<Clip, AllocError> {
+    let used = Text::of(alloc, "m")?;
+    let key = Text::of(alloc, key)?;
+    let media = media_of(alloc, key, external(alloc, available_range)?)?;
+    Ok(clip_of(alloc, used, media))
 }
 
 fn transition(alloc: Global) -> Result<Transition, AllocError> {
+    let transition_type = Text::of(alloc, "SMPTE_Dissolve")?;
     Ok(Transition {
         metadata: NamedValues::new(alloc),
-        name: Text::of(alloc, "t")?,
-        transition_type: Text::of(alloc, "SMPTE_Dissolve")?,
+        name: Text::empty(),
+        transition_type,
         in_offset: frames(6, rate_24()),
         out_offset: frames(7, rate_24()),
         rest: NamedValues::new(alloc),
     })
 }
 
-/// How long a leaf is, once it is made.
-fn ticks_of(made: Result<Item, AllocError>) -> Result<Option<i128>, AllocError> {
-    let item = made?;
+/// How long a leaf is.
+fn ticks_of(item: Item) -> Option<i128> {
     let length = match &item {
         ItemOf::Clip(_) | ItemOf::Gap(_) | ItemOf::Transition(_) => item.length(),
         ItemOf::Stack(_) | ItemOf::Track(_) => None,
     };
     drop(item);
-    Ok(length)
+    length
 }
 
-fn clip_item(clip: Result<Clip, AllocError>) -> Result<Item, AllocError> {
-    Ok(ItemOf::Clip(clip?))
+/// Holds how long a leaf is, in ticks.
+fn lasts(rt: &impl Abort, item: Item, ticks: Option<i128>) {
+    assert_eq!(rt; ticks_of(item), ticks);
 }
 
 #[test]
 fn lengths_of_leaves(rt: HostRuntime) -> Result<(), Fail> {
     let alloc = rt.alloc();
-    let transition = Ok(ItemOf::Transition(transition(alloc)?));
-    assert_eq!(rt; ticks_of(transition)?, Some(0));
-    assert_eq!(rt; ticks_of(Ok(gap(alloc, None)))?, Some(0));
-    assert_eq!(rt;
-        ticks_of(clip_item(clip_of(alloc, None, MediaMap::new(alloc))))?,
-        None
-    );
-    let by_media = clip_item(clip_under(alloc, "m", span(10, 100)));
-    assert_eq!(rt; ticks_of(by_media)?, Some(100 * FRAME));
+    lasts(&rt, ItemOf::Transition(transition(alloc)?), Some(0));
+    lasts(&rt, gap(alloc, None), Some(0));
+    let bare = clip_of(alloc, Text::empty(), MediaMap::new(alloc));
+    lasts(&rt, ItemOf::Clip(bare), None);
+    let by_media = clip_under(alloc, "m", span(10, 100))?;
+    lasts(&rt, ItemOf::Clip(by_media), Some(100 * FRAME));
     Ok(())
 }
 
-/// Whether a clip has a medium, and which range is available, once it is made.
-fn medium_of(made: Result<Clip, AllocError>) -> Result<(bool, Option<Span>), AllocError> {
-    let clip = made?;
+/// Holds whether a clip has a medium, and which range is available.
+fn has_medium(rt: &impl Abort, clip: Clip, wanted: (bool, Option<Span>)) {
     let found = (clip.media().is_some(), clip.available_range());
     drop(clip);
-    Ok(found)
+    assert_eq!(rt; found, wanted);
 }
 
 #[test]
 fn media_are_those_of_the_key(rt: HostRuntime) -> Result<(), Fail> {
     let alloc = rt.alloc();
-    let found = medium_of(clip_under(alloc, "m", span(10, 100)))?;
-    assert_eq!(rt; found, (true, span(10, 100)));
-    let other = medium_of(clip_under(alloc, "n", span(10, 100)))?;
-    assert_eq!(rt; other, (false, None));
+    let range = span(10, 100);
+    has_medium(&rt, clip_under(alloc, "m", range)?, (true, range));
+    has_medium(&rt, clip_under(alloc, "n", range)?, (false, None));
     Ok(())
 }
 
@@ -119,10 +120,12 @@ fn place_two(alloc: Global, first: u32, second: u32) -> Result<Place, AllocError
 fn places_keep_indexes(rt: HostRuntime) -> Result<(), Fail> {
     let alloc = rt.alloc();
     let place = place_two(alloc, 7, 4_294_967_295)?;
-    let copy = copy_place(alloc, &place)?;
-    assert_eq!(rt; copy.len(), 2);
-    assert_eq!(rt; copy.index(1), Some(4_294_967_295));
-    assert_eq!(rt; copy.index(2), None);
+    let copied = copy_place(alloc, &place);
+    drop(place);
+    let copy = copied?;
+    let found = (copy.len(), copy.index(1), copy.index(2));
+    drop(copy);
+    assert_eq!(rt; found, (2, Some(4_294_967_295), None));
     Ok(())
 }
 
@@ -138,7 +141,7 @@ fn copied(alloc: Global, made: Result<Item, AllocError>) -> Result<Item, AllocEr
 fn a_copy_of_a_gap(rt: HostRuntime) -> Result<(), Fail> {
     let alloc = rt.alloc();
     let copy = copied(alloc, Ok(gap(alloc, span(24, 48))));
-    assert_eq!(rt; ticks_of(copy)?, Some(48 * FRAME));
+    lasts(&rt, copy?, Some(48 * FRAME));
     Ok(())
 }
 
@@ -179,16 +182,15 @@ fn frames_held(alloc: Global, count: usize) -> Result<usize, AllocError> {
     if held(&children, (count as i128) * 29_400_000_000_000_000).is_none() {
         right = right.wrapping_add(1);
     }
+    drop(children);
     Ok(right)
 }
 
 /// A transition, from 6 frames before its cut to 7 behind it, between gaps of 10 frames.
 fn dissolve(alloc: Global) -> Result<Children, AllocError> {
-    let mut items = Items::new(alloc);
-    items.push(gap(alloc, span(0, 10)))?;
-    items.push(ItemOf::Transition(transition(alloc)?))?;
-    items.push(gap(alloc, span(0, 10)))?;
-    Children::of(alloc, items)
+    let cross = ItemOf::Transition(transition(alloc)?);
+    let list = vec![in alloc; gap(alloc, span(0, 10)), cross, gap(alloc, span(0, 10))]?;
+    Children::of(alloc, Items::of(list))
 }
 
 /// The index of the transition whose overlap holds a frame's first instant.
@@ -218,14 +220,16 @@ fn next(children: &Children, index: usize) -> Option<usize> {
 /// What the overlaps hold at four frames, and the next transition from two indexes on.
 fn found(made: Result<Children, AllocError>) -> Result<[Option<usize>; 6], AllocError> {
     let children = made?;
-    Ok([
+    let found = [
         over(&children, 3),
         over(&children, 4),
         over(&children, 16),
         over(&children, 17),
         next(&children, 1),
         next(&children, 2),
-    ])
+    ];
+    drop(children);
+    Ok(found)
 }
 
 #[test]
@@ -242,30 +246,23 @@ fn each_frame_is_held_by_its_gap(rt: HostRuntime) -> Result<(), Fail> {
 }
 
 /// The speed of two changes of speed, one after the other.
-fn speed_of(
-    alloc: Global,
-    first: Result<Effect, AllocError>,
-    second: Result<Effect, AllocError>,
-) -> Result<Option<i64>, AllocError> {
-    let mut list = Sequence::new(alloc);
-    list.push(first?)?;
-    list.push(second?)?;
-    let effects = Effects::of(list);
-    Ok(effects.speed())
+fn speed_of(alloc: Global, first: Scalar, second: Scalar) -> Result<Option<i64>, AllocError> {
+    let effects = warps(alloc, first, second)?;
+    let speed = effects.speed();
+    drop(effects);
+    Ok(speed)
 }
 
 #[test]
 fn speeds_are_rounded_half_to_even(rt: HostRuntime) -> Result<(), Fail> {
-    let alloc = rt.alloc();
-    let speed = speed_of(alloc, warp(alloc, 1_500_000), warp(alloc, 333_333))?;
+    let speed = speed_of(rt.alloc(), Scalar(1_500_000), Scalar(333_333))?;
     assert_eq!(rt; speed, Some(500_000));
     Ok(())
 }
 
 #[test]
 fn a_speed_may_pass_1000_on_the_way(rt: HostRuntime) -> Result<(), Fail> {
-    let alloc = rt.alloc();
-    let speed = speed_of(alloc, warp(alloc, 1_000_000_000), warp(alloc, 2_000_000))?;
+    let speed = speed_of(rt.alloc(), Scalar(1_000_000_000), Scalar(2_000_000))?;
     assert_eq!(rt; speed, None);
     Ok(())
 }

@@ -1,6 +1,6 @@
 //! Small timelines and their parts, for tests.
 
-ghost use Rattle.std.specs.Prelude.{◌≡◌, ◌+◌, IfOk, pos, ◌-ℤ◌, ◌≤ℤ◌};
+ghost use Rattle.std.specs.Prelude.{◌≡◌, ◌+◌, IfOk};
 ghost use Rattle.otio_model.specs.Counts.{count, count_of};
 
 use otio_model::{
@@ -8,7 +8,7 @@ use otio_model::{
     Timeline, TrackOf, Warp,
 };
 use owned::Owned;
-use sequences::{NamedValues, Text};
+use sequences::{NamedValues, Sequence, Text};
 use std::alloc::{AllocError, Global};
 use tick_time::{Decimal, Rate, Scalar, Span, Time};
 
@@ -91,19 +91,22 @@ pub fn gap(alloc: Global, source_range: Option<Span>) -> Item
     })
 }
 
-/// A change of speed, in millionths.
-pub fn warp(alloc: Global, speed: i64) -> Result<Effect, AllocError>
-    requires low { (pos 0 -ℤ pos 1000000000) ≤ℤ speed }
-    requires high { speed ≤ℤ pos 1000000000 }
-{
+fn warp(alloc: Global, time_scalar: Scalar) -> Result<Effect, AllocError> {
     let warp = Warp {
-        time_scalar: Scalar(speed),
+        time_scalar,
         metadata: NamedValues::new(alloc),
         name: Text::empty(),
         effect_name: Text::empty(),
         rest: NamedValues::new(alloc),
     };
     Ok(Effect::Warp(Owned::of(alloc, warp)?))
+}
+
+/// Two changes of speed, one after the other.
+pub fn warps(alloc: Global, first: Scalar, second: Scalar) -> Result<Effects, AllocError> {
+    let first = warp(alloc, first)?;
+    let list = vec![in alloc; first, warp(alloc, second)?]?;
+    Ok(Effects::of(Sequence::of(list)))
 }
 
 /// The children that are one item.
@@ -121,9 +124,7 @@ pub fn one(alloc: Global, item: Item) -> Result<Children, AllocError>
 pub fn two(alloc: Global, first: Item, second: Item) -> Result<Children, AllocError>
     ensures { IfOk result (λ children. count children ≡ count_of first + count_of second) }
 {
-    let mut list = Vec::new(alloc);
-    list.push(first)?;
-    list.push(second)?;
+    let list = vec![in alloc; first, second]?;
     Children::of(alloc, Items::of(list))
 }
 

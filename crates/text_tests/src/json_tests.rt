@@ -2,15 +2,14 @@
 
 use json_text::{JsonFault, JsonReader};
 use json_value::Json;
-use std::alloc::Global;
+use std::alloc::{AllocError, Global};
 use std::process::Abort;
 use std::test::Fail;
 
 /// The sizes of the pieces that each text is cut into.
 const SIZES: [usize; 4] = [1, 2, 7, 100_000];
 
-fn read(alloc: Global, text: &[u8], size: usize) -> Result<Json, JsonFault> {
-    let mut reader = JsonReader::new(alloc);
+fn feed_pieces(reader: &mut JsonReader, text: &[u8], size: usize) -> Result<(), JsonFault> {
     let mut rest = text;
     for _ in 0..text.len() {
         if rest.len() <= size {
@@ -20,7 +19,12 @@ fn read(alloc: Global, text: &[u8], size: usize) -> Result<Json, JsonFault> {
         reader.feed(piece)?;
         rest = after;
     }
-    reader.feed(rest)?;
+    reader.feed(rest)
+}
+
+fn read(alloc: Global, text: &[u8], size: usize) -> Result<Json, JsonFault> {
+    let mut reader = JsonReader::new(alloc);
+    feed_pieces(&mut reader, text, size)?;
     reader.finish()
 }
 
@@ -238,40 +242,40 @@ fn utf8(rt: HostRuntime) {
     refuses(&rt, alloc, b"\"\xC3", JsonFault::Syntax(2));
 }
 
+fn add_maps(text: &mut Vec<u8>, levels: usize) -> Result<(), AllocError> {
+    for _ in 0..levels {
+        text.extend_from_slice(b"{\"\":")?;
+    }
+    Ok(())
+}
+
 #[test]
 fn levels(rt: HostRuntime) -> Result<(), Fail> {
     let alloc = rt.alloc();
-    let mut deep = Vec::new(alloc);
-    for _ in 0..127 {
-        deep.push(b'[')?;
-    }
-    for _ in 0..127 {
-        deep.push(b']')?;
+    let mut deep = [b'['; 254];
+    for byte in &mut deep[127..] {
+        *byte = b']';
     }
     takes(&rt, alloc, &deep);
-    let mut deeper = Vec::new(alloc);
-    for _ in 0..128 {
-        deeper.push(b'[')?;
-    }
-    refuses(&rt, alloc, &deeper, JsonFault::Depth(127));
+    refuses(&rt, alloc, &[b'['; 128], JsonFault::Depth(127));
     let mut maps = Vec::new(alloc);
-    for _ in 0..200 {
-        maps.extend_from_slice(b"{\"\":")?;
-    }
+    add_maps(&mut maps, 200)?;
     refuses(&rt, alloc, &maps, JsonFault::Depth(508));
+    drop(maps);
     Ok(())
+}
+
+fn feeds(rt: &impl Abort, reader: &mut JsonReader, piece: &[u8], outcome: Result<(), JsonFault>) {
+    assert_eq!(rt; reader.feed(piece), outcome);
 }
 
 #[test]
 fn same_fault_again(rt: HostRuntime) {
     let mut reader = JsonReader::new(rt.alloc());
-    assert!(rt; reader.feed(b"[1,") == Ok(()), "refused");
-    assert!(rt; reader.feed(b" ]") == Err(JsonFault::Syntax(4)), "taken");
-    assert!(rt;
-        reader.feed(b"2]") == Err(JsonFault::Syntax(4)),
-        "forgotten"
-    );
-    assert!(rt; reader.feed(b"") == Err(JsonFault::Syntax(4)), "forgotten");
+    feeds(&rt, &mut reader, b"[1,", Ok(()));
+    feeds(&rt, &mut reader, b" ]", Err(JsonFault::Syntax(4)));
+    feeds(&rt, &mut reader, b"2]", Err(JsonFault::Syntax(4)));
+    feeds(&rt, &mut reader, b"", Err(JsonFault::Syntax(4)));
     match reader.finish() {
         Ok(_) => assert!(rt; false, "a value"),
         Err(fault) => assert!(rt; fault == JsonFault::Syntax(4), "forgotten"),
@@ -283,10 +287,12 @@ fn limit(rt: HostRuntime) -> Result<(), Fail> {
     let blanks = vec![in rt.alloc(); b' '; 1_048_576]?;
     let mut reader = JsonReader::new(rt.alloc());
     for _ in 0..32 {
-        assert!(rt; reader.feed(&blanks) == Ok(()), "refused");
+        feeds(&rt, &mut reader, &blanks, Ok(()));
     }
-    assert!(rt; reader.feed(b"") == Ok(()), "refused");
-    assert!(rt; reader.feed(b"x") == Err(JsonFault::Large), "taken");
-    assert!(rt; reader.feed(b"0") == Err(JsonFault::Large), "forgotten");
+    drop(blanks);
+    feeds(&rt, &mut reader, b"", Ok(()));
+    feeds(&rt, &mut reader, b"x", Err(JsonFault::Large));
+    feeds(&rt, &mut reader, b"0", Err(JsonFault::Large));
+    drop(reader);
     Ok(())
 }

@@ -1,4 +1,5 @@
-// Tables of short texts.
+// Short texts.
+use std::process::Abort;
 use text_lines::{
     after, before, first_blank, first_byte, is_blank, is_text, reel_name, split_field, split_line,
     strip_back, strip_front, strip_return, trim_blanks, trim_front,
@@ -36,40 +37,34 @@ fn tells_a_text(rt: HostRuntime) {
     assert!(rt; !is_text(b"title:", b"TITLE:"));
 }
 
+fn after_front_is(rt: &impl Abort, bytes: &str, front: &str, rest: Option<&str>) {
+    let found = strip_front(bytes.as_bytes(), front.as_bytes());
+    assert!(rt; is_same(found, rest), "{bytes}");
+}
+
 #[test]
 fn strips_a_front(rt: HostRuntime) {
-    let table = [
-        ("* FROM CLIP NAME: A", "* FROM", Some(" CLIP NAME: A")),
-        ("FCM:", "FCM:", Some("")),
-        ("FCM", "FCM:", None),
-        ("XFCM:", "FCM:", None),
-        ("any", "", Some("any")),
-        ("", "any", None),
-    ];
-    for (bytes, front, rest) in table {
-        assert!(rt;
-            is_same(strip_front(bytes.as_bytes(), front.as_bytes()), rest),
-            "{bytes}"
-        );
-    }
+    after_front_is(&rt, "* FROM CLIP NAME: A", "* FROM", Some(" CLIP NAME: A"));
+    after_front_is(&rt, "FCM:", "FCM:", Some(""));
+    after_front_is(&rt, "FCM", "FCM:", None);
+    after_front_is(&rt, "XFCM:", "FCM:", None);
+    after_front_is(&rt, "any", "", Some("any"));
+    after_front_is(&rt, "", "any", None);
+}
+
+fn before_back_is(rt: &impl Abort, bytes: &str, back: &str, rest: Option<&str>) {
+    let found = strip_back(bytes.as_bytes(), back.as_bytes());
+    assert!(rt; is_same(found, rest), "{bytes}");
 }
 
 #[test]
 fn strips_a_back(rt: HostRuntime) {
-    let table = [
-        ("AUDIO\r", "\r", Some("AUDIO")),
-        ("FCM:", "FCM:", Some("")),
-        ("CM:", "FCM:", None),
-        ("FCM: ", "FCM:", None),
-        ("any", "", Some("any")),
-        ("", "any", None),
-    ];
-    for (bytes, back, rest) in table {
-        assert!(rt;
-            is_same(strip_back(bytes.as_bytes(), back.as_bytes()), rest),
-            "{bytes}"
-        );
-    }
+    before_back_is(&rt, "AUDIO\r", "\r", Some("AUDIO"));
+    before_back_is(&rt, "FCM:", "FCM:", Some(""));
+    before_back_is(&rt, "CM:", "FCM:", None);
+    before_back_is(&rt, "FCM: ", "FCM:", None);
+    before_back_is(&rt, "any", "", Some("any"));
+    before_back_is(&rt, "", "any", None);
 }
 
 #[test]
@@ -81,25 +76,26 @@ fn finds_the_first_blank(rt: HostRuntime) {
     assert!(rt; !is_blank(b'\r') && !is_blank(b'\n') && !is_blank(b'a'));
 }
 
+fn line_is(rt: &impl Abort, text: &str, line: &str, rest: Option<&str>) {
+    let split = split_line(text.as_bytes());
+    assert!(rt;
+        split.0 == line.as_bytes() && is_same(split.1, rest),
+        "{text}"
+    );
+}
+
 #[test]
 fn splits_lines(rt: HostRuntime) {
-    let table = [
-        ("", "", None),
-        ("one", "one", None),
-        ("one\n", "one", Some("")),
-        ("\n", "", Some("")),
-        ("\n\ntwo", "", Some("\ntwo")),
-        ("one\r\ntwo\nthree", "one", Some("two\nthree")),
-        ("\r\n", "", Some("")),
-        ("one\r\r\n", "one\r", Some("")),
-        ("one\rtwo\n", "one\rtwo", Some("")),
-        ("one\r", "one\r", None),
-    ];
-    for (text, line, rest) in table {
-        let split = split_line(text.as_bytes());
-        assert!(rt; split.0 == line.as_bytes(), "{text}");
-        assert!(rt; is_same(split.1, rest), "{text}");
-    }
+    line_is(&rt, "", "", None);
+    line_is(&rt, "one", "one", None);
+    line_is(&rt, "one\n", "one", Some(""));
+    line_is(&rt, "\n", "", Some(""));
+    line_is(&rt, "\n\ntwo", "", Some("\ntwo"));
+    line_is(&rt, "one\r\ntwo\nthree", "one", Some("two\nthree"));
+    line_is(&rt, "\r\n", "", Some(""));
+    line_is(&rt, "one\r\r\n", "one\r", Some(""));
+    line_is(&rt, "one\rtwo\n", "one\rtwo", Some(""));
+    line_is(&rt, "one\r", "one\r", None);
 }
 
 #[test]
@@ -110,43 +106,43 @@ fn strips_a_return(rt: HostRuntime) {
     assert!(rt; strip_return(b"").is_empty());
 }
 
+fn field_is(rt: &impl Abort, line: &str, field: &str, rest: &str) {
+    let split = split_field(line.as_bytes());
+    assert!(rt;
+        split == Some((field.as_bytes(), rest.as_bytes())),
+        "{line}"
+    );
+}
+
 #[test]
 fn splits_fields(rt: HostRuntime) {
-    let table = [
-        ("001 AX  V", "001", Some("AX  V")),
-        ("   AX  V", "AX", Some(" V")),
-        ("V", "V", Some("")),
-        ("  V  ", "V", Some(" ")),
-        ("a\tb c", "a", Some("b c")),
-        (" \t a \tb", "a", Some("\tb")),
-        ("a\r b", "a\r", Some("b")),
-    ];
-    for (line, field, rest) in table {
-        let split = split_field(line.as_bytes());
-        assert!(rt; is_same(split.map(|split| split.0), Some(field)), "{line}");
-        assert!(rt; is_same(split.map(|split| split.1), rest), "{line}");
-    }
+    field_is(&rt, "001 AX  V", "001", "AX  V");
+    field_is(&rt, "   AX  V", "AX", " V");
+    field_is(&rt, "V", "V", "");
+    field_is(&rt, "  V  ", "V", " ");
+    field_is(&rt, "a\tb c", "a", "b c");
+    field_is(&rt, " \t a \tb", "a", "\tb");
+    field_is(&rt, "a\r b", "a\r", "b");
     assert!(rt; split_field(b"").is_none());
     assert!(rt; split_field(b" \t ").is_none());
 }
 
+fn trimmed_is(rt: &impl Abort, text: &str, front: &str, trimmed: &str) {
+    assert!(rt; trim_front(text.as_bytes()) == front.as_bytes(), "{text}");
+    assert!(rt;
+        trim_blanks(text.as_bytes()) == trimmed.as_bytes(),
+        "{text}"
+    );
+}
+
 #[test]
 fn trims_blanks(rt: HostRuntime) {
-    let table = [
-        ("", "", ""),
-        (" \t ", "", ""),
-        ("a", "a", "a"),
-        ("  a \t b ", "a \t b ", "a \t b"),
-        ("\ta\t", "a\t", "a"),
-        ("a \r", "a \r", "a \r"),
-    ];
-    for (text, front, trimmed) in table {
-        assert!(rt; trim_front(text.as_bytes()) == front.as_bytes(), "{text}");
-        assert!(rt;
-            trim_blanks(text.as_bytes()) == trimmed.as_bytes(),
-            "{text}"
-        );
-    }
+    trimmed_is(&rt, "", "", "");
+    trimmed_is(&rt, " \t ", "", "");
+    trimmed_is(&rt, "a", "a", "a");
+    trimmed_is(&rt, "  a \t b ", "a \t b ", "a \t b");
+    trimmed_is(&rt, "\ta\t", "a\t", "a");
+    trimmed_is(&rt, "a \r", "a \r", "a \r");
 }
 
 #[test]

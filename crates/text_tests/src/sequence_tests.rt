@@ -2,6 +2,7 @@
 
 use sequences::{NamedValues, Sequence, Text, TextRoom};
 use std::alloc::{AllocError, Global};
+use std::process::Abort;
 use std::test::Fail;
 
 fn named(alloc: Global, names: &[&str]) -> Result<Vec<(Text, usize)>, AllocError> {
@@ -12,55 +13,126 @@ fn named(alloc: Global, names: &[&str]) -> Result<Vec<(Text, usize)>, AllocError
     Ok(pairs)
 }
 
+fn add_shown(alloc: Global, text: &mut String, pair: &(Text, usize)) -> Result<(), AllocError> {
+    let name = pair.0.as_str();
+    let value = pair.1;
+    let shown = format!(in alloc; "{name}={value} ")?;
+    text.push_str(shown.as_str())
+}
+
 fn shown(alloc: Global, values: &NamedValues<usize>) -> Result<String, AllocError> {
     let mut text = String::new(alloc);
     for pair in values.as_slice() {
-        text.push_str(pair.0.as_str())?;
-        let value = pair.1;
-        text.push_str(format!(in alloc; "={value} ")?.as_str())?;
+        add_shown(alloc, &mut text, pair)?;
     }
     Ok(text)
 }
 
+fn characters_are(rt: &impl Abort, found: &str, characters: &str) {
+    assert_eq!(rt; found, characters);
+}
+
+fn shows(rt: &impl Abort, alloc: Global, values: &NamedValues<usize>, pairs: &str) {
+    let found = shown(alloc, values).expect(rt, "memory");
+    characters_are(rt, found.as_str(), pairs);
+}
+
+fn name_is(rt: &impl Abort, values: &NamedValues<usize>, index: usize, name: Option<&str>) {
+    assert_eq!(rt; values.name(index).map(|name| name.as_str()), name);
+}
+
+fn value_is(rt: &impl Abort, value: Option<&usize>, wanted: Option<usize>) {
+    assert_eq!(rt; value.copied(), wanted);
+}
+
+fn takes(rt: &impl Abort, values: &mut NamedValues<usize>, index: usize, value: Option<usize>) {
+    let taken = values.take(index).map(|pair| pair.1);
+    assert_eq!(rt; taken, value);
+}
+
+fn count_is(rt: &impl Abort, found: usize, count: usize) {
+    assert_eq!(rt; found, count);
+}
+
+fn member_is(rt: &impl Abort, sequence: &Sequence<u32>, index: usize, member: Option<u32>) {
+    assert_eq!(rt; sequence.get(index).copied(), member);
+}
+
+fn members_are(rt: &impl Abort, found: &[u32], members: &[u32]) {
+    assert_eq!(rt; found, members);
+}
+
+fn gives(rt: &impl Abort, alloc: Global, sequence: &mut Sequence<u32>, members: &[u32]) {
+    let taken = sequence.take_fitted(alloc).expect(rt, "memory");
+    members_are(rt, taken.as_slice(), members);
+}
+
 #[test]
 fn sequence_keeps_members(rt: HostRuntime) -> Result<(), Fail> {
-    let mut sequence = Sequence::of(vec![in rt.alloc(); 7u32, 8]?);
+    let alloc = rt.alloc();
+    let mut sequence = Sequence::of(vec![in alloc; 7u32, 8]?);
     sequence.push(9)?;
     *sequence.at_mut(1) = 80;
-    assert_eq!(rt; sequence.len(), 3);
-    assert_eq!(rt; sequence.get(2).copied(), Some(9));
-    assert_eq!(rt; sequence.get(3).copied(), None);
-    assert_eq!(rt; sequence.as_slice(), &[7, 80, 9][..]);
-    assert_eq!(rt; sequence.into_vec().as_slice(), &[7, 80, 9][..]);
-    assert_eq!(rt; Sequence::<u32>::new(rt.alloc()).len(), 0);
-    let mut few = Sequence::of(vec![in rt.alloc(); 1u32, 2]?);
-    assert_eq!(rt; few.take_fitted(rt.alloc())?.as_slice(), &[1, 2][..]);
-    assert_eq!(rt; few.len(), 0);
+    count_is(&rt, sequence.len(), 3);
+    member_is(&rt, &sequence, 2, Some(9));
+    member_is(&rt, &sequence, 3, None);
+    members_are(&rt, sequence.as_slice(), &[7, 80, 9]);
+    let list = sequence.into_vec();
+    members_are(&rt, list.as_slice(), &[7, 80, 9]);
+    drop(list);
+    let none = Sequence::<u32>::new(alloc);
+    count_is(&rt, none.len(), 0);
+    drop(none);
+    let mut few = Sequence::of(vec![in alloc; 1u32, 2]?);
+    gives(&rt, alloc, &mut few, &[1, 2]);
+    count_is(&rt, few.len(), 0);
     few.push(3)?;
-    assert_eq!(rt; few.emptied().len(), 0);
+    let emptied = few.emptied();
+    count_is(&rt, emptied.len(), 0);
+    drop(emptied);
     Ok(())
+}
+
+fn string_keeps(
+    rt: &impl Abort,
+    alloc: Global,
+    string: String,
+    characters: &str,
+) -> Result<(), AllocError> {
+    let text = Text::from_string(alloc, string)?;
+    characters_are(rt, text.as_str(), characters);
+    drop(text);
+    Ok(())
+}
+
+fn text_keeps(rt: &impl Abort, alloc: Global, characters: &str) -> Result<(), AllocError> {
+    let text = Text::of(alloc, characters)?;
+    characters_are(rt, text.as_str(), characters);
+    let string = text.into_string(alloc)?;
+    characters_are(rt, string.as_str(), characters);
+    string_keeps(rt, alloc, string, characters)
 }
 
 #[test]
 fn text_keeps_characters(rt: HostRuntime) -> Result<(), Fail> {
-    let text = Text::of(rt.alloc(), "Zürich ✂")?;
-    assert_eq!(rt; text.as_str(), "Zürich ✂");
-    let long = Text::of(rt.alloc(), "Überblendung am Kai, einmal")?;
-    assert_eq!(rt; long.as_str(), "Überblendung am Kai, einmal");
-    assert_eq!(rt;
-        long.into_string(rt.alloc())?.as_str(),
-        "Überblendung am Kai, einmal"
-    );
-    let again = Text::from_string(rt.alloc(), text.into_string(rt.alloc())?)?;
-    assert_eq!(rt; again.as_str(), "Zürich ✂");
-    let long = String::from_str(rt.alloc(), "Überblendung am Kai, zweimal")?;
-    let again = Text::from_string(rt.alloc(), long)?;
-    assert_eq!(rt; again.as_str(), "Überblendung am Kai, zweimal");
-    assert_eq!(rt; Text::empty().as_str(), "");
-    let room = TextRoom::new(rt.alloc())?;
-    let few = Text::in_room(room, String::from_str(rt.alloc(), "-0.5")?);
-    assert_eq!(rt; few.as_str(), "-0.5");
+    let alloc = rt.alloc();
+    text_keeps(&rt, alloc, "Zürich ✂")?;
+    text_keeps(&rt, alloc, "Überblendung am Kai, einmal")?;
+    let long = String::from_str(alloc, "Überblendung am Kai, zweimal")?;
+    string_keeps(&rt, alloc, long, "Überblendung am Kai, zweimal")?;
+    let none = Text::empty();
+    characters_are(&rt, none.as_str(), "");
+    drop(none);
+    let room = TextRoom::new(alloc)?;
+    let few = Text::in_room(room, String::from_str(alloc, "-0.5")?);
+    characters_are(&rt, few.as_str(), "-0.5");
+    drop(few);
     Ok(())
+}
+
+fn put_later_values(alloc: Global, values: &mut NamedValues<usize>) -> Result<(), AllocError> {
+    values.put(Text::of(alloc, "c")?, 30)?;
+    values.put(Text::of(alloc, "d")?, 40)
 }
 
 #[test]
@@ -68,24 +140,21 @@ fn later_values_replace_earlier_ones(rt: HostRuntime) -> Result<(), Fail> {
     let alloc = rt.alloc();
     let pairs = named(alloc, &["b", "a", "b", "c", "ab", "a", ""])?;
     let mut values = NamedValues::of_pairs(alloc, pairs)?;
-    assert_eq!(rt; shown(alloc, &values)?.as_str(), "b=2 a=5 c=3 ab=4 =6 ");
-    values.put(Text::of(alloc, "c")?, 30)?;
-    values.put(Text::of(alloc, "d")?, 40)?;
-    assert_eq!(rt;
-        shown(alloc, &values)?.as_str(),
-        "b=2 a=5 c=30 ab=4 =6 d=40 "
-    );
-    assert_eq!(rt; values.get("ab").copied(), Some(4));
-    assert_eq!(rt; values.get("abc").copied(), None);
-    let taken = values.take(1).map(|pair| pair.1);
-    assert_eq!(rt; taken, Some(5));
-    assert!(rt; values.take(5).is_none());
-    assert_eq!(rt; shown(alloc, &values)?.as_str(), "b=2 c=30 ab=4 =6 d=40 ");
-    assert_eq!(rt; values.len(), 5);
-    assert_eq!(rt; values.name(1).map(|name| name.as_str()), Some("c"));
-    assert!(rt; values.name(5).is_none());
-    assert_eq!(rt; values.value(1).copied(), Some(30));
-    assert_eq!(rt; values.into_vec().len(), 5);
+    shows(&rt, alloc, &values, "b=2 a=5 c=3 ab=4 =6 ");
+    put_later_values(alloc, &mut values)?;
+    shows(&rt, alloc, &values, "b=2 a=5 c=30 ab=4 =6 d=40 ");
+    value_is(&rt, values.get("ab"), Some(4));
+    value_is(&rt, values.get("abc"), None);
+    takes(&rt, &mut values, 1, Some(5));
+    takes(&rt, &mut values, 5, None);
+    shows(&rt, alloc, &values, "b=2 c=30 ab=4 =6 d=40 ");
+    count_is(&rt, values.len(), 5);
+    name_is(&rt, &values, 1, Some("c"));
+    name_is(&rt, &values, 5, None);
+    value_is(&rt, values.value(1), Some(30));
+    let pairs = values.into_vec();
+    count_is(&rt, pairs.len(), 5);
+    drop(pairs);
     Ok(())
 }
 
@@ -94,46 +163,44 @@ fn distinct_names_stay_as_they_are(rt: HostRuntime) -> Result<(), Fail> {
     let alloc = rt.alloc();
     let values = NamedValues::of_pairs(alloc, named(alloc, &["x", "y"])?)?;
     let again = NamedValues::of(values.into_vec());
-    assert_eq!(rt; shown(alloc, &again)?.as_str(), "x=0 y=1 ");
-    assert_eq!(rt; NamedValues::<usize>::new(alloc).len(), 0);
+    shows(&rt, alloc, &again, "x=0 y=1 ");
+    drop(again);
+    let none = NamedValues::<usize>::new(alloc);
+    count_is(&rt, none.len(), 0);
+    drop(none);
     Ok(())
 }
 
 const MANY: usize = 100_000;
 
+fn numbered(alloc: Global, number: usize) -> Result<Text, AllocError> {
+    Text::from_string(alloc, format!(in alloc; "name {number}")?)
+}
+
 /// That many names, and then each of them again, where `twice` says so.
-fn many(alloc: Global, twice: bool) -> Result<Vec<(Text, usize)>, AllocError> {
+fn many(alloc: Global, twice: bool) -> Result<NamedValues<usize>, AllocError> {
     let mut pairs = Vec::new(alloc);
     for index in 0..MANY {
-        let number = index * 7919 % MANY;
-        pairs.push((
-            Text::from_string(alloc, format!(in alloc; "name {number}")?)?,
-            index,
-        ))?;
+        pairs.push((numbered(alloc, index * 7919 % MANY)?, index))?;
     }
     if twice {
         for number in 0..MANY {
-            pairs.push((
-                Text::from_string(alloc, format!(in alloc; "name {number}")?)?,
-                MANY + number,
-            ))?;
+            pairs.push((numbered(alloc, number)?, MANY + number))?;
         }
     }
-    Ok(pairs)
+    NamedValues::of_pairs(alloc, pairs)
 }
 
 #[test]
 fn many_names(rt: HostRuntime) -> Result<(), Fail> {
-    let alloc = rt.alloc();
-    let values = NamedValues::of_pairs(alloc, many(alloc, true)?)?;
-    assert_eq!(rt; values.len(), MANY);
-    assert_eq!(rt;
-        values.name(3).map(|name| name.as_str()),
-        Some("name 23757")
-    );
-    assert_eq!(rt; values.value(3).copied(), Some(123_757));
-    let distinct = NamedValues::of_pairs(alloc, many(alloc, false)?)?;
-    assert_eq!(rt; distinct.len(), MANY);
-    assert_eq!(rt; distinct.value(3).copied(), Some(3));
+    let values = many(rt.alloc(), true)?;
+    count_is(&rt, values.len(), MANY);
+    name_is(&rt, &values, 3, Some("name 23757"));
+    value_is(&rt, values.value(3), Some(123_757));
+    drop(values);
+    let distinct = many(rt.alloc(), false)?;
+    count_is(&rt, distinct.len(), MANY);
+    value_is(&rt, distinct.value(3), Some(3));
+    drop(distinct);
     Ok(())
 }

@@ -1,24 +1,16 @@
 //! Old objects of each kind, and what stands beside them.
 
-use crate::values::{list, text};
+use crate::values::{add, list, member, object, shows_the_same, text};
 use json_value::{Json, Members};
 use schema_up::upgrade;
-use sequences::{NamedValues, Text};
 use std::alloc::{AllocError, Global};
 use std::process::Abort;
 use std::test::Fail;
 
-/// The members of an object with one more.
-fn with(alloc: Global, members: Members, name: &str, value: Json) -> Result<Members, AllocError> {
-    let mut more = members;
-    more.put(Text::of(alloc, name)?, value)?;
-    Ok(more)
-}
-
 /// The members of an object of a schema.
 fn of_schema(alloc: Global, schema: &str) -> Result<Members, AllocError> {
     let schema = text(alloc, schema)?;
-    with(alloc, NamedValues::new(alloc), "OTIO_SCHEMA", schema)
+    member(alloc, "OTIO_SCHEMA", schema)
 }
 
 /// An object of a schema.
@@ -26,57 +18,75 @@ fn named(alloc: Global, schema: &str) -> Result<Json, AllocError> {
     Ok(Json::Map(of_schema(alloc, schema)?))
 }
 
-/// An object of a schema with one member.
-fn holder(alloc: Global, schema: &str, name: &str, value: Json) -> Result<Json, AllocError> {
-    let members = of_schema(alloc, schema)?;
-    Ok(Json::Map(with(alloc, members, name, value)?))
+/// Adds a member that is an object of a schema.
+fn add_named(
+    alloc: Global,
+    members: &mut Members,
+    name: &str,
+    schema: &str,
+) -> Result<(), AllocError> {
+    let value = named(alloc, schema)?;
+    add(alloc, members, name, value)
 }
 
-/// Compares what a value becomes with another value.
-fn check(rt: &impl Abort, alloc: Global, value: Json, want: &Json) -> Result<(), Fail> {
-    let upgraded = upgrade(alloc, value)?;
-    let shown = format!(in alloc; "{want:?}")?;
-    assert_eq!(rt; format!(in alloc; "{upgraded:?}")?.as_str(), shown.as_str());
-    Ok(())
+/// An object of a schema with one member.
+fn holder(alloc: Global, schema: &str, name: &str, value: Json) -> Result<Json, AllocError> {
+    let mut members = of_schema(alloc, schema)?;
+    add(alloc, &mut members, name, value)?;
+    Ok(Json::Map(members))
+}
+
+/// An old value becomes a new one.
+fn becomes(rt: &impl Abort, alloc: Global, old: Json, new: Json) {
+    let upgraded = upgrade(alloc, old).expect(rt, "memory");
+    shows_the_same(rt, alloc, &upgraded, &new);
+    drop(upgraded);
+    drop(new);
+}
+
+/// The members of a clip of the second version with one medium, of that schema.
+fn add_second(alloc: Global, members: &mut Members, medium: &str) -> Result<(), AllocError> {
+    add(alloc, members, "OTIO_SCHEMA", text(alloc, "Clip.2")?)?;
+    add(alloc, members, "name", Json::Bool(true))?;
+    let media = object(alloc, "DEFAULT_MEDIA", named(alloc, medium)?)?;
+    add(alloc, members, "media_references", media)?;
+    let key = text(alloc, "DEFAULT_MEDIA")?;
+    add(alloc, members, "active_media_reference_key", key)
 }
 
 /// A clip of the second version with one medium, of that schema.
 fn second(alloc: Global, medium: &str) -> Result<Json, AllocError> {
-    let medium = named(alloc, medium)?;
-    let members = NamedValues::new(alloc);
-    let media = Json::Map(with(alloc, members, "DEFAULT_MEDIA", medium)?);
-    let members = of_schema(alloc, "Clip.2")?;
-    let members = with(alloc, members, "name", Json::Bool(true))?;
-    let members = with(alloc, members, "media_references", media)?;
-    let key = text(alloc, "DEFAULT_MEDIA")?;
-    let members = with(alloc, members, "active_media_reference_key", key)?;
+    let mut members = Members::new(alloc);
+    add_second(alloc, &mut members, medium)?;
     Ok(Json::Map(members))
 }
 
 #[test]
 fn clip_with_a_null_reference(rt: HostRuntime) -> Result<(), Fail> {
     let alloc = rt.alloc();
-    let members = of_schema(alloc, "Clip.1")?;
-    let members = with(alloc, members, "media_reference", Json::Null)?;
-    let members = with(alloc, members, "name", Json::Bool(true))?;
-    check(
-        &rt,
-        alloc,
-        Json::Map(members),
-        &second(alloc, "MissingReference.1")?,
-    )
+    let mut old = of_schema(alloc, "Clip.1")?;
+    add(alloc, &mut old, "media_reference", Json::Null)?;
+    add(alloc, &mut old, "name", Json::Bool(true))?;
+    let new = second(alloc, "MissingReference.1")?;
+    becomes(&rt, alloc, Json::Map(old), new);
+    Ok(())
+}
+
+fn add_members_of_the_new_names(alloc: Global, members: &mut Members) -> Result<(), AllocError> {
+    add(alloc, members, "active_media_reference_key", Json::Null)?;
+    add(alloc, members, "media_references", Json::Bool(false))?;
+    add(alloc, members, "name", Json::Bool(true))?;
+    add_named(alloc, members, "media_reference", "Filler.1")
 }
 
 #[test]
 fn clip_with_members_of_the_new_names(rt: HostRuntime) -> Result<(), Fail> {
     let alloc = rt.alloc();
-    let members = of_schema(alloc, "Clip.01")?;
-    let members = with(alloc, members, "active_media_reference_key", Json::Null)?;
-    let members = with(alloc, members, "media_references", Json::Bool(false))?;
-    let members = with(alloc, members, "name", Json::Bool(true))?;
-    let reference = named(alloc, "Filler.1")?;
-    let members = with(alloc, members, "media_reference", reference)?;
-    check(&rt, alloc, Json::Map(members), &second(alloc, "Gap.1")?)
+    let mut old = of_schema(alloc, "Clip.01")?;
+    add_members_of_the_new_names(alloc, &mut old)?;
+    let new = second(alloc, "Gap.1")?;
+    becomes(&rt, alloc, Json::Map(old), new);
+    Ok(())
 }
 
 /// A track with a gap in a collection, by the names of their schemas.
@@ -97,7 +107,8 @@ fn old_names_in_children(rt: HostRuntime) -> Result<(), Fail> {
         "SerializeableCollection.9",
     )?;
     let new = collection(alloc, "Gap.1", "Track.007", "SerializableCollection.9")?;
-    check(&rt, alloc, old, &new)
+    becomes(&rt, alloc, old, new);
+    Ok(())
 }
 
 /// A timeline with a marker, and one that no upgrade names.
@@ -108,56 +119,66 @@ fn marked(alloc: Global, marker: Members) -> Result<Json, AllocError> {
     holder(alloc, "Timeline.1", "tracks", stack)
 }
 
+fn marked_with_both_ranges(alloc: Global) -> Result<Json, AllocError> {
+    let mut marker = member(alloc, "marked_range", Json::Null)?;
+    add(alloc, &mut marker, "range", Json::Bool(true))?;
+    add(alloc, &mut marker, "OTIO_SCHEMA", text(alloc, "Marker.1")?)?;
+    marked(alloc, marker)
+}
+
+fn marked_with_one_range(alloc: Global) -> Result<Json, AllocError> {
+    let mut marker = member(alloc, "marked_range", Json::Bool(true))?;
+    add(alloc, &mut marker, "OTIO_SCHEMA", text(alloc, "Marker.2")?)?;
+    marked(alloc, marker)
+}
+
 #[test]
 fn markers_of_a_timeline(rt: HostRuntime) -> Result<(), Fail> {
     let alloc = rt.alloc();
-    let old = with(alloc, NamedValues::new(alloc), "marked_range", Json::Null)?;
-    let old = with(alloc, old, "range", Json::Bool(true))?;
-    let schema = text(alloc, "Marker.1")?;
-    let old = with(alloc, old, "OTIO_SCHEMA", schema)?;
-    let new = with(
-        alloc,
-        NamedValues::new(alloc),
-        "marked_range",
-        Json::Bool(true),
-    )?;
-    let schema = text(alloc, "Marker.2")?;
-    let new = with(alloc, new, "OTIO_SCHEMA", schema)?;
-    check(&rt, alloc, marked(alloc, old)?, &marked(alloc, new)?)
+    let old = marked_with_both_ranges(alloc)?;
+    becomes(&rt, alloc, old, marked_with_one_range(alloc)?);
+    Ok(())
 }
 
-/// A clip in which no old object stands where one is rewritten.
-fn untouched(alloc: Global) -> Result<Json, AllocError> {
-    let members = of_schema(alloc, "Clip.2")?;
+/// The members of a clip in which no old object stands where one is rewritten.
+fn add_untouched(alloc: Global, members: &mut Members) -> Result<(), AllocError> {
+    add(alloc, members, "OTIO_SCHEMA", text(alloc, "Clip.2")?)?;
     let metadata = holder(alloc, "Clip.1", "children", Json::Null)?;
-    let members = with(alloc, members, "metadata", metadata)?;
-    let effects = list(alloc, [named(alloc, "Filler.1")?])?;
-    let members = with(alloc, members, "effects", effects)?;
-    let reference = named(alloc, "Sequence.1")?;
-    let members = with(alloc, members, "media_reference", reference)?;
-    let markers = named(alloc, "Marker.1")?;
-    Ok(Json::Map(with(alloc, members, "markers", markers)?))
+    add(alloc, members, "metadata", metadata)?;
+    let effect = named(alloc, "Filler.1")?;
+    let effects = list(alloc, [effect])?;
+    add(alloc, members, "effects", effects)?;
+    add_named(alloc, members, "media_reference", "Sequence.1")?;
+    add_named(alloc, members, "markers", "Marker.1")
+}
+
+fn untouched(alloc: Global) -> Result<Json, AllocError> {
+    let mut members = Members::new(alloc);
+    add_untouched(alloc, &mut members)?;
+    Ok(Json::Map(members))
 }
 
 #[test]
 fn other_members_are_kept(rt: HostRuntime) -> Result<(), Fail> {
     let alloc = rt.alloc();
-    check(&rt, alloc, untouched(alloc)?, &untouched(alloc)?)
+    becomes(&rt, alloc, untouched(alloc)?, untouched(alloc)?);
+    Ok(())
+}
+
+fn is_kept(rt: &impl Abort, alloc: Global, schema: &str) -> Result<(), AllocError> {
+    becomes(rt, alloc, named(alloc, schema)?, named(alloc, schema)?);
+    Ok(())
 }
 
 #[test]
 fn other_schemas_are_kept(rt: HostRuntime) -> Result<(), Fail> {
     let alloc = rt.alloc();
-    for schema in [
-        "Clip.1.0",
-        "Clip.",
-        "Clip.0000000001",
-        "Clip.+1",
-        ".1",
-        "clip.1",
-    ] {
-        check(&rt, alloc, named(alloc, schema)?, &named(alloc, schema)?)?;
-    }
+    is_kept(&rt, alloc, "Clip.1.0")?;
+    is_kept(&rt, alloc, "Clip.")?;
+    is_kept(&rt, alloc, "Clip.0000000001")?;
+    is_kept(&rt, alloc, "Clip.+1")?;
+    is_kept(&rt, alloc, ".1")?;
+    is_kept(&rt, alloc, "clip.1")?;
     Ok(())
 }
 
@@ -175,10 +196,7 @@ fn nested(alloc: Global, schema: &str) -> Result<Json, AllocError> {
 #[test]
 fn deep_objects(rt: HostRuntime) -> Result<(), Fail> {
     let alloc = rt.alloc();
-    check(
-        &rt,
-        alloc,
-        nested(alloc, "Sequence.1")?,
-        &nested(alloc, "Track.1")?,
-    )
+    let old = nested(alloc, "Sequence.1")?;
+    becomes(&rt, alloc, old, nested(alloc, "Track.1")?);
+    Ok(())
 }

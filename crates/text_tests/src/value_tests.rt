@@ -1,35 +1,32 @@
 //! Copies of values of each kind, and the size of a value.
 
-use crate::values::nested;
+use crate::values::{add, list, nested, numeral, shows, shows_the_same, text};
 use json_value::{Json, Members, copy_json};
-use sequences::{NamedValues, Sequence, Text};
+use sequences::Text;
 use std::alloc::{AllocError, Global};
 use std::test::Fail;
 
-fn text(alloc: Global, characters: &str) -> Result<Text, AllocError> {
-    Text::of(alloc, characters)
-}
-
-/// An object with a member of each kind.
-fn sample(alloc: Global) -> Result<Json, AllocError> {
-    let mut members: Members = NamedValues::new(alloc);
-    members.put(text(alloc, "nothing")?, Json::Null)?;
-    members.put(text(alloc, "truth")?, Json::Bool(true))?;
-    members.put(text(alloc, "numeral")?, Json::Num(text(alloc, "-1.50e3")?))?;
-    members.put(text(alloc, "")?, Json::Str(text(alloc, "é\n")?))?;
-    let items = vec![in alloc; Json::Bool(false), Json::Map(NamedValues::new(alloc))]?;
-    members.put(text(alloc, "list")?, Json::List(Sequence::of(items)))?;
-    Ok(Json::Map(members))
+/// A member of each kind.
+fn add_samples(alloc: Global, members: &mut Members) -> Result<(), AllocError> {
+    add(alloc, members, "nothing", Json::Null)?;
+    add(alloc, members, "truth", Json::Bool(true))?;
+    add(alloc, members, "numeral", numeral(alloc, "-1.50e3")?)?;
+    add(alloc, members, "", text(alloc, "é\n")?)?;
+    let items = [Json::Bool(false), Json::Map(Members::new(alloc))];
+    add(alloc, members, "list", list(alloc, items)?)
 }
 
 #[test]
 fn copies_are_equal(rt: HostRuntime) -> Result<(), Fail> {
     let alloc = rt.alloc();
-    let value = sample(alloc)?;
+    let mut members = Members::new(alloc);
+    add_samples(alloc, &mut members)?;
+    let value = Json::Map(members);
     let copy = copy_json(alloc, &value)?;
-    let shown = format!(in alloc; "{value:?}")?;
-    assert_eq!(rt; format!(in alloc; "{copy:?}")?.as_str(), shown.as_str());
-    assert!(rt; shown.as_str().contains("-1.50e3"));
+    shows_the_same(&rt, alloc, &copy, &value);
+    shows(&rt, alloc, &value, "-1.50e3");
+    drop(copy);
+    drop(value);
     Ok(())
 }
 
@@ -38,6 +35,8 @@ fn copies_deep_values(rt: HostRuntime) -> Result<(), Fail> {
     let value = nested(rt.alloc(), 1_000)?;
     let copy = copy_json(rt.alloc(), &value)?;
     assert!(rt; matches!(&copy, Json::List(_)));
+    drop(copy);
+    drop(value);
     Ok(())
 }
 
