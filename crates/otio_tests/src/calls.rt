@@ -13,16 +13,19 @@ use schema_tab::read_fields;
 use schema_write::{texts_are_read, written_by_tables};
 use std::alloc::Global;
 use std::mem::forget;
+use std::process::Abort;
 use upgrade_law::read_has_numerals;
+
+fn finds(rt: &impl Abort, family: &[Schema], name: &str, wanted: Option<Schema>) {
+    assert_eq!(rt; named(family, name), wanted, "{name}");
+}
 
 #[test]
 fn schemas_are_found_in_their_family(rt: HostRuntime) {
-    assert_eq!(rt; named(&ITEMS, "Gap"), Some(Schema::Gap));
-    assert_eq!(rt; named(&EFFECTS, "Gap"), None);
-    assert_eq!(rt;
-        named(&MEDIA, "ImageSequenceReference"),
-        Some(Schema::Images)
-    );
+    finds(&rt, &ITEMS, "Gap", Some(Schema::Gap));
+    finds(&rt, &EFFECTS, "Gap", None);
+    let images = "ImageSequenceReference";
+    finds(&rt, &MEDIA, images, Some(Schema::Images));
     assert_eq!(rt; Schema::Clip.text(), "Clip.2");
     assert_eq!(rt; Schema::Track.version(), 1);
 }

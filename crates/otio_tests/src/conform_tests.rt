@@ -1,9 +1,10 @@
 //! Lists that are conformed.
 
-use crate::runs::{Case, check_case, check_usage};
+use crate::runs::{Case, Named, check_all, check_case, check_usages, files_of};
 use dev_io::MemFiles;
 use otio_tools::Status;
-use std::alloc::{AllocError, Global};
+use std::alloc::Global;
+use std::process::Abort;
 use std::test::Fail;
 
 /// A cut, and a dissolve whose outgoing side goes on with it.
@@ -55,33 +56,31 @@ const EMPTY: &[u8] = b"{
 }
 ";
 
-fn some_files(alloc: Global) -> Result<MemFiles, AllocError> {
-    let mut files = MemFiles::new(alloc);
-    files.put("on.edl", GOES_ON)?;
-    files.put("anew.edl", BEGINS_ANEW)?;
-    files.put("fifteen.edl", FIFTEEN)?;
-    files.put("empty", b"TITLE: EMPTY\n")?;
-    files.put(
+static FILES: [Named; 9] = [
+    ("on.edl", GOES_ON),
+    ("anew.edl", BEGINS_ANEW),
+    ("fifteen.edl", FIFTEEN),
+    ("empty", b"TITLE: EMPTY\n"),
+    (
         "m.txt",
         b"# reels\nA1\t24\t0\t1000\ta.mov\nB1\t24\t0\t1000\tb.mov\n",
-    )?;
-    files.put("a.txt", b"A1\t24\t0\t1000\ta.mov\n")?;
-    files.put(
+    ),
+    ("a.txt", b"A1\t24\t0\t1000\ta.mov\n"),
+    (
         "twice.txt",
         b"A1\t24\t0\t1000\ta.mov\nA1\t24\t0\t1000\tb.mov\n",
-    )?;
-    files.put(
+    ),
+    (
         "other.txt",
         b"A1\t25\t0\t1000\ta.mov\nB1\t24\t0\t1000\tb.mov\n",
-    )?;
-    files.put(
+    ),
+    (
         "short.txt",
         b"A1\t24\t0\t1000\ta.mov\nB1\t24\t0\t200\tb.mov\n",
-    )?;
-    Ok(files)
-}
+    ),
+];
 
-const CASES: [Case; 11] = [
+static CASES: [Case; 11] = [
     (
         "frames --start 30 --count 1 on.edl",
         Status::Done,
@@ -152,16 +151,10 @@ const CASES: [Case; 11] = [
 
 #[test]
 fn lists_are_conformed(rt: HostRuntime) -> Result<(), Fail> {
-    let mut files = some_files(rt.alloc())?;
-    for case in &CASES {
-        check_case(&rt, rt.alloc(), &mut files, case)?;
-    }
-    Ok(())
+    check_all(&rt, rt.alloc(), &FILES, &CASES)
 }
 
-#[test]
-fn a_media_list_without_effect_is_not_opened(rt: HostRuntime) -> Result<(), Fail> {
-    let mut files = some_files(rt.alloc())?;
+fn check_unopened(rt: &impl Abort, alloc: Global, files: &mut MemFiles) -> Result<(), Fail> {
     let case: Case = (
         "convert --to json --media gone.txt one.json",
         Status::Done,
@@ -169,17 +162,18 @@ fn a_media_list_without_effect_is_not_opened(rt: HostRuntime) -> Result<(), Fail
         b"",
     );
     files.put("one.json", b"1")?;
-    check_case(&rt, rt.alloc(), &mut files, &case)?;
-    check_usage(
-        &rt,
-        rt.alloc(),
-        &mut files,
+    check_case(rt, alloc, files, &case)?;
+    let lines = [
         "convert --to edl --media m.txt on.edl",
-    )?;
-    check_usage(
-        &rt,
-        rt.alloc(),
-        &mut files,
         "convert --from edl --media - -",
-    )
+    ];
+    check_usages(rt, alloc, files, &lines)
+}
+
+#[test]
+fn a_media_list_without_effect_is_not_opened(rt: HostRuntime) -> Result<(), Fail> {
+    let mut files = files_of(rt.alloc(), &FILES)?;
+    let held = check_unopened(&rt, rt.alloc(), &mut files);
+    drop(files);
+    held
 }

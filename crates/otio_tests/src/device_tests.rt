@@ -2,16 +2,15 @@
 
 ghost use Rattle.std.specs.Prelude.{◌<◌};
 
-use crate::runs::status_of;
+use crate::runs::{
+    Answer, Manner, Named, WHOLE, answer_over, answer_to, done, ended, files_of, put_text, was_sent,
+};
 use crate::timelines::{crossed_track, one_track, three_tracks};
-use dev_io::{MemFiles, MemOut};
+use dev_io::MemFiles;
 use otio_tools::Status;
 use std::alloc::{AllocError, Global};
 use std::process::Abort;
 use std::test::Fail;
-
-/// How many bytes of output a test takes.
-const ROOM: usize = 20_000;
 
 /// How many calls are made on a file of at most 4 096 bytes: it is opened, read, and read at its
 /// end.
@@ -37,31 +36,38 @@ const OLD: &[u8] = b"{\"OTIO_SCHEMA\":\"Clip.1\",\"name\":\"s\",\"media_referenc
 
 const UNDONE: &[u8] = b"overwrite 0 40 clip w W 0 10\noverwrite 0 100 clip w W 0 5\nundo\nundo\n";
 
-fn some_files(alloc: Global) -> Result<MemFiles, AllocError> {
-    let mut files = MemFiles::new(alloc);
-    let a = ("a.mov", Some(0), 10);
-    files.put("x.otio", three_tracks(alloc)?.as_bytes())?;
-    files.put("a.otio", one_track(alloc, &[a])?.as_bytes())?;
-    let cut = crossed_track(alloc, [20, 20], [0, 4])?;
-    files.put("cut.otio", cut.as_bytes())?;
-    let late = crossed_track(alloc, [10, 3], [2, 8])?;
-    files.put("late.otio", late.as_bytes())?;
-    files.put("old.otio", OLD)?;
-    files.put("comma.otio", b"{\"a\":[1,]}")?;
-    files.put("a.edl", LIST)?;
-    files.put(
+static FILES: [Named; 7] = [
+    ("old.otio", OLD),
+    ("comma.otio", b"{\"a\":[1,]}"),
+    ("a.edl", LIST),
+    (
         "m.txt",
         b"A1\t24\t0\t240\ta.mov\nB1\t24\t0\t240\tb.mov\nW\t24\t0\t240\tw.mov\n",
-    )?;
-    files.put("undone.txt", UNDONE)?;
-    files.put("nothing.txt", b"undo\nundo\nundo\n")?;
-    files.put("refused.txt", b"slice 0 10\nslice 0 9999\n")?;
+    ),
+    ("undone.txt", UNDONE),
+    ("nothing.txt", b"undo\nundo\nundo\n"),
+    ("refused.txt", b"slice 0 10\nslice 0 9999\n"),
+];
+
+fn put_timelines(alloc: Global, files: &mut MemFiles) -> Result<(), AllocError> {
+    put_text(files, "x.otio", three_tracks(alloc))?;
+    let a = ("a.mov", Some(0), 10);
+    put_text(files, "a.otio", one_track(alloc, &[a]))?;
+    put_text(files, "cut.otio", crossed_track(alloc, [20, 20], [0, 4]))?;
+    put_text(files, "late.otio", crossed_track(alloc, [10, 3], [2, 8]))
+}
+
+// Files of which that call fails; none where it is 0.
+fn some_files(alloc: Global, failing: u64) -> Result<MemFiles, AllocError> {
+    let mut files = files_of(alloc, &FILES)?;
+    put_timelines(alloc, &mut files)?;
+    files.fail_on(failing)?;
     Ok(files)
 }
 
 // A line of each command, on one file and on several, with a script and with a media list. A drill
 // makes no call.
-const READ: [Read; 17] = [
+static READ: [Read; 17] = [
     ("drill 3 20", &[]),
     ("convert --to edl a.edl", &["a.edl"]),
     ("convert a.edl", &["a.edl"]),
@@ -106,14 +112,38 @@ fn check_call(
     status: Status,
     told: &str,
 ) -> Result<(), Fail> {
-    let mut files = some_files(alloc)?;
-    files.fail_on(call)?;
-    let mut out = MemOut::new(alloc, ROOM)?;
-    let mut err = MemOut::new(alloc, 100)?;
-    let ended = status_of(alloc, line, &mut files, &mut out, &mut err)?;
-    assert_eq!(rt; ended, status, "{line}");
-    assert_eq!(rt; err.sent(), told.as_bytes(), "{line}");
-    assert!(rt; out.sent().is_empty() == (status != Status::Done), "{line}");
+    let mut files = some_files(alloc, call)?;
+    let answered = answer_to(alloc, &mut files, line);
+    drop(files);
+    let answer = answered?;
+    ended(rt, line, &answer, status);
+    was_sent(rt, line, &answer.err, told.as_bytes());
+    assert!(rt;
+        answer.out.sent().is_empty() == (status != Status::Done),
+        "{line}"
+    );
+    drop(answer);
+    Ok(())
+}
+
+// Holds that each call on a file is told of, where it fails, from this call on.
+fn check_file(
+    rt: &impl Abort,
+    alloc: Global,
+    first: u64,
+    line: &str,
+    told: &str,
+) -> Result<(), Fail> {
+    for more in 0..FILE_CALLS {
+        check_call(
+            rt,
+            alloc,
+            first.saturating_add(more),
+            line,
+            Status::Input,
+            told,
+        )?;
+    }
     Ok(())
 }
 
@@ -124,10 +154,10 @@ fn check_reads(rt: &impl Abort, alloc: Global, case: &Read) -> Result<(), Fail> 
     let mut call = 1u64;
     for name in names {
         let told = format!(in alloc; "otio: {name}: read failed\n")?;
-        for _ in 0..FILE_CALLS {
-            check_call(rt, alloc, call, line, Status::Input, told.as_str())?;
-            call = call.saturating_add(1);
-        }
+        let held = check_file(rt, alloc, call, line, told.as_str());
+        drop(told);
+        held?;
+        call = call.saturating_add(FILE_CALLS);
     }
     check_call(rt, alloc, call, line, Status::Done, "")
 }
@@ -167,60 +197,97 @@ fn no_call_is_made_behind_a_refused_file(rt: HostRuntime) -> Result<(), Fail> {
     Ok(())
 }
 
-// Whether a line is done over an output in such pieces of which that call fails. Holds that it is
-// told of where it isn't, behind a part of the whole.
+// Holds that a line that was done sent the whole, and told nothing.
+fn is_whole(rt: &impl Abort, line: &str, answer: &Answer, whole: &Answer) {
+    assert_eq!(rt; answer.out.sent().len(), whole.out.sent().len(), "{line}");
+    assert!(rt; answer.out.target() == whole.out.target(), "{line}");
+    was_sent(rt, line, &answer.err, b"");
+}
+
+// Holds that a line whose output failed sent less than the whole, and that it is told of.
+fn is_cut_off(rt: &impl Abort, line: &str, answer: &Answer, whole: &Answer) {
+    ended(rt, line, answer, Status::Output);
+    assert!(rt; answer.out.sent().len() < whole.out.sent().len(), "{line}");
+    was_sent(rt, line, &answer.err, b"otio: output failed\n");
+}
+
+// Whether a line is done over an output of this manner. Holds that it is told of where it isn't,
+// behind a part of the whole.
 fn ends_behind(
     rt: &impl Abort,
     alloc: Global,
     files: &mut MemFiles,
     line: &str,
-    most: usize,
-    call: u64,
-    whole: &MemOut,
+    out: Manner,
+    whole: &Answer,
 ) -> Result<bool, Fail>
-    requires { 0 < most }
+    requires { 0 < out.most }
 {
-    let mut out = MemOut::new(alloc, ROOM)?;
-    out.piece(most);
-    out.fail_on(call)?;
-    let mut err = MemOut::new(alloc, 100)?;
-    let ended = status_of(alloc, line, files, &mut out, &mut err)?;
-    assert!(rt; whole.sent().starts_with(out.sent()), "{line}");
-    if ended == Status::Done {
-        assert_eq!(rt; out.sent().len(), whole.sent().len(), "{line}");
-        assert!(rt; out.target() == whole.target(), "{line}");
-        assert!(rt; err.sent().is_empty(), "{line}");
-        return Ok(true);
+    let answer = answer_over(alloc, files, line, out, WHOLE)?;
+    assert!(rt; whole.out.sent().starts_with(answer.out.sent()), "{line}");
+    let is_done = answer.status == Status::Done;
+    if is_done {
+        is_whole(rt, line, &answer, whole);
+    } else {
+        is_cut_off(rt, line, &answer, whole);
     }
-    assert_eq!(rt; ended, Status::Output, "{line}");
-    assert!(rt; out.sent().len() < whole.sent().len(), "{line}");
-    assert_eq!(rt; err.sent(), b"otio: output failed\n".as_slice(), "{line}");
-    Ok(false)
+    drop(answer);
+    Ok(is_done)
 }
 
-// The first of these calls of the output, in such pieces, that isn't made, or 0 where all are.
-// Holds how the line ends where one that is made fails.
+// The first of some calls of the output, in such pieces, that isn't made, or 0 where all are. Holds
+// how the line ends where one that is made fails.
+fn first_unmade(
+    rt: &impl Abort,
+    alloc: Global,
+    files: &mut MemFiles,
+    line: &str,
+    most: usize,
+    calls: [u64; 2],
+    whole: &Answer,
+) -> Result<u64, Fail>
+    requires { 0 < most }
+{
+    let [first, behind] = calls;
+    for failing in first..behind {
+        let out = Manner { most, failing };
+        if ends_behind(rt, alloc, files, line, out, whole)? {
+            return Ok(failing);
+        }
+    }
+    Ok(0)
+}
+
+// The same, once the whole is known.
+fn unmade_over(
+    rt: &impl Abort,
+    alloc: Global,
+    files: &mut MemFiles,
+    line: &str,
+    most: usize,
+    calls: [u64; 2],
+) -> Result<u64, Fail>
+    requires { 0 < most }
+{
+    let whole = done(rt, alloc, files, line)?;
+    let found = first_unmade(rt, alloc, files, line, most, calls, &whole);
+    drop(whole);
+    found
+}
+
 fn done_between(
     rt: &impl Abort,
     alloc: Global,
     line: &str,
     most: usize,
-    first: u64,
-    behind: u64,
+    calls: [u64; 2],
 ) -> Result<u64, Fail>
     requires { 0 < most }
 {
-    let mut files = some_files(alloc)?;
-    let mut whole = MemOut::new(alloc, ROOM)?;
-    let mut err = MemOut::new(alloc, 100)?;
-    let ended = status_of(alloc, line, &mut files, &mut whole, &mut err)?;
-    assert_eq!(rt; ended, Status::Done, "{line}");
-    for call in first..behind {
-        if ends_behind(rt, alloc, &mut files, line, most, call, &whole)? {
-            return Ok(call);
-        }
-    }
-    Ok(0)
+    let mut files = some_files(alloc, 0)?;
+    let found = unmade_over(rt, alloc, &mut files, line, most, calls);
+    drop(files);
+    found
 }
 
 // Lines of which few bytes are sent, in pieces of 16, and of which more are, in pieces of 500.
@@ -250,8 +317,8 @@ const LONG: [&str; 7] = [
 fn check_output(rt: &impl Abort, alloc: Global, line: &str, most: usize) -> Result<(), Fail>
     requires { 0 < most }
 {
-    let done = done_between(rt, alloc, line, most, 1, MOST_CALLS)?;
-    assert!(rt; 3 < done, "{line}");
+    let unmade = done_between(rt, alloc, line, most, [1, MOST_CALLS])?;
+    assert!(rt; 3 < unmade, "{line}");
     Ok(())
 }
 
@@ -274,31 +341,34 @@ fn each_call_of_a_long_output_that_fails_leaves_a_prefix(rt: HostRuntime) -> Res
 /// A script that is undone. Its output takes some 700 calls, which are tried in four tests.
 const SCRIPT: &str = "edit --media m.txt --script undone.txt x.otio";
 
+// Holds that all of these calls are made, and what is sent before each.
+fn are_all_made(rt: &impl Abort, alloc: Global, calls: [u64; 2]) -> Result<(), Fail> {
+    assert_eq!(rt; done_between(rt, alloc, SCRIPT, 16, calls)?, 0);
+    Ok(())
+}
+
 #[test]
 fn calls_1_to_199_of_a_timeline_leave_a_prefix(rt: HostRuntime) -> Result<(), Fail> {
-    assert_eq!(rt; done_between(&rt, rt.alloc(), SCRIPT, 16, 1, 200)?, 0);
-    Ok(())
+    are_all_made(&rt, rt.alloc(), [1, 200])
 }
 
 #[test]
 fn calls_200_to_399_of_a_timeline_leave_a_prefix(rt: HostRuntime) -> Result<(), Fail> {
-    assert_eq!(rt; done_between(&rt, rt.alloc(), SCRIPT, 16, 200, 400)?, 0);
-    Ok(())
+    are_all_made(&rt, rt.alloc(), [200, 400])
 }
 
 #[test]
 fn calls_400_to_599_of_a_timeline_leave_a_prefix(rt: HostRuntime) -> Result<(), Fail> {
-    assert_eq!(rt; done_between(&rt, rt.alloc(), SCRIPT, 16, 400, 600)?, 0);
-    Ok(())
+    are_all_made(&rt, rt.alloc(), [400, 600])
 }
 
 #[test]
 fn later_calls_of_a_timeline_leave_a_prefix(rt: HostRuntime) -> Result<(), Fail> {
-    assert!(rt; 600 < done_between(&rt, rt.alloc(), SCRIPT, 16, 600, MOST_CALLS)?);
+    assert!(rt; 600 < done_between(&rt, rt.alloc(), SCRIPT, 16, [600, MOST_CALLS])?);
     Ok(())
 }
 
-const TOLD: [Told; 12] = [
+static TOLD: [Told; 12] = [
     (
         "drill 3 20",
         Status::Output,
@@ -373,23 +443,34 @@ const TOLD: [Told; 12] = [
     ),
 ];
 
+// Holds that nothing is sent, and that a part of this is told.
+fn is_part(rt: &impl Abort, line: &str, answer: &Answer, told: &[u8]) {
+    assert!(rt; answer.out.sent().is_empty(), "{line}");
+    assert!(rt; answer.err.target().is_none(), "{line}");
+    assert!(rt; told.starts_with(answer.err.sent()), "{line}");
+}
+
 // Whether a message is told whole in pieces of 16 bytes of which that call fails. Holds that the
 // status is the same either way, that nothing is sent, and that what is told is a part of it.
 fn tells_whole(rt: &impl Abort, alloc: Global, case: &Told, call: u64) -> Result<bool, Fail> {
-    let (line, status, failing, told) = *case;
-    let mut files = some_files(alloc)?;
-    files.fail_on(failing[0])?;
-    let mut out = MemOut::new(alloc, ROOM)?;
-    out.fail_on(failing[1])?;
-    let mut err = MemOut::new(alloc, 100)?;
-    err.piece(16);
-    err.fail_on(call)?;
-    let ended = status_of(alloc, line, &mut files, &mut out, &mut err)?;
-    assert_eq!(rt; ended, status, "{line}");
-    assert!(rt; out.sent().is_empty(), "{line}");
-    assert!(rt; err.target().is_none(), "{line}");
-    assert!(rt; told.starts_with(err.sent()), "{line}");
-    Ok(err.sent().len() == told.len())
+    let (line, status, [read, sent], told) = *case;
+    let out = Manner {
+        failing: sent,
+        ..WHOLE
+    };
+    let err = Manner {
+        most: 16,
+        failing: call,
+    };
+    let mut files = some_files(alloc, read)?;
+    let answered = answer_over(alloc, &mut files, line, out, err);
+    drop(files);
+    let answer = answered?;
+    ended(rt, line, &answer, status);
+    is_part(rt, line, &answer, told);
+    let whole = answer.err.sent().len() == told.len();
+    drop(answer);
+    Ok(whole)
 }
 
 // Holds that a line ends so whichever call of its messages fails.

@@ -1,8 +1,10 @@
 //! Drills: what they tell, and the words that ask for none.
 
-use crate::runs::{Case, check_case, check_usage, status_of};
-use dev_io::{MemFiles, MemOut};
+use crate::runs::{Case, check_all_usages, check_case, check_target};
+use dev_io::MemFiles;
 use otio_tools::Status;
+use std::alloc::Global;
+use std::process::Abort;
 use std::test::Fail;
 
 /// What a drill of seed 0 without edits tells.
@@ -10,7 +12,7 @@ const UNEDITED: &[u8] =
     b"edits 0\nrefused 0\nitems 40\nevents 40\nframes 1734\nshown 2527129\nback 2527129\n";
 
 // Drills of several seeds: without edits, with one edit, with some, and with thousands.
-const DRILLS: [Case; 6] = [
+static DRILLS: [Case; 6] = [
     ("drill 0 0", Status::Done, UNEDITED, b""),
     (
         "drill 0 1",
@@ -44,53 +46,50 @@ const DRILLS: [Case; 6] = [
     ),
 ];
 
+fn check_twice(rt: &impl Abort, alloc: Global, files: &mut MemFiles) -> Result<(), Fail> {
+    for case in &DRILLS {
+        check_case(rt, alloc, files, case)?;
+        check_case(rt, alloc, files, case)?;
+    }
+    Ok(())
+}
+
 #[test]
 fn drills_tell_the_same_numbers_each_time(rt: HostRuntime) -> Result<(), Fail> {
     let mut files = MemFiles::new(rt.alloc());
-    for case in &DRILLS {
-        check_case(&rt, rt.alloc(), &mut files, case)?;
-        check_case(&rt, rt.alloc(), &mut files, case)?;
-    }
-    Ok(())
+    let held = check_twice(&rt, rt.alloc(), &mut files);
+    drop(files);
+    held
 }
 
 #[test]
 fn a_drill_goes_into_the_file_that_is_named(rt: HostRuntime) -> Result<(), Fail> {
-    let mut files = MemFiles::new(rt.alloc());
-    let mut out = MemOut::new(rt.alloc(), 200)?;
-    let mut err = MemOut::new(rt.alloc(), 100)?;
     let line = "drill 0 0 -o d.txt";
-    let ended = status_of(rt.alloc(), line, &mut files, &mut out, &mut err)?;
-    assert_eq!(rt; ended, Status::Done);
-    assert_eq!(rt; out.target(), Some("d.txt"));
-    assert_eq!(rt; out.sent(), UNEDITED);
-    assert!(rt; err.sent().is_empty());
-    Ok(())
+    check_target(&rt, rt.alloc(), &[], line, "d.txt", UNEDITED)
 }
+
+// Words that are no command line.
+static OTHER: [&str; 17] = [
+    "drill",
+    "drill 1",
+    "drill 1 2 3",
+    "drill 00 1",
+    "drill 1 01",
+    "drill +1 2",
+    "drill 1 +2",
+    "drill -1 2",
+    "drill 1 -2",
+    "drill 1.0 2",
+    "drill 1 10001",
+    "drill 18446744073709551616 1",
+    "drill 1 18446744073709551617",
+    "drill --rate 24 1 2",
+    "drill --media m.txt 1 2",
+    "drill -o a -o b 1 2",
+    "drill x 2",
+];
 
 #[test]
 fn other_words_ask_for_no_drill(rt: HostRuntime) -> Result<(), Fail> {
-    let mut files = MemFiles::new(rt.alloc());
-    for line in [
-        "drill",
-        "drill 1",
-        "drill 1 2 3",
-        "drill 00 1",
-        "drill 1 01",
-        "drill +1 2",
-        "drill 1 +2",
-        "drill -1 2",
-        "drill 1 -2",
-        "drill 1.0 2",
-        "drill 1 10001",
-        "drill 18446744073709551616 1",
-        "drill 1 18446744073709551617",
-        "drill --rate 24 1 2",
-        "drill --media m.txt 1 2",
-        "drill -o a -o b 1 2",
-        "drill x 2",
-    ] {
-        check_usage(&rt, rt.alloc(), &mut files, line)?;
-    }
-    Ok(())
+    check_all_usages(&rt, rt.alloc(), &[], &OTHER)
 }

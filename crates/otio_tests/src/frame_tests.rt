@@ -1,8 +1,12 @@
-use crate::runs::{Case, check_case, check_cut_off, check_refused, check_usage, status_of};
+use crate::runs::{
+    Case, Named, check_cases, check_cut_offs, check_refused, check_usages, done, files_of,
+    is_aimed, line_count, put_text,
+};
 use crate::timelines::three_tracks;
-use dev_io::{MemFiles, MemOut};
+use dev_io::MemFiles;
 use otio_tools::Status;
 use std::alloc::{AllocError, Global};
+use std::process::Abort;
 use std::test::Fail;
 
 const CLIP: &[u8] = b"{\"OTIO_SCHEMA\":\"Clip.1\",\"name\":\"s\",\"media_reference\":null}";
@@ -20,21 +24,23 @@ const AT_THE_CUT: &[u8] = b"86442 0 mix(dissolve 0/1 url:\"a.mov\"@66 url:\"b.mo
 86442 2 url:\"a.wav\"@42
 ";
 
+static FILES: [Named; 6] = [
+    ("c.otio", CLIP),
+    ("l.otio", COLLECTION),
+    ("n.otio", NO_LENGTH),
+    ("k.otio", OFF_FRAME),
+    ("newer.otio", b"{\"OTIO_SCHEMA\":\"Clip.3\"}"),
+    ("comma.json", b"[1,]"),
+];
+
 fn some_files(alloc: Global) -> Result<MemFiles, AllocError> {
-    let mut files = MemFiles::new(alloc);
-    let tracks = three_tracks(alloc)?;
-    files.put("x.otio", tracks.as_bytes())?;
-    files.put("c.otio", CLIP)?;
-    files.put("l.otio", COLLECTION)?;
-    files.put("n.otio", NO_LENGTH)?;
-    files.put("k.otio", OFF_FRAME)?;
-    files.put("newer.otio", b"{\"OTIO_SCHEMA\":\"Clip.3\"}")?;
-    files.put("comma.json", b"[1,]")?;
+    let mut files = files_of(alloc, &FILES)?;
+    put_text(&mut files, "x.otio", three_tracks(alloc))?;
     Ok(files)
 }
 
 // Rows, and the refusals in their order.
-const FRAMES: [Case; 13] = [
+static FRAMES: [Case; 13] = [
     (
         "frames --start 86442 --count 1 x.otio",
         Status::Done,
@@ -112,10 +118,10 @@ const FRAMES: [Case; 13] = [
 
 #[test]
 fn frames_are_answered(rt: HostRuntime) -> Result<(), Fail> {
-    for case in &FRAMES {
-        check_case(&rt, rt.alloc(), &mut some_files(rt.alloc())?, case)?;
-    }
-    Ok(())
+    let mut files = some_files(rt.alloc())?;
+    let held = check_cases(&rt, rt.alloc(), &mut files, &FRAMES);
+    drop(files);
+    held
 }
 
 // Whether a line is among the lines of a text.
@@ -123,17 +129,7 @@ fn has_line(text: &[u8], wanted: &[u8]) -> bool {
     text.split(|b| *b == b'\n').any(|line| line == wanted)
 }
 
-#[test]
-fn all_frames_are_listed(rt: HostRuntime) -> Result<(), Fail> {
-    let alloc = rt.alloc();
-    let line = "frames -o rows.txt x.otio";
-    let mut files = some_files(alloc)?;
-    let mut out = MemOut::new(alloc, 20000)?;
-    let mut err = MemOut::new(alloc, 1000)?;
-    let ended = status_of(alloc, line, &mut files, &mut out, &mut err)?;
-    assert_eq!(rt; ended, Status::Done);
-    assert_eq!(rt; out.target(), Some("rows.txt"));
-    assert_eq!(rt; out.sent().iter().filter(|b| **b == b'\n').count(), 288);
+fn has_rows(rt: &impl Abort, sent: &[u8]) {
     for line in [
         "86453 0 mix(dissolve 11/12 url:\"a.mov\"@77 url:\"b.mov\"@105)",
         "86454 0 url:\"b.mov\"@106",
@@ -143,50 +139,72 @@ fn all_frames_are_listed(rt: HostRuntime) -> Result<(), Fail> {
         "86483 1 url:\"c.mov\"@62",
         "86484 1 -",
     ] {
-        assert!(rt; has_line(out.sent(), line.as_bytes()), "{line}");
+        assert!(rt; has_line(sent, line.as_bytes()), "{line}");
     }
+}
+
+fn check_rows(rt: &impl Abort, alloc: Global, files: &mut MemFiles) -> Result<(), Fail> {
+    let answer = done(rt, alloc, files, "frames -o rows.txt x.otio")?;
+    is_aimed(rt, &answer.out, "rows.txt");
+    has_rows(rt, answer.out.sent());
+    assert_eq!(rt; line_count(answer.out.sent()), 288);
+    drop(answer);
     Ok(())
 }
 
 #[test]
+fn all_frames_are_listed(rt: HostRuntime) -> Result<(), Fail> {
+    let mut files = some_files(rt.alloc())?;
+    let held = check_rows(&rt, rt.alloc(), &mut files);
+    drop(files);
+    held
+}
+
+#[test]
 fn rows_that_fail_leave_a_prefix(rt: HostRuntime) -> Result<(), Fail> {
-    let alloc = rt.alloc();
-    for call in 1..6u64 {
-        let mut files = some_files(alloc)?;
-        let line = "frames --start 86442 --count 1 x.otio";
-        check_cut_off(&rt, alloc, &mut files, call, line, AT_THE_CUT)?;
+    let line = "frames --start 86442 --count 1 x.otio";
+    let mut files = some_files(rt.alloc())?;
+    let held = check_cut_offs(&rt, rt.alloc(), &mut files, 6, line, AT_THE_CUT);
+    drop(files);
+    held
+}
+
+fn check_untouched(rt: &impl Abort, alloc: Global, files: &mut MemFiles) -> Result<(), Fail> {
+    for line in [
+        "frames -o rows.txt c.otio",
+        "frames -o rows.txt n.otio",
+        "frames -o rows.txt --start 01:00:01:24 x.otio",
+    ] {
+        check_refused(rt, alloc, files, line)?;
     }
     Ok(())
 }
 
 #[test]
 fn refused_frames_leave_the_target(rt: HostRuntime) -> Result<(), Fail> {
-    let alloc = rt.alloc();
-    for line in [
-        "frames -o rows.txt c.otio",
-        "frames -o rows.txt n.otio",
-        "frames -o rows.txt --start 01:00:01:24 x.otio",
-    ] {
-        check_refused(&rt, alloc, &mut some_files(alloc)?, line)?;
-    }
-    Ok(())
+    let mut files = some_files(rt.alloc())?;
+    let held = check_untouched(&rt, rt.alloc(), &mut files);
+    drop(files);
+    held
 }
+
+// Words that are no command line.
+static OTHER: [&str; 9] = [
+    "frames",
+    "frames --drop x.otio",
+    "frames --to json x.otio",
+    "frames --count 0 x.otio",
+    "frames --count 1000001 x.otio",
+    "frames --child -1 x.otio",
+    "frames --start 1:00:00:00 x.otio",
+    "frames --rate 29.5 x.edl",
+    "frames x.otio x.otio",
+];
 
 #[test]
 fn other_words_of_frames_are_answered_by_the_usage_text(rt: HostRuntime) -> Result<(), Fail> {
-    let alloc = rt.alloc();
-    for line in [
-        "frames",
-        "frames --drop x.otio",
-        "frames --to json x.otio",
-        "frames --count 0 x.otio",
-        "frames --count 1000001 x.otio",
-        "frames --child -1 x.otio",
-        "frames --start 1:00:00:00 x.otio",
-        "frames --rate 29.5 x.edl",
-        "frames x.otio x.otio",
-    ] {
-        check_usage(&rt, alloc, &mut some_files(alloc)?, line)?;
-    }
-    Ok(())
+    let mut files = some_files(rt.alloc())?;
+    let held = check_usages(&rt, rt.alloc(), &mut files, &OTHER);
+    drop(files);
+    held
 }

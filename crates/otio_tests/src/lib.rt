@@ -34,3 +34,5 @@ mod timeline_calls;
 mod timelines;
 #[cfg(test)]
 mod tool_tests;
+#[cfg(test)]
+mod wide_tests;

@@ -1,8 +1,8 @@
 //! Texts that end too early, and files at the limits and one past them.
 
-use crate::runs::{Case, check_case, check_usage, status_of};
-use crate::timelines::{one_track, put_clip};
-use dev_io::{MemFiles, MemOut};
+use crate::runs::{Case, check_all_usages, check_case, check_usages, files_of, put_text};
+use crate::timelines::{one_track, put_clip, put_parts};
+use dev_io::MemFiles;
 use otio_tools::Status;
 use std::alloc::{AllocError, Global};
 use std::process::Abort;
@@ -19,27 +19,47 @@ const END: &str = "]}]}}";
 
 const OLD: &[u8] = b"{\"OTIO_SCHEMA\":\"Clip.1\",\"name\":\"s\",\"media_reference\":null}";
 
-#[test]
-fn each_part_of_an_object_ends_too_early(rt: HostRuntime) -> Result<(), Fail> {
-    let alloc = rt.alloc();
-    let mut part = Vec::new(alloc);
+// Holds that a part of an object is refused behind its end.
+fn check_part(
+    rt: &impl Abort,
+    alloc: Global,
+    files: &mut MemFiles,
+    part: &[u8],
+) -> Result<(), Fail> {
+    files.put("c.otio", part)?;
+    let told = format!(in alloc; "otio: c.otio: J1 Syntax at {}\n", part.len())?;
+    let case: Case = ("convert c.otio", Status::Refused, b"", told.as_bytes());
+    let held = check_case(rt, alloc, files, &case);
+    drop(told);
+    held
+}
+
+fn check_parts(
+    rt: &impl Abort,
+    alloc: Global,
+    files: &mut MemFiles,
+    part: &mut Vec<u8>,
+) -> Result<(), Fail> {
     for byte in OLD {
-        let told = format!(in alloc; "otio: c.otio: J1 Syntax at {}\n", part.len())?;
-        let mut files = MemFiles::new(alloc);
-        files.put("c.otio", &part)?;
-        let mut out = MemOut::new(alloc, 0)?;
-        let mut err = MemOut::new(alloc, 100)?;
-        let ended = status_of(alloc, "convert c.otio", &mut files, &mut out, &mut err)?;
-        assert_eq!(rt; ended, Status::Refused);
-        assert_eq!(rt; err.sent(), told.as_bytes());
+        check_part(rt, alloc, files, part)?;
         part.push(*byte)?;
     }
     Ok(())
 }
 
+#[test]
+fn each_part_of_an_object_ends_too_early(rt: HostRuntime) -> Result<(), Fail> {
+    let mut files = MemFiles::new(rt.alloc());
+    let mut part = Vec::new(rt.alloc());
+    let held = check_parts(&rt, rt.alloc(), &mut files, &mut part);
+    drop(files);
+    drop(part);
+    held
+}
+
 // Lists that end behind their title, behind a label, and inside of one; labels and rates at the
 // ends of what they may be.
-const LISTS: [(&[u8], Case); 9] = [
+static LISTS: [(&[u8], Case); 9] = [
     (
         b"TITLE: ONE\nFCM: NON-DROP FRAME\n\n",
         (
@@ -123,37 +143,39 @@ const LISTS: [(&[u8], Case); 9] = [
     ),
 ];
 
-#[test]
-fn lists_end_early_or_at_the_end_of_a_day(rt: HostRuntime) -> Result<(), Fail> {
-    let alloc = rt.alloc();
-    let mut files = MemFiles::new(alloc);
+fn check_lists(rt: &impl Abort, alloc: Global, files: &mut MemFiles) -> Result<(), Fail> {
     for (text, case) in &LISTS {
         files.put("a.edl", text)?;
-        check_case(&rt, alloc, &mut files, case)?;
+        check_case(rt, alloc, files, case)?;
     }
     Ok(())
 }
+
+#[test]
+fn lists_end_early_or_at_the_end_of_a_day(rt: HostRuntime) -> Result<(), Fail> {
+    let mut files = MemFiles::new(rt.alloc());
+    let held = check_lists(&rt, rt.alloc(), &mut files);
+    drop(files);
+    held
+}
+
+// Rates past the ends of what they may be, and words that are none.
+static RATES: [&str; 6] = [
+    "stat --rate 705600000001 a.edl",
+    "stat --rate 0.999999 a.edl",
+    "stat --rate 60.5 a.edl",
+    "stat --rate 1e1000 a.edl",
+    "stat --rate -24 a.edl",
+    "stat --rate=-24 a.edl",
+];
 
 #[test]
 fn rates_end_where_they_are_refused(rt: HostRuntime) -> Result<(), Fail> {
-    let alloc = rt.alloc();
-    let mut files = MemFiles::new(alloc);
-    files.put("a.edl", b"TITLE: T")?;
-    for line in [
-        "stat --rate 705600000001 a.edl",
-        "stat --rate 0.999999 a.edl",
-        "stat --rate 60.5 a.edl",
-        "stat --rate 1e1000 a.edl",
-        "stat --rate -24 a.edl",
-        "stat --rate=-24 a.edl",
-    ] {
-        check_usage(&rt, alloc, &mut files, line)?;
-    }
-    Ok(())
+    check_all_usages(&rt, rt.alloc(), &[("a.edl", b"TITLE: T")], &RATES)
 }
 
 // Lengths of gaps on a track: a million seconds at 24 frames a second, and more.
-const LENGTHS: [(&[(&str, Option<u32>, u32)], Case); 3] = [
+static LENGTHS: [(&[(&str, Option<u32>, u32)], Case); 3] = [
     (
         &[("", None, 24_000_000)],
         (
@@ -183,19 +205,30 @@ const LENGTHS: [(&[(&str, Option<u32>, u32)], Case); 3] = [
     ),
 ];
 
+// Holds a case over the file `t.otio` of a text, once that is made.
+fn check_text(
+    rt: &impl Abort,
+    alloc: Global,
+    made: Result<String, AllocError>,
+    case: &Case<'_>,
+) -> Result<(), Fail> {
+    let mut files = MemFiles::new(alloc);
+    put_text(&mut files, "t.otio", made)?;
+    let held = check_case(rt, alloc, &mut files, case);
+    drop(files);
+    held
+}
+
 #[test]
 fn lengths_end_at_a_million_seconds(rt: HostRuntime) -> Result<(), Fail> {
-    let alloc = rt.alloc();
-    let mut files = MemFiles::new(alloc);
     for (items, case) in &LENGTHS {
-        files.put("t.otio", one_track(alloc, items)?.as_bytes())?;
-        check_case(&rt, alloc, &mut files, case)?;
+        check_text(&rt, rt.alloc(), one_track(rt.alloc(), items), case)?;
     }
     Ok(())
 }
 
 // The speeds of two effects of a clip, and what is told.
-const SPEEDS: [([&str; 2], Case); 4] = [
+static SPEEDS: [([&str; 2], Case); 4] = [
     (
         ["500", "-2.0"],
         (
@@ -234,53 +267,70 @@ const SPEEDS: [([&str; 2], Case); 4] = [
     ),
 ];
 
+fn put_warped(text: &mut String, speeds: &[&str; 2]) -> Result<(), AllocError> {
+    text.push_str(ROOT)?;
+    put_clip(text, 0, 2, "a.mov")?;
+    let [first, second] = *speeds;
+    put_parts(
+        text,
+        &[
+            ",\"effects\":[{\"OTIO_SCHEMA\":\"LinearTimeWarp.1\",\"time_scalar\":",
+            first,
+            "},{\"OTIO_SCHEMA\":\"LinearTimeWarp.1\",\"time_scalar\":",
+            second,
+            "}]}",
+            END,
+        ],
+    )
+}
+
 // A track of a clip with two effects of these speeds.
 fn warped(alloc: Global, speeds: &[&str; 2]) -> Result<String, AllocError> {
     let mut text = String::new(alloc);
-    text.push_str(ROOT)?;
-    put_clip(&mut text, 0, 2, "a.mov")?;
-    text.push_str(",\"effects\":[{\"OTIO_SCHEMA\":\"LinearTimeWarp.1\",\"time_scalar\":")?;
-    text.push_str(speeds[0])?;
-    text.push_str("},{\"OTIO_SCHEMA\":\"LinearTimeWarp.1\",\"time_scalar\":")?;
-    text.push_str(speeds[1])?;
-    text.push_str("}]}")?;
-    text.push_str(END)?;
+    put_warped(&mut text, speeds)?;
     Ok(text)
 }
 
 #[test]
 fn speeds_end_at_a_thousand(rt: HostRuntime) -> Result<(), Fail> {
-    let alloc = rt.alloc();
-    let mut files = MemFiles::new(alloc);
     for (speeds, case) in &SPEEDS {
-        files.put("t.otio", warped(alloc, speeds)?.as_bytes())?;
-        check_case(&rt, alloc, &mut files, case)?;
+        check_text(&rt, rt.alloc(), warped(rt.alloc(), speeds), case)?;
     }
     Ok(())
 }
 
-// A text between two others, so many times over with a comma between.
-fn repeated(
-    alloc: Global,
-    front: &str,
+// Adds a text so many times over, with this between.
+fn put_times(
+    whole: &mut String,
     text: &str,
     count: usize,
-    back: &str,
-) -> Result<String, AllocError> {
-    let mut whole = String::from_str(alloc, front)?;
+    between: &str,
+) -> Result<(), AllocError> {
     for index in 0..count {
         if index > 0 {
-            whole.push_str(",")?;
+            whole.push_str(between)?;
         }
         whole.push_str(text)?;
     }
-    whole.push_str(back)?;
+    Ok(())
+}
+
+fn put_between(whole: &mut String, text: &str, count: usize) -> Result<(), AllocError> {
+    whole.push_str(ROOT)?;
+    put_times(whole, text, count, ",")?;
+    whole.push_str(END)
+}
+
+// A track of so many children of this text.
+fn track_of(alloc: Global, text: &str, count: usize) -> Result<String, AllocError> {
+    let mut whole = String::new(alloc);
+    put_between(&mut whole, text, count)?;
     Ok(whole)
 }
 
 // Levels of compositions of which each is the only child of the one before; 63 make 127 levels of
 // lists and objects.
-const LEVELS: [(usize, Case); 2] = [
+static LEVELS: [(usize, Case); 2] = [
     (
         63,
         (
@@ -301,36 +351,52 @@ const LEVELS: [(usize, Case); 2] = [
     ),
 ];
 
+fn put_levels(text: &mut String, count: usize) -> Result<(), AllocError> {
+    text.push_str("{\"OTIO_SCHEMA\":\"Timeline.1\",\"tracks\":")?;
+    put_times(
+        text,
+        "{\"OTIO_SCHEMA\":\"Stack.1\",\"children\":[",
+        count,
+        "",
+    )?;
+    put_times(text, "]}", count, "")?;
+    text.push_str("}")
+}
+
+fn levels_of(alloc: Global, count: usize) -> Result<String, AllocError> {
+    let mut text = String::new(alloc);
+    put_levels(&mut text, count)?;
+    Ok(text)
+}
+
 #[test]
 fn levels_end_at_127(rt: HostRuntime) -> Result<(), Fail> {
-    let alloc = rt.alloc();
-    let mut files = MemFiles::new(alloc);
     for (levels, case) in &LEVELS {
-        let mut text = String::from_str(alloc, "{\"OTIO_SCHEMA\":\"Timeline.1\",\"tracks\":")?;
-        for _ in 0..*levels {
-            text.push_str("{\"OTIO_SCHEMA\":\"Stack.1\",\"children\":[")?;
-        }
-        for _ in 0..*levels {
-            text.push_str("]}")?;
-        }
-        text.push_str("}")?;
-        files.put("t.otio", text.as_bytes())?;
-        check_case(&rt, alloc, &mut files, case)?;
+        check_text(&rt, rt.alloc(), levels_of(rt.alloc(), *levels), case)?;
     }
     Ok(())
 }
 
-// Holds how a line on a track of so many gaps ends. The track is an item too.
-fn check_items(rt: &impl Abort, alloc: Global, gaps: usize, case: &Case) -> Result<(), Fail> {
-    let mut files = MemFiles::new(alloc);
+// A clip of one frame.
+fn put_one(alloc: Global, files: &mut MemFiles) -> Result<(), AllocError> {
+    let text = one_track(alloc, &[("a.mov", Some(0), 1)]);
+    put_text(files, "a.otio", text)
+}
+
+fn put_gaps(alloc: Global, files: &mut MemFiles, count: usize) -> Result<(), AllocError> {
     files.put("s.txt", b"insert 0 0 gap 1\n")?;
-    files.put(
-        "a.otio",
-        one_track(alloc, &[("a.mov", Some(0), 1)])?.as_bytes(),
-    )?;
-    let text = repeated(alloc, ROOT, "{\"OTIO_SCHEMA\":\"Gap.1\"}", gaps, END)?;
-    files.put("t.otio", text.as_bytes())?;
-    check_case(rt, alloc, &mut files, case)
+    put_one(alloc, files)?;
+    let text = track_of(alloc, "{\"OTIO_SCHEMA\":\"Gap.1\"}", count);
+    put_text(files, "t.otio", text)
+}
+
+// Holds how a line on a track of so many gaps ends. The track is an item too.
+fn check_items(rt: &impl Abort, alloc: Global, gaps: usize, case: &Case<'_>) -> Result<(), Fail> {
+    let mut files = MemFiles::new(alloc);
+    put_gaps(alloc, &mut files, gaps)?;
+    let held = check_case(rt, alloc, &mut files, case);
+    drop(files);
+    held
 }
 
 #[test]
@@ -355,7 +421,7 @@ fn joined_timelines_have_100_000_items_at_most(rt: HostRuntime) -> Result<(), Fa
 }
 
 // How many lines `undo` a script has, and what is told of it.
-const COMMANDS: [(usize, Case); 2] = [
+static COMMANDS: [(usize, Case); 2] = [
     (
         10_001,
         (
@@ -376,41 +442,63 @@ const COMMANDS: [(usize, Case); 2] = [
     ),
 ];
 
-#[test]
-fn commands_end_at_10_000(rt: HostRuntime) -> Result<(), Fail> {
-    let alloc = rt.alloc();
-    let mut files = MemFiles::new(alloc);
-    files.put(
-        "a.otio",
-        one_track(alloc, &[("a.mov", Some(0), 1)])?.as_bytes(),
-    )?;
+fn undos(alloc: Global, count: usize) -> Result<String, AllocError> {
+    let mut script = String::new(alloc);
+    put_times(&mut script, "undo\n", count, "")?;
+    Ok(script)
+}
+
+fn check_commands(rt: &impl Abort, alloc: Global, files: &mut MemFiles) -> Result<(), Fail> {
+    put_one(alloc, files)?;
     for (lines, case) in &COMMANDS {
-        let mut script = String::new(alloc);
-        for _ in 0..*lines {
-            script.push_str("undo\n")?;
-        }
-        files.put("s.txt", script.as_bytes())?;
-        check_case(&rt, alloc, &mut files, case)?;
+        put_text(files, "s.txt", undos(alloc, *lines))?;
+        check_case(rt, alloc, files, case)?;
     }
     Ok(())
 }
 
 #[test]
-fn files_of_a_command_end_at_10_000(rt: HostRuntime) -> Result<(), Fail> {
-    let alloc = rt.alloc();
-    let mut files = MemFiles::new(alloc);
-    files.put("-t", b"{\"OTIO_SCHEMA\":\"Timeline.1\"}")?;
-    let mut line = String::from_str(alloc, "tool --stack --list-tracks --")?;
-    for _ in 0..10_000 {
-        line.push_str(" -t")?;
-    }
-    let mut out = MemOut::new(alloc, 100)?;
-    let mut err = MemOut::new(alloc, 100)?;
-    let ended = status_of(alloc, line.as_str(), &mut files, &mut out, &mut err)?;
-    assert_eq!(rt; ended, Status::Done);
-    assert!(rt; out.sent().is_empty());
+fn commands_end_at_10_000(rt: HostRuntime) -> Result<(), Fail> {
+    let mut files = MemFiles::new(rt.alloc());
+    let held = check_commands(&rt, rt.alloc(), &mut files);
+    drop(files);
+    held
+}
+
+// Holds that 10 000 names end this line, and no more.
+fn check_names(
+    rt: &impl Abort,
+    alloc: Global,
+    files: &mut MemFiles,
+    line: &mut String,
+) -> Result<(), Fail> {
+    line.push_str("tool --stack --list-tracks --")?;
+    put_times(line, " -t", 10_000, "")?;
+    let case: Case = (line.as_str(), Status::Done, b"", b"");
+    check_case(rt, alloc, files, &case)?;
     line.push_str(" -t")?;
-    check_usage(&rt, alloc, &mut files, line.as_str())
+    check_usages(rt, alloc, files, &[line.as_str()])
+}
+
+#[test]
+fn files_of_a_command_end_at_10_000(rt: HostRuntime) -> Result<(), Fail> {
+    let mut files = files_of(rt.alloc(), &[("-t", b"{\"OTIO_SCHEMA\":\"Timeline.1\"}")])?;
+    let mut line = String::new(rt.alloc());
+    let held = check_names(&rt, rt.alloc(), &mut files, &mut line);
+    drop(files);
+    drop(line);
+    held
+}
+
+fn put_full(alloc: Global, files: &mut MemFiles, byte: u8, count: usize) -> Result<(), AllocError> {
+    let list = b"1 A V C 00:00:00:00 00:00:00:01 00:00:00:00 00:00:00:01";
+    files.put("a.edl", list)?;
+    let lengthless = track_of(alloc, "{\"OTIO_SCHEMA\":\"Clip.2\"}", 1);
+    put_text(files, "n.otio", lengthless)?;
+    let full = vec![in alloc; byte; count]?;
+    let put = files.put("f", &full);
+    drop(full);
+    put
 }
 
 // Holds how a line on the file `f` of so many equal bytes ends.
@@ -419,18 +507,13 @@ fn check_full(
     alloc: Global,
     byte: u8,
     count: usize,
-    case: &Case,
+    case: &Case<'_>,
 ) -> Result<(), Fail> {
     let mut files = MemFiles::new(alloc);
-    files.put(
-        "a.edl",
-        b"1 A V C 00:00:00:00 00:00:00:01 00:00:00:00 00:00:00:01",
-    )?;
-    let lengthless = repeated(alloc, ROOT, "{\"OTIO_SCHEMA\":\"Clip.2\"}", 1, END)?;
-    files.put("n.otio", lengthless.as_bytes())?;
-    let full = vec![in alloc; byte; count]?;
-    files.put("f", &full)?;
-    check_case(rt, alloc, &mut files, case)
+    put_full(alloc, &mut files, byte, count)?;
+    let held = check_case(rt, alloc, &mut files, case);
+    drop(files);
+    held
 }
 
 #[test]

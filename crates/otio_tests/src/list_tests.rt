@@ -1,22 +1,25 @@
 //! Timelines that are written as lists, and the two layouts of lists.
 
-use crate::runs::{Case, check_case, status_of};
-use dev_io::{MemFiles, MemOut};
+ghost use Rattle.std.specs.Prelude.{◌<◌};
+
+use crate::runs::{Case, Named, check_cases, files_of};
+use dev_io::MemFiles;
 use otio_tools::Status;
 use std::alloc::{AllocError, Global};
 use std::process::Abort;
+use std::slice::from_ref;
 use std::test::Fail;
 
 /// The text of a timeline up to its tracks.
-const ROOT: &[u8] =
+pub const ROOT: &[u8] =
     b"{\"OTIO_SCHEMA\":\"Timeline.1\",\"tracks\":{\"OTIO_SCHEMA\":\"Stack.1\",\"children\":[";
 
 /// A track up to its children.
-const TRACK: &[u8] = b"{\"OTIO_SCHEMA\":\"Track.1\",\"children\":[";
+pub const TRACK: &[u8] = b"{\"OTIO_SCHEMA\":\"Track.1\",\"children\":[";
 
 /// A clip of a second at 24 frames a second from frame 0 on, of the reel `A1`, up to its other
 /// members; a later one of a name takes the place of an earlier one.
-const CLIP: &[u8] = b"{\"OTIO_SCHEMA\":\"Clip.2\",\"metadata\":{\"cmx_3600\":{\"reel\":\"A1\"}},
+pub const CLIP: &[u8] = b"{\"OTIO_SCHEMA\":\"Clip.2\",\"metadata\":{\"cmx_3600\":{\"reel\":\"A1\"}},
 \"source_range\":{\"OTIO_SCHEMA\":\"TimeRange.1\",
 \"start_time\":{\"OTIO_SCHEMA\":\"RationalTime.1\",\"rate\":24,\"value\":0},
 \"duration\":{\"OTIO_SCHEMA\":\"RationalTime.1\",\"rate\":24,\"value\":24}}";
@@ -121,16 +124,78 @@ const GAP: &[u8] = b"{\"OTIO_SCHEMA\":\"Gap.1\",
 \"start_time\":{\"OTIO_SCHEMA\":\"RationalTime.1\",\"rate\":24,\"value\":0},
 \"duration\":{\"OTIO_SCHEMA\":\"RationalTime.1\",\"rate\":24,\"value\":48}}}";
 
+/// A part of the text of a timeline: one of those above, or another.
+#[derive(Clone, Copy)]
+enum Part {
+    Track,
+    Clip,
+    Cross,
+    LongReel,
+    HalfLong,
+    HalfBehind,
+    Quarter,
+    Last,
+    Whole,
+    At25,
+    AtEnd,
+    Media,
+    Backward,
+    Twice,
+    Faster,
+    Barely,
+    First,
+    Second,
+    OtherMedia,
+    TenBefore,
+    TwelveBefore,
+    Fifteen,
+    Gap,
+    Text(&'static [u8]),
+}
+
+fn text_of(part: Part) -> &'static [u8] {
+    match part {
+        Part::Track => TRACK,
+        Part::Clip => CLIP,
+        Part::Cross => CROSS,
+        Part::LongReel => LONG_REEL,
+        Part::HalfLong => HALF_LONG,
+        Part::HalfBehind => HALF_BEHIND,
+        Part::Quarter => QUARTER,
+        Part::Last => LAST,
+        Part::Whole => WHOLE,
+        Part::At25 => AT_25,
+        Part::AtEnd => AT_END,
+        Part::Media => MEDIA,
+        Part::Backward => BACKWARD,
+        Part::Twice => TWICE,
+        Part::Faster => FASTER,
+        Part::Barely => BARELY,
+        Part::First => FIRST,
+        Part::Second => SECOND,
+        Part::OtherMedia => OTHER_MEDIA,
+        Part::TenBefore => TEN_BEFORE,
+        Part::TwelveBefore => TWELVE_BEFORE,
+        Part::Fifteen => FIFTEEN,
+        Part::Gap => GAP,
+        Part::Text(text) => text,
+    }
+}
+
 // The texts of the tracks of a timeline one after another, what else it has, and what is asked of
 // it as the file `t.otio`.
-type Film = (&'static [&'static [u8]], &'static [u8], Case);
+type Film = (&'static [Part], Part, Case<'static>);
 
 /// What isn't carried: each reason once, some of them at two kinds of children, but for that of too
 /// many events.
-const LEFT: [Film; 22] = [
+static LEFT: [Film; 22] = [
     (
-        &[TRACK, b"{\"OTIO_SCHEMA\":\"Clip.2\"}", b"]}"],
-        b"",
+        &[
+            Part::Track,
+            Part::Text(b"{\"OTIO_SCHEMA\":\"Clip.2\"}"),
+            Part::Text(b"]}"),
+        ],
+        Part::Text(b""),
         (
             "convert --to edl t.otio",
             Status::Refused,
@@ -139,8 +204,8 @@ const LEFT: [Film; 22] = [
         ),
     ),
     (
-        &[b"{\"OTIO_SCHEMA\":\"Gap.1\"}"],
-        b"",
+        &[Part::Text(b"{\"OTIO_SCHEMA\":\"Gap.1\"}")],
+        Part::Text(b""),
         (
             "convert --to edl t.otio",
             Status::Refused,
@@ -149,8 +214,13 @@ const LEFT: [Film; 22] = [
         ),
     ),
     (
-        &[TRACK, b"]},", TRACK, b"]}"],
-        b"",
+        &[
+            Part::Track,
+            Part::Text(b"]},"),
+            Part::Track,
+            Part::Text(b"]}"),
+        ],
+        Part::Text(b""),
         (
             "convert --to edl t.otio",
             Status::Refused,
@@ -159,8 +229,12 @@ const LEFT: [Film; 22] = [
         ),
     ),
     (
-        &[TRACK, b"{\"OTIO_SCHEMA\":\"Stack.1\"}", b"]}"],
-        b"",
+        &[
+            Part::Track,
+            Part::Text(b"{\"OTIO_SCHEMA\":\"Stack.1\"}"),
+            Part::Text(b"]}"),
+        ],
+        Part::Text(b""),
         (
             "convert --to edl t.otio",
             Status::Refused,
@@ -169,8 +243,8 @@ const LEFT: [Film; 22] = [
         ),
     ),
     (
-        &[TRACK, b"]", WHOLE, b"}"],
-        b"",
+        &[Part::Track, Part::Text(b"]"), Part::Whole, Part::Text(b"}")],
+        Part::Text(b""),
         (
             "convert --to edl t.otio",
             Status::Refused,
@@ -179,8 +253,14 @@ const LEFT: [Film; 22] = [
         ),
     ),
     (
-        &[TRACK, CLIP, HALF_LONG, b"}", b"]}"],
-        b"",
+        &[
+            Part::Track,
+            Part::Clip,
+            Part::HalfLong,
+            Part::Text(b"}"),
+            Part::Text(b"]}"),
+        ],
+        Part::Text(b""),
         (
             "convert --to edl t.otio",
             Status::Refused,
@@ -189,8 +269,15 @@ const LEFT: [Film; 22] = [
         ),
     ),
     (
-        &[TRACK, CLIP, b"},", CLIP, b",\"metadata\":{}}", b"]}"],
-        b"",
+        &[
+            Part::Track,
+            Part::Clip,
+            Part::Text(b"},"),
+            Part::Clip,
+            Part::Text(b",\"metadata\":{}}"),
+            Part::Text(b"]}"),
+        ],
+        Part::Text(b""),
         (
             "convert --to edl t.otio",
             Status::Refused,
@@ -199,8 +286,14 @@ const LEFT: [Film; 22] = [
         ),
     ),
     (
-        &[TRACK, CLIP, LONG_REEL, b"}", b"]}"],
-        b"",
+        &[
+            Part::Track,
+            Part::Clip,
+            Part::LongReel,
+            Part::Text(b"}"),
+            Part::Text(b"]}"),
+        ],
+        Part::Text(b""),
         (
             "convert --to edl t.otio",
             Status::Refused,
@@ -209,8 +302,8 @@ const LEFT: [Film; 22] = [
         ),
     ),
     (
-        &[TRACK, CLIP, b"}", b"]}"],
-        b"",
+        &[Part::Track, Part::Clip, Part::Text(b"}"), Part::Text(b"]}")],
+        Part::Text(b""),
         (
             "convert --to edl --media m.txt t.otio",
             Status::Refused,
@@ -219,8 +312,8 @@ const LEFT: [Film; 22] = [
         ),
     ),
     (
-        &[TRACK, CLIP, b"}", b"]}"],
-        AT_25,
+        &[Part::Track, Part::Clip, Part::Text(b"}"), Part::Text(b"]}")],
+        Part::At25,
         (
             "convert --to edl t.otio",
             Status::Refused,
@@ -229,8 +322,14 @@ const LEFT: [Film; 22] = [
         ),
     ),
     (
-        &[TRACK, CLIP, LAST, b"}", b"]}"],
-        b"",
+        &[
+            Part::Track,
+            Part::Clip,
+            Part::Last,
+            Part::Text(b"}"),
+            Part::Text(b"]}"),
+        ],
+        Part::Text(b""),
         (
             "convert --to edl t.otio",
             Status::Refused,
@@ -240,12 +339,12 @@ const LEFT: [Film; 22] = [
     ),
     (
         &[
-            TRACK,
-            CLIP,
-            b",\"effects\":[{\"OTIO_SCHEMA\":\"Effect.1\"}]}",
-            b"]}",
+            Part::Track,
+            Part::Clip,
+            Part::Text(b",\"effects\":[{\"OTIO_SCHEMA\":\"Effect.1\"}]}"),
+            Part::Text(b"]}"),
         ],
-        b"",
+        Part::Text(b""),
         (
             "convert --to edl t.otio",
             Status::Refused,
@@ -254,8 +353,14 @@ const LEFT: [Film; 22] = [
         ),
     ),
     (
-        &[TRACK, CLIP, BACKWARD, b"}", b"]}"],
-        b"",
+        &[
+            Part::Track,
+            Part::Clip,
+            Part::Backward,
+            Part::Text(b"}"),
+            Part::Text(b"]}"),
+        ],
+        Part::Text(b""),
         (
             "convert --to edl t.otio",
             Status::Refused,
@@ -264,8 +369,15 @@ const LEFT: [Film; 22] = [
         ),
     ),
     (
-        &[TRACK, CLIP, HALF_BEHIND, TWICE, b"}", b"]}"],
-        b"",
+        &[
+            Part::Track,
+            Part::Clip,
+            Part::HalfBehind,
+            Part::Twice,
+            Part::Text(b"}"),
+            Part::Text(b"]}"),
+        ],
+        Part::Text(b""),
         (
             "convert --to edl t.otio",
             Status::Refused,
@@ -275,22 +387,22 @@ const LEFT: [Film; 22] = [
     ),
     (
         &[
-            TRACK,
-            CLIP,
-            FIRST,
-            MEDIA,
-            b"},",
-            CROSS,
-            TWELVE_BEFORE,
-            b"},",
-            CLIP,
-            SECOND,
-            OTHER_MEDIA,
-            BARELY,
-            b"}",
-            b"]}",
+            Part::Track,
+            Part::Clip,
+            Part::First,
+            Part::Media,
+            Part::Text(b"},"),
+            Part::Cross,
+            Part::TwelveBefore,
+            Part::Text(b"},"),
+            Part::Clip,
+            Part::Second,
+            Part::OtherMedia,
+            Part::Barely,
+            Part::Text(b"}"),
+            Part::Text(b"]}"),
         ],
-        FIFTEEN,
+        Part::Fifteen,
         (
             "convert --to edl --media m.txt t.otio",
             Status::Refused,
@@ -299,8 +411,18 @@ const LEFT: [Film; 22] = [
         ),
     ),
     (
-        &[TRACK, CLIP, b"},", CROSS, b"},", CLIP, QUARTER, b"}", b"]}"],
-        b"",
+        &[
+            Part::Track,
+            Part::Clip,
+            Part::Text(b"},"),
+            Part::Cross,
+            Part::Text(b"},"),
+            Part::Clip,
+            Part::Quarter,
+            Part::Text(b"}"),
+            Part::Text(b"]}"),
+        ],
+        Part::Text(b""),
         (
             "convert --to edl t.otio",
             Status::Refused,
@@ -310,16 +432,16 @@ const LEFT: [Film; 22] = [
     ),
     (
         &[
-            TRACK,
-            CLIP,
-            b"},",
-            CROSS,
-            b",\"transition_type\":\"Custom_Fade\"},",
-            CLIP,
-            b"}",
-            b"]}",
+            Part::Track,
+            Part::Clip,
+            Part::Text(b"},"),
+            Part::Cross,
+            Part::Text(b",\"transition_type\":\"Custom_Fade\"},"),
+            Part::Clip,
+            Part::Text(b"}"),
+            Part::Text(b"]}"),
         ],
-        b"",
+        Part::Text(b""),
         (
             "convert --to edl t.otio",
             Status::Refused,
@@ -328,8 +450,14 @@ const LEFT: [Film; 22] = [
         ),
     ),
     (
-        &[TRACK, CLIP, MEDIA, b"}", b"]}"],
-        b"",
+        &[
+            Part::Track,
+            Part::Clip,
+            Part::Media,
+            Part::Text(b"}"),
+            Part::Text(b"]}"),
+        ],
+        Part::Text(b""),
         (
             "convert --to edl --media short.txt t.otio",
             Status::Refused,
@@ -338,8 +466,8 @@ const LEFT: [Film; 22] = [
         ),
     ),
     (
-        &[TRACK, CLIP, b"}", b"]}"],
-        AT_END,
+        &[Part::Track, Part::Clip, Part::Text(b"}"), Part::Text(b"]}")],
+        Part::AtEnd,
         (
             "convert --to edl t.otio",
             Status::Refused,
@@ -348,8 +476,8 @@ const LEFT: [Film; 22] = [
         ),
     ),
     (
-        &[b"{\"OTIO_SCHEMA\":\"Gap.1\"}"],
-        b"",
+        &[Part::Text(b"{\"OTIO_SCHEMA\":\"Gap.1\"}")],
+        Part::Text(b""),
         (
             "convert --to edl --drop t.otio",
             Status::Refused,
@@ -358,8 +486,8 @@ const LEFT: [Film; 22] = [
         ),
     ),
     (
-        &[b"{\"OTIO_SCHEMA\":\"Gap.1\"}"],
-        b"",
+        &[Part::Text(b"{\"OTIO_SCHEMA\":\"Gap.1\"}")],
+        Part::Text(b""),
         (
             "convert --to edl --media twice.txt t.otio",
             Status::Refused,
@@ -368,8 +496,8 @@ const LEFT: [Film; 22] = [
         ),
     ),
     (
-        &[b"{\"OTIO_SCHEMA\":\"Gap.1\"}"],
-        b"",
+        &[Part::Text(b"{\"OTIO_SCHEMA\":\"Gap.1\"}")],
+        Part::Text(b""),
         (
             "convert --to edl --media gone.txt t.otio",
             Status::Input,
@@ -381,10 +509,10 @@ const LEFT: [Film; 22] = [
 
 /// What is carried: nothing, a dissolve, one into a faster clip, one into a gap, a long reel, a
 /// track that is disabled, and a clip that is.
-const WRITTEN: [Film; 7] = [
+static WRITTEN: [Film; 7] = [
     (
         &[],
-        b"",
+        Part::Text(b""),
         (
             "convert --to edl t.otio",
             Status::Done,
@@ -395,21 +523,21 @@ const WRITTEN: [Film; 7] = [
     ),
     (
         &[
-            TRACK,
-            CLIP,
-            FIRST,
-            MEDIA,
-            b"},",
-            CROSS,
-            TEN_BEFORE,
-            b"},",
-            CLIP,
-            SECOND,
-            OTHER_MEDIA,
-            b"}",
-            b"]}",
+            Part::Track,
+            Part::Clip,
+            Part::First,
+            Part::Media,
+            Part::Text(b"},"),
+            Part::Cross,
+            Part::TenBefore,
+            Part::Text(b"},"),
+            Part::Clip,
+            Part::Second,
+            Part::OtherMedia,
+            Part::Text(b"}"),
+            Part::Text(b"]}"),
         ],
-        FIFTEEN,
+        Part::Fifteen,
         (
             "convert --to edl --media m.txt t.otio",
             Status::Done,
@@ -427,22 +555,22 @@ FCM: NON-DROP FRAME
     ),
     (
         &[
-            TRACK,
-            CLIP,
-            FIRST,
-            MEDIA,
-            b"},",
-            CROSS,
-            TWELVE_BEFORE,
-            b"},",
-            CLIP,
-            SECOND,
-            OTHER_MEDIA,
-            FASTER,
-            b"}",
-            b"]}",
+            Part::Track,
+            Part::Clip,
+            Part::First,
+            Part::Media,
+            Part::Text(b"},"),
+            Part::Cross,
+            Part::TwelveBefore,
+            Part::Text(b"},"),
+            Part::Clip,
+            Part::Second,
+            Part::OtherMedia,
+            Part::Faster,
+            Part::Text(b"}"),
+            Part::Text(b"]}"),
         ],
-        FIFTEEN,
+        Part::Fifteen,
         (
             "convert --to edl --media m.txt t.otio",
             Status::Done,
@@ -461,17 +589,17 @@ M2   B1       036.0                00:00:07:14
     ),
     (
         &[
-            TRACK,
-            CLIP,
-            b",\"name\":\"a\"",
-            b"},",
-            CROSS,
-            TEN_BEFORE,
-            b"},",
-            GAP,
-            b"]}",
+            Part::Track,
+            Part::Clip,
+            Part::Text(b",\"name\":\"a\""),
+            Part::Text(b"},"),
+            Part::Cross,
+            Part::TenBefore,
+            Part::Text(b"},"),
+            Part::Gap,
+            Part::Text(b"]}"),
         ],
-        b"",
+        Part::Text(b""),
         (
             "convert --to edl t.otio",
             Status::Done,
@@ -486,8 +614,14 @@ M2   B1       036.0                00:00:07:14
         ),
     ),
     (
-        &[TRACK, CLIP, LONG_REEL, b"}", b"]}"],
-        b"",
+        &[
+            Part::Track,
+            Part::Clip,
+            Part::LongReel,
+            Part::Text(b"}"),
+            Part::Text(b"]}"),
+        ],
+        Part::Text(b""),
         (
             "convert --to edl --wide t.otio",
             Status::Done,
@@ -499,16 +633,16 @@ M2   B1       036.0                00:00:07:14
     ),
     (
         &[
-            TRACK,
-            CLIP,
-            b"}",
-            b"],\"enabled\":false},",
-            TRACK,
-            CLIP,
-            b"}",
-            b"],\"kind\":\"Audio\"}",
+            Part::Track,
+            Part::Clip,
+            Part::Text(b"}"),
+            Part::Text(b"],\"enabled\":false},"),
+            Part::Track,
+            Part::Clip,
+            Part::Text(b"}"),
+            Part::Text(b"],\"kind\":\"Audio\"}"),
         ],
-        b"",
+        Part::Text(b""),
         (
             "convert --to edl t.otio",
             Status::Done,
@@ -520,14 +654,14 @@ M2   B1       036.0                00:00:07:14
     ),
     (
         &[
-            TRACK,
-            CLIP,
-            b",\"enabled\":false,\"metadata\":{}},",
-            CLIP,
-            b"}",
-            b"]}",
+            Part::Track,
+            Part::Clip,
+            Part::Text(b",\"enabled\":false,\"metadata\":{}},"),
+            Part::Clip,
+            Part::Text(b"}"),
+            Part::Text(b"]}"),
         ],
-        b"",
+        Part::Text(b""),
         (
             "convert --to edl t.otio",
             Status::Done,
@@ -539,156 +673,97 @@ M2   B1       036.0                00:00:07:14
     ),
 ];
 
-// The text of a timeline.
-fn film_of(alloc: Global, tracks: &[&[u8]], more: &[u8]) -> Result<Vec<u8>, AllocError> {
-    let mut text = ROOT.to_vec(alloc)?;
+fn put_parts(text: &mut Vec<u8>, tracks: &[Part], more: Part) -> Result<(), AllocError> {
+    text.extend_from_slice(ROOT)?;
     for part in tracks {
-        text.extend_from_slice(part)?;
+        text.extend_from_slice(text_of(*part))?;
     }
     text.extend_from_slice(b"]}")?;
-    text.extend_from_slice(more)?;
+    text.extend_from_slice(text_of(more))?;
     text.push(b'}')?;
+    Ok(())
+}
+
+// The text of a timeline.
+fn film_of(alloc: Global, tracks: &[Part], more: Part) -> Result<Vec<u8>, AllocError> {
+    let mut text = Vec::new(alloc);
+    put_parts(&mut text, tracks, more)?;
     Ok(text)
 }
 
-// Media lists, and this timeline.
-fn some_files(alloc: Global, film: &[u8]) -> Result<MemFiles, AllocError> {
-    let mut files = MemFiles::new(alloc);
-    files.put("t.otio", film)?;
-    files.put("m.txt", b"A1\t24\t0\t1000\ta.mov\nB1\t24\t0\t1000\tb.mov\n")?;
-    files.put("short.txt", b"A1\t24\t0\t23\ta.mov\n")?;
-    files.put("twice.txt", b"A1\t24\t0\t9\ta.mov\nA1\t24\t0\t9\tb.mov\n")?;
-    Ok(files)
+// Media lists.
+static MEDIA_LISTS: [Named; 3] = [
+    ("m.txt", b"A1\t24\t0\t1000\ta.mov\nB1\t24\t0\t1000\tb.mov\n"),
+    ("short.txt", b"A1\t24\t0\t23\ta.mov\n"),
+    ("twice.txt", b"A1\t24\t0\t9\ta.mov\nA1\t24\t0\t9\tb.mov\n"),
+];
+
+// Holds some cases over files of which a read gives at most so many bytes.
+fn check_at_most(
+    rt: &impl Abort,
+    alloc: Global,
+    files: &mut MemFiles,
+    most: usize,
+    cases: &[Case<'_>],
+) -> Result<(), Fail>
+    requires { 0 < most }
+{
+    files.piece(most);
+    check_cases(rt, alloc, files, cases)
 }
 
-fn check_film(rt: &impl Abort, alloc: Global, film: &Film) -> Result<(), Fail> {
+/// Holds some cases over files that are read in pieces of several sizes.
+pub fn check_any_pieces(
+    rt: &impl Abort,
+    alloc: Global,
+    files: &mut MemFiles,
+    cases: &[Case<'_>],
+) -> Result<(), Fail> {
+    check_at_most(rt, alloc, files, 4096, cases)?;
+    check_at_most(rt, alloc, files, 1, cases)?;
+    check_at_most(rt, alloc, files, 2, cases)?;
+    check_at_most(rt, alloc, files, 7, cases)
+}
+
+fn check_film(
+    rt: &impl Abort,
+    alloc: Global,
+    files: &mut MemFiles,
+    film: &Film,
+) -> Result<(), Fail> {
     let (tracks, more, case) = film;
-    let text = film_of(alloc, tracks, more)?;
-    for most in [4096, 1, 2, 7] {
-        let mut files = some_files(alloc, text.as_slice())?;
-        files.piece(most);
-        check_case(rt, alloc, &mut files, case)?;
+    let text = film_of(alloc, tracks, *more)?;
+    let put = files.put("t.otio", &text);
+    drop(text);
+    put?;
+    check_any_pieces(rt, alloc, files, from_ref(case))
+}
+
+fn check_each_film(
+    rt: &impl Abort,
+    alloc: Global,
+    files: &mut MemFiles,
+    films: &[Film],
+) -> Result<(), Fail> {
+    for film in films {
+        check_film(rt, alloc, files, film)?;
     }
     Ok(())
+}
+
+fn check_films(rt: &impl Abort, alloc: Global, films: &[Film]) -> Result<(), Fail> {
+    let mut files = files_of(alloc, &MEDIA_LISTS)?;
+    let held = check_each_film(rt, alloc, &mut files, films);
+    drop(files);
+    held
 }
 
 #[test]
 fn what_is_not_carried_is_told(rt: HostRuntime) -> Result<(), Fail> {
-    for film in &LEFT {
-        check_film(&rt, rt.alloc(), film)?;
-    }
-    Ok(())
+    check_films(&rt, rt.alloc(), &LEFT)
 }
 
 #[test]
 fn timelines_are_written_as_lists(rt: HostRuntime) -> Result<(), Fail> {
-    for film in &WRITTEN {
-        check_film(&rt, rt.alloc(), film)?;
-    }
-    Ok(())
-}
-
-const WIDE: &[u8] = b"1000 A001C003_240101 V C 01:00:00:00 01:00:01:00 00:00:00:00 00:00:01:00\n";
-
-// The second event has a wide reel, and the first one a label past the day of drop-frame timecode.
-const WIDE_AND_LATE: &[u8] = b"1 T1 V C 00:00:00:00 00:00:00:01 23:59:59:28 23:59:59:29
-2 A001C003_240101 V C 00:00:00:00 00:00:00:01 00:00:00:00 00:00:00:01
-";
-
-const WIDE_CASES: [Case; 5] = [
-    (
-        "convert --to edl --wide w.edl",
-        Status::Done,
-        b"FCM: NON-DROP FRAME
-000001  A001C003_240101                  V     C        01:00:00:00 01:00:01:00 00:00:00:00 00:00:01:00
-",
-        b"",
-    ),
-    (
-        "convert --to edl w.edl",
-        Status::Refused,
-        b"",
-        b"otio: w.edl: L11 Reel at 1\n",
-    ),
-    (
-        "convert --to edl --rate 29.97 --drop late.edl",
-        Status::Refused,
-        b"",
-        b"otio: late.edl: L11 Reel at 2\n",
-    ),
-    (
-        "convert --to edl --rate 29.97 --drop --wide late.edl",
-        Status::Refused,
-        b"",
-        b"otio: late.edl: L10 Day at 1\n",
-    ),
-    (
-        "convert --to json --wide one.json",
-        Status::Done,
-        b"1\n",
-        b"",
-    ),
-];
-
-#[test]
-fn long_reels_are_written_wide(rt: HostRuntime) -> Result<(), Fail> {
-    for most in [4096, 1, 2, 7] {
-        let mut files = MemFiles::new(rt.alloc());
-        files.put("w.edl", WIDE)?;
-        files.put("late.edl", WIDE_AND_LATE)?;
-        files.put("one.json", b"1")?;
-        files.piece(most);
-        for case in &WIDE_CASES {
-            check_case(&rt, rt.alloc(), &mut files, case)?;
-        }
-    }
-    Ok(())
-}
-
-// A timeline of a track of so many clips.
-fn long_film(alloc: Global, clips: u32) -> Result<Vec<u8>, AllocError> {
-    let mut text = ROOT.to_vec(alloc)?;
-    text.extend_from_slice(TRACK)?;
-    for clip in 0..clips {
-        if 0 < clip {
-            text.push(b',')?;
-        }
-        text.extend_from_slice(CLIP)?;
-        text.push(b'}')?;
-    }
-    text.extend_from_slice(b"]}]}}")?;
-    Ok(text)
-}
-
-// Holds how a timeline of so many clips is answered, and how many lines are sent.
-fn check_long(
-    rt: &impl Abort,
-    alloc: Global,
-    clips: u32,
-    line: &str,
-    status: Status,
-    lines: usize,
-) -> Result<(), Fail> {
-    let mut files = MemFiles::new(alloc);
-    files.put("t.otio", long_film(alloc, clips)?.as_slice())?;
-    let mut out = MemOut::new(alloc, 120_000)?;
-    let mut err = MemOut::new(alloc, 100)?;
-    let ended = status_of(alloc, line, &mut files, &mut out, &mut err)?;
-    assert_eq!(rt; ended, status);
-    let sent = out.sent().iter().filter(|b| **b == b'\n').count();
-    assert_eq!(rt; sent, lines);
-    if status == Status::Refused {
-        assert_eq!(rt; err.sent(), b"otio: t.otio: N13 Events at .\n".as_slice());
-    }
-    Ok(())
-}
-
-#[test]
-fn a_wide_list_has_more_than_999_events(rt: HostRuntime) -> Result<(), Fail> {
-    let alloc = rt.alloc();
-    let narrow = "convert --to edl t.otio";
-    let wide = "convert --to edl --wide t.otio";
-    check_long(&rt, alloc, 999, narrow, Status::Done, 1000)?;
-    check_long(&rt, alloc, 1000, narrow, Status::Refused, 0)?;
-    check_long(&rt, alloc, 1000, wide, Status::Done, 1001)
+    check_films(&rt, rt.alloc(), &WRITTEN)
 }

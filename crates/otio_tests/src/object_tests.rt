@@ -1,7 +1,7 @@
 //! Objects that are read and written again, also by way of their JSON values, and texts that stand
 //! for none.
 
-use crate::runs::status_of;
+use crate::runs::{Case, Manner, WHOLE, answer_to, check_case_over, ended, put_text, was_sent};
 use crate::texts::{REFUSED, REWRITTEN};
 use dev_io::{MemFiles, MemOut};
 use json_layout::write_json;
@@ -37,120 +37,129 @@ fn is_squeezed(bytes: &[u8], text: &[u8]) -> bool {
 fn check(
     rt: &impl Abort,
     alloc: Global,
-    text: &[u8],
+    files: &mut MemFiles,
+    text: &str,
     status: Status,
     written: &str,
     told: &str,
 ) -> Result<(), Fail> {
-    let mut files = MemFiles::new(alloc);
-    files.put("a.otio", text)?;
-    let mut out = MemOut::new(alloc, 4000)?;
-    let mut err = MemOut::new(alloc, 100)?;
-    let ended = status_of(alloc, "convert a.otio", &mut files, &mut out, &mut err)?;
-    assert_eq!(rt; ended, status);
-    assert!(rt; is_squeezed(out.sent(), written.as_bytes()));
-    let message = err.sent();
-    if told.is_empty() {
-        assert!(rt; message.is_empty());
-    } else {
-        assert_eq!(rt;
-            message.strip_prefix(b"otio: a.otio: "),
-            Some(told.as_bytes())
-        );
+    let line = "convert a.otio";
+    files.put("a.otio", text.as_bytes())?;
+    let answer = answer_to(alloc, files, line)?;
+    ended(rt, line, &answer, status);
+    assert!(rt;
+        is_squeezed(answer.out.sent(), written.as_bytes()),
+        "{text}"
+    );
+    was_sent(rt, text, &answer.err, told.as_bytes());
+    drop(answer);
+    Ok(())
+}
+
+fn check_rewritten(rt: &impl Abort, alloc: Global, files: &mut MemFiles) -> Result<(), Fail> {
+    for case in &REWRITTEN {
+        check(rt, alloc, files, case.text, Status::Done, case.written, "")?;
+    }
+    Ok(())
+}
+
+fn check_refused(rt: &impl Abort, alloc: Global, files: &mut MemFiles) -> Result<(), Fail> {
+    for case in &REFUSED {
+        check(rt, alloc, files, case.text, Status::Refused, "", case.told)?;
     }
     Ok(())
 }
 
 #[test]
 fn objects_are_written_again(rt: HostRuntime) -> Result<(), Fail> {
-    for case in &REWRITTEN {
-        check(
-            &rt,
-            rt.alloc(),
-            case.text.as_bytes(),
-            Status::Done,
-            case.written,
-            "",
-        )?;
-    }
-    Ok(())
+    let mut files = MemFiles::new(rt.alloc());
+    let held = check_rewritten(&rt, rt.alloc(), &mut files);
+    drop(files);
+    held
 }
 
 #[test]
 fn first_faults_are_told(rt: HostRuntime) -> Result<(), Fail> {
-    for case in &REFUSED {
-        check(
-            &rt,
-            rt.alloc(),
-            case.text.as_bytes(),
-            Status::Refused,
-            "",
-            case.told,
-        )?;
-    }
-    Ok(())
+    let mut files = MemFiles::new(rt.alloc());
+    let held = check_refused(&rt, rt.alloc(), &mut files);
+    drop(files);
+    held
 }
 
-/// The text of a timeline of so many gaps.
-fn gaps(alloc: Global, count: usize) -> Result<String, AllocError> {
-    let mut text = String::from_str(
-        alloc,
-        r#"{"OTIO_SCHEMA":"Timeline.1","tracks":{"OTIO_SCHEMA":"Stack.1","children":["#,
-    )?;
+fn put_gaps(text: &mut String, count: usize) -> Result<(), AllocError> {
+    text.push_str(r#"{"OTIO_SCHEMA":"Timeline.1","tracks":{"OTIO_SCHEMA":"Stack.1","children":["#)?;
     for index in 0..count {
         if index > 0 {
             text.push_str(",")?;
         }
         text.push_str(r#"{"OTIO_SCHEMA":"Gap.1"}"#)?;
     }
-    text.push_str("]}}")?;
-    Ok(text)
+    text.push_str("]}}")
 }
 
-/// The status that a timeline of so many gaps is converted with, where all output fails.
-fn status_of_gaps(alloc: Global, count: usize) -> Result<Status, AllocError> {
-    let text = gaps(alloc, count)?;
-    let mut files = MemFiles::new(alloc);
-    files.put("a.otio", text.as_str().as_bytes())?;
-    let mut out = MemOut::new(alloc, 0)?;
-    let mut err = MemOut::new(alloc, 100)?;
-    status_of(alloc, "convert a.otio", &mut files, &mut out, &mut err)
+/// The text of a timeline of so many gaps.
+fn gaps(alloc: Global, count: usize) -> Result<String, AllocError> {
+    let mut text = String::new(alloc);
+    put_gaps(&mut text, count)?;
+    Ok(text)
 }
 
 #[test]
 fn a_timeline_of_1000_gaps_is_read(rt: HostRuntime) -> Result<(), Fail> {
-    assert_eq!(rt; status_of_gaps(rt.alloc(), 1_000)?, Status::Output);
-    Ok(())
+    let out = Manner {
+        failing: 1,
+        ..WHOLE
+    };
+    let told = b"otio: output failed\n";
+    let case: Case = ("convert a.otio", Status::Output, b"", told);
+    let mut files = MemFiles::new(rt.alloc());
+    put_text(&mut files, "a.otio", gaps(rt.alloc(), 1_000))?;
+    let held = check_case_over(&rt, rt.alloc(), &mut files, &case, out, WHOLE);
+    drop(files);
+    held
+}
+
+/// The object that the file `a.otio` stands for; none where it stands for none.
+fn root_of(alloc: Global, files: &mut MemFiles) -> Option<Object> {
+    let source = Source {
+        name: "a.otio",
+        kind: Kind::Object,
+    };
+    match read_source(alloc, &source, files) {
+        Ok(Content::Root(object)) => Some(object),
+        Ok(content) => {
+            forget(content);
+            None
+        }
+        Err(_) => None,
+    }
 }
 
 /// The object that a text stands for; none where it stands for none.
 fn object_in(alloc: Global, text: &[u8]) -> Result<Option<Object>, AllocError> {
     let mut files = MemFiles::new(alloc);
     files.put("a.otio", text)?;
-    let source = Source {
-        name: "a.otio",
-        kind: Kind::Object,
-    };
-    match read_source(alloc, &source, &mut files) {
-        Ok(Content::Root(object)) => Ok(Some(object)),
-        Ok(content) => {
-            forget(content);
-            Ok(None)
-        }
-        Err(_) => Ok(None),
-    }
+    let object = root_of(alloc, &mut files);
+    drop(files);
+    Ok(object)
 }
 
-/// What is written of the JSON value of a text's object, in room for so many bytes; nothing where
-/// the text stands for none.
-fn value_written(alloc: Global, text: &[u8], room: usize) -> Result<MemOut, AllocError> {
-    let mut out = MemOut::new(alloc, room)?;
+/// Writes the JSON value of a text's object; nothing where the text stands for none.
+fn write_value(alloc: Global, text: &[u8], out: &mut MemOut) -> Result<(), AllocError> {
     if let Some(object) = object_in(alloc, text)? {
         let made = json_of(alloc, &object);
         forget(object);
         let value = made?;
-        let _ = write_json(&value, &mut out);
+        let _ = write_json(&value, out);
+        drop(value);
     }
+    Ok(())
+}
+
+/// What is written of it, in room for so many bytes.
+fn value_written(alloc: Global, text: &[u8], room: usize) -> Result<MemOut, AllocError> {
+    let mut out = MemOut::new(alloc, room)?;
+    write_value(alloc, text, &mut out)?;
     Ok(out)
 }
 
@@ -159,6 +168,7 @@ fn values_of_objects_are_written(rt: HostRuntime) -> Result<(), Fail> {
     for case in &REWRITTEN {
         let out = value_written(rt.alloc(), case.text.as_bytes(), 4000)?;
         assert!(rt; is_squeezed(out.sent(), case.written.as_bytes()));
+        drop(out);
     }
     Ok(())
 }
@@ -167,7 +177,10 @@ fn values_of_objects_are_written(rt: HostRuntime) -> Result<(), Fail> {
 fn a_timeline_of_1000_gaps_has_a_value(rt: HostRuntime) -> Result<(), Fail> {
     let alloc = rt.alloc();
     let text = gaps(alloc, 1_000)?;
-    let out = value_written(alloc, text.as_bytes(), 400_000)?;
+    let written = value_written(alloc, text.as_bytes(), 400_000);
+    drop(text);
+    let out = written?;
     assert!(rt; out.sent().ends_with(b"}\n"));
+    drop(out);
     Ok(())
 }

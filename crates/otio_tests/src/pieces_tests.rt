@@ -1,7 +1,11 @@
 //! Files that are read in pieces.
 
-use crate::runs::status_of;
-use dev_io::{MemFiles, MemOut};
+ghost use Rattle.std.specs.Prelude.{◌<◌};
+
+use crate::runs::{
+    Answer, Case, Manner, Named, answer_to, check_pieces, ended, files_of, was_sent,
+};
+use dev_io::MemFiles;
 use otio_tools::Status;
 use std::alloc::{AllocError, Global};
 use std::process::Abort;
@@ -14,9 +18,9 @@ const GAP: &[u8] =
     b"{\"OTIO_SCHEMA\":\"Gap.1\",\"name\":\"\\u00e9\",\"metadata\":{\"a\":[1.50,null]}}";
 
 // A command line, how it ends, and what is told.
-type Case = (&'static str, Status, &'static [u8]);
+type Told = (&'static str, Status, &'static [u8]);
 
-const CASES: [Case; 9] = [
+static CASES: [Told; 9] = [
     ("convert --to edl a.edl", Status::Done, b""),
     ("convert gap.otio", Status::Done, b""),
     ("convert --to json gap.otio", Status::Done, b""),
@@ -44,122 +48,155 @@ const CASES: [Case; 9] = [
     ),
 ];
 
-fn some_files(alloc: Global) -> Result<MemFiles, AllocError> {
-    let mut files = MemFiles::new(alloc);
-    files.put("a.edl", LIST)?;
-    files.put("form.edl", b"TITLE: E\n1 T1 V C 00:00:00:00\n* behind\n")?;
-    files.put("gap.otio", GAP)?;
-    files.put("comma.json", b"[1,]")?;
-    files.put("pair.json", b"[1,2]")?;
-    files.put("utf8.json", b"[\"\xc3\xff\"]")?;
-    files.put("m.txt", b"TAPE1\t24\t0\t200000\ta.mov\n")?;
-    files.put("twice.txt", b"A\t24\t0\t1\tu\nB\t24\t0\t1\tu\n")?;
-    Ok(files)
-}
+static FILES: [Named; 8] = [
+    ("a.edl", LIST),
+    ("form.edl", b"TITLE: E\n1 T1 V C 00:00:00:00\n* behind\n"),
+    ("gap.otio", GAP),
+    ("comma.json", b"[1,]"),
+    ("pair.json", b"[1,2]"),
+    ("utf8.json", b"[\"\xc3\xff\"]"),
+    ("m.txt", b"TAPE1\t24\t0\t200000\ta.mov\n"),
+    ("twice.txt", b"A\t24\t0\t1\tu\nB\t24\t0\t1\tu\n"),
+];
 
-// Runs a command line over files of which a read gives at most so many bytes, at least one, and
-// says what was sent.
-fn output_in_pieces(
+// How a command line is answered over files of which a read gives at most so many bytes. Holds its
+// end and what is told.
+fn answer_in_pieces(
     rt: &impl Abort,
     alloc: Global,
+    files: &mut MemFiles,
     most: usize,
-    case: &Case,
-) -> Result<Vec<u8>, Fail> {
-    assert!(rt; 0 < most);
+    case: &Told,
+) -> Result<Answer, Fail>
+    requires { 0 < most }
+{
     let (line, status, message) = *case;
-    let mut files = some_files(alloc)?;
     files.piece(most);
-    let mut out = MemOut::new(alloc, 6000)?;
-    let mut err = MemOut::new(alloc, 100)?;
-    let ended = status_of(alloc, line, &mut files, &mut out, &mut err)?;
-    assert_eq!(rt; ended, status, "{line}");
-    assert_eq!(rt; err.sent(), message, "{line}");
-    Ok(out.sent().to_vec(alloc)?)
+    let answer = answer_to(alloc, files, line)?;
+    ended(rt, line, &answer, status);
+    was_sent(rt, line, &answer.err, message);
+    Ok(answer)
 }
 
-#[test]
-fn pieces_of_any_size_give_one_answer(rt: HostRuntime) -> Result<(), Fail> {
-    let alloc = rt.alloc();
+// Holds that such pieces give the same output.
+fn check_pieces_of(
+    rt: &impl Abort,
+    alloc: Global,
+    files: &mut MemFiles,
+    most: usize,
+    case: &Told,
+    whole: &Answer,
+) -> Result<(), Fail>
+    requires { 0 < most }
+{
+    let answer = answer_in_pieces(rt, alloc, files, most, case)?;
+    assert_eq!(rt; answer.out.sent(), whole.out.sent());
+    drop(answer);
+    Ok(())
+}
+
+// Holds that pieces of any size give one answer.
+fn check_any_pieces(
+    rt: &impl Abort,
+    alloc: Global,
+    files: &mut MemFiles,
+    case: &Told,
+    whole: &Answer,
+) -> Result<(), Fail> {
+    check_pieces_of(rt, alloc, files, 1, case, whole)?;
+    check_pieces_of(rt, alloc, files, 2, case, whole)?;
+    check_pieces_of(rt, alloc, files, 7, case, whole)
+}
+
+fn check_each(rt: &impl Abort, alloc: Global, files: &mut MemFiles) -> Result<(), Fail> {
     for case in &CASES {
-        let whole = output_in_pieces(&rt, alloc, 4096, case)?;
-        for most in [1, 2, 7] {
-            let sent = output_in_pieces(&rt, alloc, most, case)?;
-            assert_eq!(rt; sent.as_slice(), whole.as_slice());
-        }
+        let whole = answer_in_pieces(rt, alloc, files, 4096, case)?;
+        let held = check_any_pieces(rt, alloc, files, case, &whole);
+        drop(whole);
+        held?;
     }
     Ok(())
 }
 
-// Runs a command line over files in pieces of four bytes of which that call fails.
-fn check_failing(
-    rt: &impl Abort,
-    alloc: Global,
-    call: u64,
-    line: &str,
-    status: Status,
-    message: &[u8],
-) -> Result<(), Fail> {
-    let mut files = some_files(alloc)?;
-    files.piece(4);
-    files.fail_on(call)?;
-    let mut out = MemOut::new(alloc, 100)?;
-    let mut err = MemOut::new(alloc, 100)?;
-    let ended = status_of(alloc, line, &mut files, &mut out, &mut err)?;
-    assert_eq!(rt; ended, status, "{line}");
-    assert_eq!(rt; err.sent(), message, "{line}");
-    Ok(())
+#[test]
+fn pieces_of_any_size_give_one_answer(rt: HostRuntime) -> Result<(), Fail> {
+    let mut files = files_of(rt.alloc(), &FILES)?;
+    let held = check_each(&rt, rt.alloc(), &mut files);
+    drop(files);
+    held
 }
 
 #[test]
 fn nothing_is_read_behind_a_fault(rt: HostRuntime) -> Result<(), Fail> {
     let alloc = rt.alloc();
-    let comma = b"otio: comma.json: J1 Syntax at 3\n".as_slice();
-    let pair = b"otio: pair.json: read failed\n".as_slice();
-    check_failing(
-        &rt,
-        alloc,
-        3,
+    let comma: Case = (
         "convert --to json comma.json",
         Status::Refused,
-        comma,
-    )?;
-    check_failing(
-        &rt,
-        alloc,
-        3,
+        b"",
+        b"otio: comma.json: J1 Syntax at 3\n",
+    );
+    let pair: Case = (
         "convert --to json pair.json",
         Status::Input,
-        pair,
-    )
+        b"",
+        b"otio: pair.json: read failed\n",
+    );
+    let manner = Manner {
+        most: 4,
+        failing: 3,
+    };
+    check_pieces(&rt, alloc, &FILES, manner, &comma)?;
+    check_pieces(&rt, alloc, &FILES, manner, &pair)
 }
 
-// Runs `convert --to json` over one file of that text, of which that call fails.
-fn run_over(alloc: Global, text: &[u8], call: u64) -> Result<(Status, usize), AllocError> {
-    let mut files = MemFiles::new(alloc);
-    files.put("f.json", text)?;
-    files.fail_on(call)?;
-    let mut out = MemOut::new(alloc, 20000)?;
-    let mut err = MemOut::new(alloc, 100)?;
-    let line = "convert --to json f.json";
-    let status = status_of(alloc, line, &mut files, &mut out, &mut err)?;
-    Ok((status, out.sent().len()))
-}
-
-// A file of 10 000 bytes is opened and read in pieces of 4 096, 4 096 and 1 808 bytes, and then at
-// its end.
-#[test]
-fn a_file_is_read_in_pieces_of_4096_bytes(rt: HostRuntime) -> Result<(), Fail> {
-    let alloc = rt.alloc();
+// A text of 10 000 bytes.
+fn long_text(alloc: Global) -> Result<Vec<u8>, AllocError> {
     let mut text = Vec::new(alloc);
     text.push(b'"')?;
     for _ in 0..9998 {
         text.push(b'a')?;
     }
     text.push(b'"')?;
-    assert_eq!(rt; run_over(alloc, text.as_slice(), 4)?, (Status::Input, 0));
-    assert_eq!(rt; run_over(alloc, text.as_slice(), 5)?, (Status::Input, 0));
-    assert_eq!(rt; run_over(alloc, text.as_slice(), 6)?, (Status::Done, 10001));
+    Ok(text)
+}
+
+// Adds this text, and lets that call on the files fail.
+fn put_failing(alloc: Global, files: &mut MemFiles, call: u64) -> Result<(), AllocError> {
+    let text = long_text(alloc)?;
+    let put = files.put("f.json", &text);
+    drop(text);
+    put?;
+    files.fail_on(call)
+}
+
+// Holds how `convert --to json` over a long text of which that call fails ends, and how many bytes
+// are sent.
+fn check_call(
+    rt: &impl Abort,
+    alloc: Global,
+    call: u64,
+    status: Status,
+    sent: usize,
+) -> Result<(), Fail> {
+    let mut files = MemFiles::new(alloc);
+    put_failing(alloc, &mut files, call)?;
+    let line = "convert --to json f.json";
+    let answered = answer_to(alloc, &mut files, line);
+    drop(files);
+    let answer = answered?;
+    ended(rt, line, &answer, status);
+    assert_eq!(rt; answer.out.sent().len(), sent);
+    drop(answer);
     Ok(())
+}
+
+// A file of 10 000 bytes is opened and read in pieces of 4 096, 4 096 and 1 808 bytes, and then at
+// its end.
+#[test]
+fn a_file_is_read_in_pieces_of_4096_bytes(rt: HostRuntime) -> Result<(), Fail> {
+    check_call(&rt, rt.alloc(), 4, Status::Input, 0)?;
+    check_call(&rt, rt.alloc(), 5, Status::Input, 0)?;
+    check_call(&rt, rt.alloc(), 6, Status::Done, 10001)
 }
 
 // Adds a number of two digits.
@@ -190,25 +227,36 @@ fn list_of(alloc: Global, events: u32) -> Result<Vec<u8>, AllocError> {
     Ok(text)
 }
 
+fn put_list(alloc: Global, files: &mut MemFiles, events: u32) -> Result<(), AllocError> {
+    let text = list_of(alloc, events)?;
+    let put = files.put("many.edl", &text);
+    drop(text);
+    put
+}
+
+// Holds how a list of so many events is written, and what is told.
+fn check_many(
+    rt: &impl Abort,
+    alloc: Global,
+    events: u32,
+    status: Status,
+    message: &[u8],
+) -> Result<(), Fail> {
+    let mut files = MemFiles::new(alloc);
+    put_list(alloc, &mut files, events)?;
+    let line = "convert --to edl many.edl";
+    let answered = answer_to(alloc, &mut files, line);
+    drop(files);
+    let answer = answered?;
+    ended(rt, line, &answer, status);
+    was_sent(rt, line, &answer.err, message);
+    drop(answer);
+    Ok(())
+}
+
 #[test]
 fn a_list_is_written_with_999_events_at_most(rt: HostRuntime) -> Result<(), Fail> {
-    let alloc = rt.alloc();
-    for (events, status, message) in [
-        (999, Status::Done, b"".as_slice()),
-        (
-            1000,
-            Status::Refused,
-            b"otio: many.edl: N13 Events at .\n".as_slice(),
-        ),
-    ] {
-        let mut files = MemFiles::new(alloc);
-        files.put("many.edl", list_of(alloc, events)?.as_slice())?;
-        let mut out = MemOut::new(alloc, 100000)?;
-        let mut err = MemOut::new(alloc, 100)?;
-        let line = "convert --to edl many.edl";
-        let ended = status_of(alloc, line, &mut files, &mut out, &mut err)?;
-        assert_eq!(rt; ended, status);
-        assert_eq!(rt; err.sent(), message);
-    }
-    Ok(())
+    check_many(&rt, rt.alloc(), 999, Status::Done, b"")?;
+    let told = b"otio: many.edl: N13 Events at .\n";
+    check_many(&rt, rt.alloc(), 1000, Status::Refused, told)
 }

@@ -1,7 +1,11 @@
-use crate::runs::{Case, check_case, check_cut_off, check_refused, check_usage, status_of};
-use dev_io::{MemFiles, MemOut};
+use crate::runs::{
+    Case, Manner, Named, WHOLE, check_all, check_all_usages, check_case_over, check_cut_offs,
+    check_pieces, check_refused, check_target, files_of,
+};
+use dev_io::MemFiles;
 use otio_tools::Status;
-use std::alloc::{AllocError, Global};
+use std::alloc::Global;
+use std::process::Abort;
 use std::test::Fail;
 
 const ONE: &[u8] =
@@ -23,57 +27,51 @@ const SOUND_SPELLED: &[u8] = b"FCM: NON-DROP FRAME
 003  T1       A2    C        00:00:00:00 00:00:01:00 00:00:00:00 00:00:01:00
 ";
 
-fn some_files(alloc: Global) -> Result<MemFiles, AllocError> {
-    let mut files = MemFiles::new(alloc);
-    files.put("a.edl", ONE)?;
-    files.put("empty.edl", b"TITLE: EMPTY")?;
-    files.put(
+// Lists, an object of each kind of answer, and texts.
+static FILES: [Named; 27] = [
+    ("a.edl", ONE),
+    ("empty.edl", b"TITLE: EMPTY"),
+    (
         "unequal.edl",
         b"1 T1 V C 00:00:00:00 00:00:01:00 00:00:00:00 00:00:02:00",
-    )?;
-    files.put("-b.edl", ONE)?;
-    files.put("drop.edl", DROP)?;
-    files.put("plain.edl", PLAIN)?;
-    files.put("title.edl", b"TITLE: E")?;
-    files.put(
+    ),
+    ("-b.edl", ONE),
+    ("drop.edl", DROP),
+    ("plain.edl", PLAIN),
+    ("title.edl", b"TITLE: E"),
+    (
         "sound.edl",
         b"1 T1 AA/V C 00:00:00:00 00:00:01:00 00:00:00:00 00:00:01:00",
-    )?;
-    files.put(
+    ),
+    (
         "day.edl",
         b"1 T1 V C 00:00:00:00 00:00:00:01 23:59:59:28 23:59:59:29",
-    )?;
-    files.put("form.edl", b"* first\n1 T1 V C 00:00:00:00\n")?;
-    some_objects(&mut files)?;
-    files.put("list.json", b"[1,2]")?;
-    files.put("twice.json", b"{\"a\":1,\"b\":2,\"a\":3}")?;
-    files.put("half.json", b"[\"\\ud800\"]")?;
-    files.put("comma.json", b"[1,]")?;
-    files.put("nought.json", b"01")?;
-    files.put("early.json", b"\"\\u12")?;
-    files.put("nul", b"nul ")?;
-    files.put("deep.json", &[b'['; 128])?;
-    files.put("utf8.json", b"[\"\xff\"]")?;
-    files.put("-", b"true")?;
-    Ok(files)
-}
-
-// An object of each kind of answer.
-fn some_objects(files: &mut MemFiles) -> Result<(), AllocError> {
-    files.put(
+    ),
+    ("form.edl", b"* first\n1 T1 V C 00:00:00:00\n"),
+    (
         "c.otio",
         b"{\"OTIO_SCHEMA\":\"Clip.1\",\"name\":\"s\",\"media_reference\":null}",
-    )?;
-    files.put("newer.otio", b"{\"OTIO_SCHEMA\":\"Clip.3\"}")?;
-    files.put("enabled.otio", b"{\"OTIO_SCHEMA\":\"Gap.1\",\"enabled\":1}")?;
-    files.put(
+    ),
+    ("newer.otio", b"{\"OTIO_SCHEMA\":\"Clip.3\"}"),
+    ("enabled.otio", b"{\"OTIO_SCHEMA\":\"Gap.1\",\"enabled\":1}"),
+    (
         "effect.otio",
         b"{\"OTIO_SCHEMA\":\"Gap.1\",\"effects\":[{\"OTIO_SCHEMA\":\"Foo.7\",\"b\":[1.50]}]}",
-    )?;
-    files.put("far.otio", FAR_READ)?;
-    files.put("rate.otio", RATE_READ)?;
-    files.put("child.otio", CHILD_READ)
-}
+    ),
+    ("far.otio", FAR_READ),
+    ("rate.otio", RATE_READ),
+    ("child.otio", CHILD_READ),
+    ("list.json", b"[1,2]"),
+    ("twice.json", b"{\"a\":1,\"b\":2,\"a\":3}"),
+    ("half.json", b"[\"\\ud800\"]"),
+    ("comma.json", b"[1,]"),
+    ("nought.json", b"01"),
+    ("early.json", b"\"\\u12"),
+    ("nul", b"nul "),
+    ("deep.json", &[b'['; 128]),
+    ("utf8.json", b"[\"\xff\"]"),
+    ("-", b"true"),
+];
 
 const FAR_READ: &[u8] =
     b"{\"OTIO_SCHEMA\":\"Gap.1\",\"source_range\":{\"OTIO_SCHEMA\":\"TimeRange.1\",\"duration\":{\"OTIO_SCHEMA\":\"RationalTime.1\",\"rate\":24,\"value\":0},\"start_time\":{\"OTIO_SCHEMA\":\"RationalTime.1\",\"rate\":705600000000.0,\"value\":9007199254740993.0}}}";
@@ -146,7 +144,7 @@ const FAR: &[u8] = b"{
 ";
 
 // Lists that are written as lists.
-const LISTS: [Case; 14] = [
+static LISTS: [Case; 14] = [
     (
         "convert --to edl c.otio",
         Status::Refused,
@@ -224,7 +222,7 @@ const LISTS: [Case; 14] = [
 ];
 
 // Texts that are written as JSON.
-const TEXTS: [Case; 11] = [
+static TEXTS: [Case; 11] = [
     (
         "convert --to json list.json",
         Status::Done,
@@ -289,7 +287,7 @@ const TEXTS: [Case; 11] = [
 ];
 
 // Objects that are written as objects.
-const OBJECTS: [Case; 10] = [
+static OBJECTS: [Case; 10] = [
     ("convert c.otio", Status::Done, CLIP, b""),
     (
         "convert --from otio --to otio c.otio",
@@ -339,138 +337,120 @@ const OBJECTS: [Case; 10] = [
 
 #[test]
 fn lists_are_answered(rt: HostRuntime) -> Result<(), Fail> {
-    for case in &LISTS {
-        check_case(&rt, rt.alloc(), &mut some_files(rt.alloc())?, case)?;
-    }
-    Ok(())
+    check_all(&rt, rt.alloc(), &FILES, &LISTS)
 }
 
 #[test]
 fn texts_are_answered(rt: HostRuntime) -> Result<(), Fail> {
-    for case in &TEXTS {
-        check_case(&rt, rt.alloc(), &mut some_files(rt.alloc())?, case)?;
-    }
-    Ok(())
+    check_all(&rt, rt.alloc(), &FILES, &TEXTS)
 }
 
 #[test]
 fn objects_are_answered(rt: HostRuntime) -> Result<(), Fail> {
-    for case in &OBJECTS {
-        check_case(&rt, rt.alloc(), &mut some_files(rt.alloc())?, case)?;
-    }
-    Ok(())
+    check_all(&rt, rt.alloc(), &FILES, &OBJECTS)
 }
 
 #[test]
 fn the_output_goes_to_its_target(rt: HostRuntime) -> Result<(), Fail> {
-    let alloc = rt.alloc();
     let line = "convert --to otio -o o.otio c.otio";
-    let mut files = some_files(alloc)?;
-    let mut out = MemOut::new(alloc, 4000)?;
-    let mut err = MemOut::new(alloc, 1000)?;
-    let ended = status_of(alloc, line, &mut files, &mut out, &mut err)?;
-    assert_eq!(rt; ended, Status::Done);
-    assert_eq!(rt; out.sent(), CLIP);
-    assert_eq!(rt; out.target(), Some("o.otio"));
-    assert!(rt; err.sent().is_empty());
-    Ok(())
+    check_target(&rt, rt.alloc(), &FILES, line, "o.otio", CLIP)
 }
 
 #[test]
 fn a_target_that_fails_takes_nothing(rt: HostRuntime) -> Result<(), Fail> {
-    let alloc = rt.alloc();
     let line = "convert --to json -o o.json list.json";
-    let mut files = some_files(alloc)?;
-    let mut out = MemOut::new(alloc, 1000)?;
-    out.fail_on(1)?;
-    let mut err = MemOut::new(alloc, 1000)?;
-    let ended = status_of(alloc, line, &mut files, &mut out, &mut err)?;
-    assert_eq!(rt; ended, Status::Output);
-    assert!(rt; out.sent().is_empty());
-    assert!(rt; out.target().is_none());
-    assert_eq!(rt; err.sent(), b"otio: output failed\n".as_slice());
-    Ok(())
+    let case: Case = (line, Status::Output, b"", b"otio: output failed\n");
+    let out = Manner {
+        failing: 1,
+        ..WHOLE
+    };
+    let mut files = files_of(rt.alloc(), &FILES)?;
+    let held = check_case_over(&rt, rt.alloc(), &mut files, &case, out, WHOLE);
+    drop(files);
+    held
 }
 
 #[test]
 fn a_refused_object_leaves_the_target(rt: HostRuntime) -> Result<(), Fail> {
-    let alloc = rt.alloc();
-    let mut files = some_files(alloc)?;
-    check_refused(&rt, alloc, &mut files, "convert -o o.otio newer.otio")
+    let mut files = files_of(rt.alloc(), &FILES)?;
+    let held = check_refused(&rt, rt.alloc(), &mut files, "convert -o o.otio newer.otio");
+    drop(files);
+    held
 }
+
+// Words that are no command line.
+static OTHER: [&str; 17] = [
+    "",
+    "paint",
+    "convert",
+    "convert --to edl",
+    "convert --from edl --to json a.edl",
+    "convert --to edl --wide --wide a.edl",
+    "convert --media m.txt -o l.edl a.edl",
+    "convert --to edl a.edl a.edl",
+    "convert --to edl -b.edl",
+    "convert --to edl --media - -",
+    "convert --to json -x",
+    "convert --to json a.edl",
+    "convert --to edl --rate 29.5 a.edl",
+    "convert --to edl --drop --drop a.edl",
+    "convert --to edl -o -b a.edl",
+    "convert --to --to edl",
+    "Convert --to edl a.edl",
+];
 
 #[test]
 fn other_words_are_answered_by_the_usage_text(rt: HostRuntime) -> Result<(), Fail> {
-    let alloc = rt.alloc();
-    for line in [
-        "",
-        "paint",
-        "convert",
-        "convert --to edl",
-        "convert --from edl --to json a.edl",
-        "convert --to edl --wide --wide a.edl",
-        "convert --media m.txt -o l.edl a.edl",
-        "convert --to edl a.edl a.edl",
-        "convert --to edl -b.edl",
-        "convert --to edl --media - -",
-        "convert --to json -x",
-        "convert --to json a.edl",
-        "convert --to edl --rate 29.5 a.edl",
-        "convert --to edl --drop --drop a.edl",
-        "convert --to edl -o -b a.edl",
-        "convert --to --to edl",
-        "Convert --to edl a.edl",
-    ] {
-        check_usage(&rt, alloc, &mut some_files(alloc)?, line)?;
-    }
-    Ok(())
+    check_all_usages(&rt, rt.alloc(), &FILES, &OTHER)
 }
 
 #[test]
 fn a_stream_of_output_that_fails_leaves_a_prefix(rt: HostRuntime) -> Result<(), Fail> {
-    let alloc = rt.alloc();
     let line = "convert --to edl a.edl";
-    for call in 1..8u64 {
-        check_cut_off(&rt, alloc, &mut some_files(alloc)?, call, line, ONE_SPELLED)?;
+    let mut files = files_of(rt.alloc(), &FILES)?;
+    let held = check_cut_offs(&rt, rt.alloc(), &mut files, 8, line, ONE_SPELLED);
+    drop(files);
+    held
+}
+
+// Lines that aren't done, and what is told of them in a piece of five bytes.
+static BROKEN: [Case; 3] = [
+    ("convert --to edl gone.edl", Status::Input, b"", b"otio:"),
+    (
+        "convert --to edl unequal.edl",
+        Status::Refused,
+        b"",
+        b"otio:",
+    ),
+    ("paint", Status::Usage, b"", b"otio:"),
+];
+
+fn check_broken(rt: &impl Abort, alloc: Global, files: &mut MemFiles) -> Result<(), Fail> {
+    let err = Manner {
+        most: 5,
+        failing: 2,
+    };
+    for case in &BROKEN {
+        check_case_over(rt, alloc, files, case, WHOLE, err)?;
     }
     Ok(())
 }
 
 #[test]
 fn a_failing_stream_of_messages_changes_no_status(rt: HostRuntime) -> Result<(), Fail> {
-    let alloc = rt.alloc();
-    for (line, status) in [
-        ("convert --to edl gone.edl", Status::Input),
-        ("convert --to edl unequal.edl", Status::Refused),
-        ("paint", Status::Usage),
-    ] {
-        let mut files = some_files(alloc)?;
-        let mut out = MemOut::new(alloc, 1000)?;
-        let mut err = MemOut::new(alloc, 1000)?;
-        err.piece(5);
-        err.fail_on(2)?;
-        let ended = status_of(alloc, line, &mut files, &mut out, &mut err)?;
-        assert_eq!(rt; ended, status, "{line}");
-        assert_eq!(rt; err.sent(), b"otio:".as_slice());
-        assert!(rt; out.sent().is_empty());
-    }
-    Ok(())
+    let mut files = files_of(rt.alloc(), &FILES)?;
+    let held = check_broken(&rt, rt.alloc(), &mut files);
+    drop(files);
+    held
 }
 
 #[test]
 fn a_file_that_fails_is_named(rt: HostRuntime) -> Result<(), Fail> {
-    let alloc = rt.alloc();
-    for call in 1..5u64 {
-        let mut files = some_files(alloc)?;
-        files.piece(64);
-        files.fail_on(call)?;
-        let mut out = MemOut::new(alloc, 1000)?;
-        let mut err = MemOut::new(alloc, 1000)?;
-        let line = "convert --to edl a.edl";
-        let ended = status_of(alloc, line, &mut files, &mut out, &mut err)?;
-        assert_eq!(rt; ended, Status::Input);
-        assert_eq!(rt; err.sent(), b"otio: a.edl: read failed\n".as_slice());
-        assert!(rt; out.sent().is_empty());
+    let line = "convert --to edl a.edl";
+    let case: Case = (line, Status::Input, b"", b"otio: a.edl: read failed\n");
+    for failing in 1..5u64 {
+        let manner = Manner { most: 64, failing };
+        check_pieces(&rt, rt.alloc(), &FILES, manner, &case)?;
     }
     Ok(())
 }

@@ -1,6 +1,8 @@
 //! Runs of command lines over files in memory, and what is held against them.
 
+ghost use Rattle.std.specs.Prelude.{◌<◌, IfOk, Some};
 ghost use Rattle.dev_io.specs.Calls.{IsFresh};
+ghost use Rattle.dev_io.specs.MemOut.{out_known};
 
 use dev_io::{MemFiles, MemOut, Out};
 use otio_tools::{Status, run};
@@ -12,8 +14,71 @@ use std::test::Fail;
 /// How many lines the usage text has.
 const USAGE_LINES: usize = 8;
 
+/// How many bytes a stream has room for.
+const ROOM: usize = 120_000;
+
+/// A file's name and its bytes.
+pub type Named = (&'static str, &'static [u8]);
+
 /// A command line, its status, its output and its message.
-pub type Case = (&'static str, Status, &'static [u8], &'static [u8]);
+pub type Case<'a> = (&'a str, Status, &'a [u8], &'a [u8]);
+
+/// How a stream takes bytes: at most so many at a time, and the call of that number fails; none
+/// where it is 0.
+#[derive(Clone, Copy)]
+pub struct Manner {
+    pub most: usize,
+    pub failing: u64,
+}
+
+/// All bytes at once, and no call fails.
+pub const WHOLE: Manner = Manner {
+    most: usize::MAX,
+    failing: 0,
+};
+
+/// How a run ended, and where it sent and told.
+#[derive(Drop)]
+pub struct Answer {
+    pub status: Status,
+    pub out: MemOut,
+    pub err: MemOut,
+}
+
+/// Adds files.
+pub fn put_all(files: &mut MemFiles, named: &[Named]) -> Result<(), AllocError> {
+    for (name, bytes) in named {
+        files.put(name, bytes)?;
+    }
+    Ok(())
+}
+
+/// Adds a file of a text, once that is made.
+pub fn put_text(
+    files: &mut MemFiles,
+    name: &str,
+    made: Result<String, AllocError>,
+) -> Result<(), AllocError> {
+    let text = made?;
+    let put = files.put(name, text.as_bytes());
+    drop(text);
+    put
+}
+
+/// These files.
+pub fn files_of(alloc: Global, named: &[Named]) -> Result<MemFiles, AllocError> {
+    let mut files = MemFiles::new(alloc);
+    put_all(&mut files, named)?;
+    Ok(files)
+}
+
+fn words_of(alloc: Global, line: &str) -> Result<Vec<String>, AllocError> {
+    let mut words = Vec::new(alloc);
+    for word in line.split_whitespace() {
+        words.push(String::from_str(alloc, word)?)?;
+    }
+    Ok(words)
+}
 
 /// How a command line ends over these files.
 pub fn status_of<W: Out, E: Out>(
@@ -25,14 +90,82 @@ pub fn status_of<W: Out, E: Out>(
 ) -> Result<Status, AllocError>
     requires { IsFresh (W.known out.old) }
 {
-    let mut words = Vec::new(alloc);
-    for word in line.split_whitespace() {
-        words.push(String::from_str(alloc, word)?)?;
-    }
+    let words = words_of(alloc, line)?;
     let mut desk = None;
     let status = run(alloc, &words, files, out, err, &mut desk);
     forget(desk);
+    drop(words);
     Ok(status)
+}
+
+/// A stream that nothing was sent to.
+fn stream(alloc: Global, manner: Manner) -> Result<MemOut, AllocError>
+    requires { 0 < manner.most }
+    ensures { IfOk result (λ stream. IsFresh (Some (out_known stream))) }
+{
+    let mut stream = MemOut::new(alloc, ROOM)?;
+    stream.piece(manner.most);
+    stream.fail_on(manner.failing)?;
+    Ok(stream)
+}
+
+/// How a command line is answered over streams of these manners.
+pub fn answer_over(
+    alloc: Global,
+    files: &mut MemFiles,
+    line: &str,
+    out: Manner,
+    err: Manner,
+) -> Result<Answer, AllocError>
+    requires out { 0 < out.most }
+    requires err { 0 < err.most }
+{
+    let mut out = stream(alloc, out)?;
+    let mut err = stream(alloc, err)?;
+    let status = status_of(alloc, line, files, &mut out, &mut err)?;
+    Ok(Answer { status, out, err })
+}
+
+/// How a command line is answered.
+pub fn answer_to(alloc: Global, files: &mut MemFiles, line: &str) -> Result<Answer, AllocError> {
+    answer_over(alloc, files, line, WHOLE, WHOLE)
+}
+
+/// Holds how a command line ended.
+pub fn ended(rt: &impl Abort, line: &str, answer: &Answer, status: Status) {
+    assert_eq!(rt; answer.status, status, "{line}");
+}
+
+fn has_sent(rt: &impl Abort, line: &str, stream: &MemOut, bytes: &[u8]) {
+    assert_eq!(rt; stream.sent(), bytes, "{line}");
+}
+
+/// Holds that these bytes were sent, and that no name was aimed at.
+pub fn was_sent(rt: &impl Abort, line: &str, stream: &MemOut, bytes: &[u8]) {
+    has_sent(rt, line, stream, bytes);
+    assert!(rt; stream.target().is_none(), "{line}");
+}
+
+/// Holds the status, the output and the message of a command line against those of the case, over
+/// streams of these manners.
+pub fn check_case_over(
+    rt: &impl Abort,
+    alloc: Global,
+    files: &mut MemFiles,
+    case: &Case<'_>,
+    out: Manner,
+    err: Manner,
+) -> Result<(), Fail>
+    requires out { 0 < out.most }
+    requires err { 0 < err.most }
+{
+    let (line, status, output, message) = *case;
+    let answer = answer_over(alloc, files, line, out, err)?;
+    ended(rt, line, &answer, status);
+    was_sent(rt, line, &answer.out, output);
+    was_sent(rt, line, &answer.err, message);
+    drop(answer);
+    Ok(())
 }
 
 /// Holds the status, the output and the message of a command line against those of the case.
@@ -40,50 +173,157 @@ pub fn check_case(
     rt: &impl Abort,
     alloc: Global,
     files: &mut MemFiles,
-    case: &Case,
+    case: &Case<'_>,
 ) -> Result<(), Fail> {
-    let (line, status, output, message) = *case;
-    let mut out = MemOut::new(alloc, 4000)?;
-    let mut err = MemOut::new(alloc, 1000)?;
-    let ended = status_of(alloc, line, files, &mut out, &mut err)?;
-    assert_eq!(rt; ended, status, "{line}");
-    assert_eq!(rt; out.sent(), output, "{line}");
-    assert_eq!(rt; err.sent(), message, "{line}");
-    assert!(rt; out.target().is_none());
-    assert!(rt; err.target().is_none());
+    check_case_over(rt, alloc, files, case, WHOLE, WHOLE)
+}
+
+/// Holds each of some cases over the same files.
+pub fn check_cases(
+    rt: &impl Abort,
+    alloc: Global,
+    files: &mut MemFiles,
+    cases: &[Case<'_>],
+) -> Result<(), Fail> {
+    for case in cases {
+        check_case(rt, alloc, files, case)?;
+    }
     Ok(())
 }
 
-/// Holds that a command line ends so, and that nothing is sent and no output aimed at; says what is
-/// told.
-fn told_alone(
+/// Holds each of some cases over these files.
+pub fn check_all(
+    rt: &impl Abort,
+    alloc: Global,
+    named: &[Named],
+    cases: &[Case<'_>],
+) -> Result<(), Fail> {
+    let mut files = files_of(alloc, named)?;
+    let held = check_cases(rt, alloc, &mut files, cases);
+    drop(files);
+    held
+}
+
+/// Holds a case over these files, of which a read gives at most so many bytes, and that call fails;
+/// none where it is 0.
+pub fn check_pieces(
+    rt: &impl Abort,
+    alloc: Global,
+    named: &[Named],
+    manner: Manner,
+    case: &Case<'_>,
+) -> Result<(), Fail>
+    requires { 0 < manner.most }
+{
+    let mut files = files_of(alloc, named)?;
+    files.piece(manner.most);
+    files.fail_on(manner.failing)?;
+    let held = check_case(rt, alloc, &mut files, case);
+    drop(files);
+    held
+}
+
+/// The answer to a command line. Holds that it is done, and that nothing is told.
+pub fn done(
     rt: &impl Abort,
     alloc: Global,
     files: &mut MemFiles,
     line: &str,
-    status: Status,
-) -> Result<MemOut, Fail> {
-    let mut out = MemOut::new(alloc, 1000)?;
-    let mut err = MemOut::new(alloc, 1000)?;
-    let ended = status_of(alloc, line, files, &mut out, &mut err)?;
-    assert_eq!(rt; ended, status, "{line}");
-    assert!(rt; out.target().is_none());
-    assert!(rt; out.sent().is_empty());
-    Ok(err)
+) -> Result<Answer, Fail> {
+    let answer = answer_to(alloc, files, line)?;
+    was_sent(rt, line, &answer.err, b"");
+    ended(rt, line, &answer, Status::Done);
+    Ok(answer)
+}
+
+/// Adds a file of what a command line sends. Holds that it is done, and that nothing is told.
+pub fn put_output(
+    rt: &impl Abort,
+    alloc: Global,
+    files: &mut MemFiles,
+    line: &str,
+    name: &str,
+) -> Result<(), Fail> {
+    let answer = done(rt, alloc, files, line)?;
+    let put = files.put(name, answer.out.sent());
+    drop(answer);
+    put?;
+    Ok(())
+}
+
+/// Holds that a stream is aimed at that name.
+pub fn is_aimed(rt: &impl Abort, stream: &MemOut, name: &str) {
+    assert_eq!(rt; stream.target(), Some(name));
+}
+
+/// Holds that a command line is done over these files, and sends these bytes to that name.
+pub fn check_target(
+    rt: &impl Abort,
+    alloc: Global,
+    named: &[Named],
+    line: &str,
+    target: &str,
+    output: &[u8],
+) -> Result<(), Fail> {
+    let mut files = files_of(alloc, named)?;
+    let answered = done(rt, alloc, &mut files, line);
+    drop(files);
+    let answer = answered?;
+    is_aimed(rt, &answer.out, target);
+    has_sent(rt, line, &answer.out, output);
+    drop(answer);
+    Ok(())
+}
+
+/// How many lines end in these bytes.
+pub fn line_count(bytes: &[u8]) -> usize {
+    bytes.iter().filter(|b| **b == b'\n').count()
 }
 
 /// Holds that a command line is answered by the usage text alone.
-pub fn check_usage(
+fn check_usage(
     rt: &impl Abort,
     alloc: Global,
     files: &mut MemFiles,
     line: &str,
 ) -> Result<(), Fail> {
-    let err = told_alone(rt, alloc, files, line, Status::Usage)?;
-    assert!(rt; err.sent().starts_with(b"otio: usage\n  otio convert ["));
-    let lines = err.sent().iter().filter(|b| **b == b'\n').count();
-    assert_eq!(rt; lines, USAGE_LINES);
+    let answer = answer_to(alloc, files, line)?;
+    ended(rt, line, &answer, Status::Usage);
+    was_sent(rt, line, &answer.out, b"");
+    let told = answer.err.sent();
+    assert!(rt;
+        told.starts_with(b"otio: usage\n  otio convert ["),
+        "{line}"
+    );
+    assert_eq!(rt; line_count(told), USAGE_LINES, "{line}");
+    drop(answer);
     Ok(())
+}
+
+/// Holds that each of some command lines is answered by the usage text alone.
+pub fn check_usages(
+    rt: &impl Abort,
+    alloc: Global,
+    files: &mut MemFiles,
+    lines: &[&str],
+) -> Result<(), Fail> {
+    for line in lines {
+        check_usage(rt, alloc, files, line)?;
+    }
+    Ok(())
+}
+
+/// Holds the same over these files.
+pub fn check_all_usages(
+    rt: &impl Abort,
+    alloc: Global,
+    named: &[Named],
+    lines: &[&str],
+) -> Result<(), Fail> {
+    let mut files = files_of(alloc, named)?;
+    let held = check_usages(rt, alloc, &mut files, lines);
+    drop(files);
+    held
 }
 
 /// Holds that a command line is refused, and that nothing is sent and no output aimed at.
@@ -93,29 +333,45 @@ pub fn check_refused(
     files: &mut MemFiles,
     line: &str,
 ) -> Result<(), Fail> {
-    let err = told_alone(rt, alloc, files, line, Status::Refused)?;
-    assert!(rt; !err.sent().is_empty());
+    let answer = answer_to(alloc, files, line)?;
+    ended(rt, line, &answer, Status::Refused);
+    was_sent(rt, line, &answer.out, b"");
+    assert!(rt; !answer.err.sent().is_empty(), "{line}");
+    drop(answer);
     Ok(())
 }
 
 /// Holds that an output in pieces of 16 bytes of which that call fails is told of, behind a part of
 /// the whole.
-pub fn check_cut_off(
+fn check_cut_off(
     rt: &impl Abort,
     alloc: Global,
     files: &mut MemFiles,
-    call: u64,
+    failing: u64,
     line: &str,
     whole: &[u8],
 ) -> Result<(), Fail> {
-    let mut out = MemOut::new(alloc, 1000)?;
-    out.piece(16);
-    out.fail_on(call)?;
-    let mut err = MemOut::new(alloc, 1000)?;
-    let ended = status_of(alloc, line, files, &mut out, &mut err)?;
-    assert_eq!(rt; ended, Status::Output);
-    assert_eq!(rt; err.sent(), b"otio: output failed\n".as_slice());
-    assert!(rt; whole.starts_with(out.sent()));
-    assert!(rt; out.sent().len() < whole.len());
+    let out = Manner { most: 16, failing };
+    let answer = answer_over(alloc, files, line, out, WHOLE)?;
+    ended(rt, line, &answer, Status::Output);
+    was_sent(rt, line, &answer.err, b"otio: output failed\n");
+    assert!(rt; whole.starts_with(answer.out.sent()));
+    assert!(rt; answer.out.sent().len() < whole.len());
+    drop(answer);
+    Ok(())
+}
+
+/// Holds the same of each call of the output before that one.
+pub fn check_cut_offs(
+    rt: &impl Abort,
+    alloc: Global,
+    files: &mut MemFiles,
+    behind: u64,
+    line: &str,
+    whole: &[u8],
+) -> Result<(), Fail> {
+    for failing in 1..behind {
+        check_cut_off(rt, alloc, files, failing, line, whole)?;
+    }
     Ok(())
 }

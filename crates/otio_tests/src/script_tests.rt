@@ -1,15 +1,12 @@
 //! Scripts that are run on timelines.
 
-use crate::runs::{Case, check_case, status_of};
+use crate::runs::{Case, Named, check_case, done, files_of, put_output, put_text};
 use crate::timelines::{nested_track, one_track, three_tracks};
-use dev_io::{MemFiles, MemOut};
+use dev_io::MemFiles;
 use otio_tools::Status;
 use std::alloc::{AllocError, Global};
 use std::process::Abort;
 use std::test::Fail;
-
-/// How many bytes of a timeline a test takes.
-const ROOM: usize = 20_000;
 
 /// A script, a line of `frames` on the timeline that it leads to, and the rows.
 type Edited = (&'static [u8], &'static str, &'static [u8]);
@@ -17,59 +14,106 @@ type Edited = (&'static [u8], &'static str, &'static [u8]);
 /// A script, and what is told of it.
 type Halted = (&'static [u8], &'static [u8]);
 
-fn some_files(alloc: Global, timeline: &str, script: &[u8]) -> Result<MemFiles, AllocError> {
-    let mut files = MemFiles::new(alloc);
+// This timeline, this script and a media list.
+fn put_files(files: &mut MemFiles, timeline: &str, script: &[u8]) -> Result<(), AllocError> {
     files.put("x.otio", timeline.as_bytes())?;
     files.put("s.txt", script)?;
-    files.put("m.txt", b"W\t24\t0\t240\tw.mov\n")?;
-    Ok(files)
-}
-
-// What a command line sends.
-fn sent_by(
-    rt: &impl Abort,
-    alloc: Global,
-    files: &mut MemFiles,
-    line: &str,
-) -> Result<MemOut, Fail> {
-    let mut out = MemOut::new(alloc, ROOM)?;
-    let mut err = MemOut::new(alloc, 1000)?;
-    let ended = status_of(alloc, line, files, &mut out, &mut err)?;
-    assert_eq!(rt; ended, Status::Done, "{line}");
-    assert!(rt; err.sent().is_empty());
-    Ok(out)
+    files.put("m.txt", b"W\t24\t0\t240\tw.mov\n")
 }
 
 // Holds that the timeline that a script leads to shows these rows.
-fn check_edited(rt: &impl Abort, alloc: Global, timeline: &str, case: &Edited) -> Result<(), Fail> {
+fn check_edited(
+    rt: &impl Abort,
+    alloc: Global,
+    files: &mut MemFiles,
+    timeline: &str,
+    case: &Edited,
+) -> Result<(), Fail> {
     let (script, line, rows) = *case;
-    let mut files = some_files(alloc, timeline, script)?;
-    let edited = sent_by(
+    put_files(files, timeline, script)?;
+    put_output(
         rt,
         alloc,
-        &mut files,
+        files,
         "edit --media m.txt x.otio --script s.txt",
+        "y.otio",
     )?;
-    files.put("y.otio", edited.sent())?;
     let shown: Case = (line, Status::Done, rows, b"");
-    check_case(rt, alloc, &mut files, &shown)
+    check_case(rt, alloc, files, &shown)
+}
+
+// Holds the same of each of some scripts on one timeline, once that is made.
+fn check_all_edited(
+    rt: &impl Abort,
+    alloc: Global,
+    made: Result<String, AllocError>,
+    cases: &[Edited],
+) -> Result<(), Fail> {
+    let timeline = made?;
+    let mut files = MemFiles::new(alloc);
+    let held = check_each_edited(rt, alloc, &mut files, timeline.as_str(), cases);
+    drop(files);
+    drop(timeline);
+    held
+}
+
+fn check_each_edited(
+    rt: &impl Abort,
+    alloc: Global,
+    files: &mut MemFiles,
+    timeline: &str,
+    cases: &[Edited],
+) -> Result<(), Fail> {
+    for case in cases {
+        check_edited(rt, alloc, files, timeline, case)?;
+    }
+    Ok(())
 }
 
 // Holds that a script is refused so, and nothing is sent.
-fn check_halted(rt: &impl Abort, alloc: Global, timeline: &str, case: &Halted) -> Result<(), Fail> {
+fn check_halted(
+    rt: &impl Abort,
+    alloc: Global,
+    files: &mut MemFiles,
+    timeline: &str,
+    case: &Halted,
+) -> Result<(), Fail> {
     let (script, told) = *case;
-    let mut files = some_files(alloc, timeline, script)?;
-    let refused: Case = (
-        "edit --script s.txt --media m.txt x.otio",
-        Status::Refused,
-        b"",
-        told,
-    );
-    check_case(rt, alloc, &mut files, &refused)
+    put_files(files, timeline, script)?;
+    let line = "edit --script s.txt --media m.txt x.otio";
+    check_case(rt, alloc, files, &(line, Status::Refused, b"", told))
+}
+
+fn check_each_halted(
+    rt: &impl Abort,
+    alloc: Global,
+    files: &mut MemFiles,
+    timeline: &str,
+    cases: &[Halted],
+) -> Result<(), Fail> {
+    for case in cases {
+        check_halted(rt, alloc, files, timeline, case)?;
+    }
+    Ok(())
+}
+
+// Holds the same of each of some scripts on one timeline, once that is made.
+fn check_all_halted(
+    rt: &impl Abort,
+    alloc: Global,
+    made: Result<String, AllocError>,
+    cases: &[Halted],
+) -> Result<(), Fail> {
+    let timeline = made?;
+    let mut files = MemFiles::new(alloc);
+    let held = check_each_halted(rt, alloc, &mut files, timeline.as_str(), cases);
+    drop(files);
+    drop(timeline);
+    held
 }
 
 // Edits of the timeline of three tracks.
-const ON_TRACKS: [Edited; 9] = [
+static ON_TRACKS: [Edited; 9] = [
     (
         b"overwrite 0 40 clip w W 0 10\n",
         "frames --child 0 --start 86439 --count 2 y.otio",
@@ -119,16 +163,11 @@ const ON_TRACKS: [Edited; 9] = [
 
 #[test]
 fn edits_of_tracks_show(rt: HostRuntime) -> Result<(), Fail> {
-    let alloc = rt.alloc();
-    let timeline = three_tracks(alloc)?;
-    for case in &ON_TRACKS {
-        check_edited(&rt, alloc, &timeline, case)?;
-    }
-    Ok(())
+    check_all_edited(&rt, rt.alloc(), three_tracks(rt.alloc()), &ON_TRACKS)
 }
 
 // Scripts that are refused, by the first command that is.
-const HALTED: [Halted; 7] = [
+static HALTED: [Halted; 7] = [
     (
         b"overwrite 0 40 clip w W 0 10\noverwrite 0 100 clip w W 0 5\nundo\nundo\nundo\n",
         b"otio: s.txt: H1 NothingDone at 5\n",
@@ -155,33 +194,46 @@ const HALTED: [Halted; 7] = [
 
 #[test]
 fn scripts_are_refused(rt: HostRuntime) -> Result<(), Fail> {
-    let alloc = rt.alloc();
-    let timeline = three_tracks(alloc)?;
-    for case in &HALTED {
-        check_halted(&rt, alloc, &timeline, case)?;
-    }
+    check_all_halted(&rt, rt.alloc(), three_tracks(rt.alloc()), &HALTED)
+}
+
+// Holds that both lines send the same bytes.
+fn send_the_same(
+    rt: &impl Abort,
+    alloc: Global,
+    files: &mut MemFiles,
+    first: &str,
+    second: &str,
+) -> Result<(), Fail> {
+    let first = done(rt, alloc, files, first)?;
+    let second = done(rt, alloc, files, second)?;
+    assert!(rt; first.out.sent() == second.out.sent());
+    drop(first);
+    drop(second);
     Ok(())
 }
+
+static UNDONE: [Named; 2] = [
+    (
+        "s.txt",
+        b"overwrite 0 40 clip w W 0 10\noverwrite 0 100 clip w W 0 5\nundo\nundo\n",
+    ),
+    ("m.txt", b"W\t24\t0\t240\tw.mov\n"),
+];
 
 #[test]
 fn undone_edits_give_the_same_bytes(rt: HostRuntime) -> Result<(), Fail> {
     let alloc = rt.alloc();
-    let timeline = three_tracks(alloc)?;
-    let script = b"overwrite 0 40 clip w W 0 10\noverwrite 0 100 clip w W 0 5\nundo\nundo\n";
-    let mut files = some_files(alloc, &timeline, script)?;
-    let edited = sent_by(
-        &rt,
-        alloc,
-        &mut files,
-        "edit --media m.txt --script s.txt x.otio",
-    )?;
-    let written = sent_by(&rt, alloc, &mut files, "convert x.otio")?;
-    assert!(rt; edited.sent() == written.sent());
-    Ok(())
+    let mut files = files_of(alloc, &UNDONE)?;
+    put_text(&mut files, "x.otio", three_tracks(alloc))?;
+    let line = "edit --media m.txt --script s.txt x.otio";
+    let held = send_the_same(&rt, alloc, &mut files, line, "convert x.otio");
+    drop(files);
+    held
 }
 
 // An insert into a track inside a composition at twice its speed.
-const NESTED: [Edited; 2] = [
+static NESTED: [Edited; 2] = [
     (
         b"insert 0/1/0 6 clip w W 50 4\n",
         "frames --start 12 --count 4 y.otio",
@@ -194,23 +246,21 @@ const NESTED: [Edited; 2] = [
     ),
 ];
 
+// The same where the composition has no range of its own.
+static UNPINNED: [Halted; 1] = [(
+    b"insert 0/1/0 6 clip w W 50 4\n",
+    b"otio: s.txt: E8 Unpinned at 1 0/1\n",
+)];
+
 #[test]
 fn nested_edits_show(rt: HostRuntime) -> Result<(), Fail> {
     let alloc = rt.alloc();
-    let pinned = nested_track(alloc, true)?;
-    for case in &NESTED {
-        check_edited(&rt, alloc, &pinned, case)?;
-    }
-    let free = nested_track(alloc, false)?;
-    let halted: Halted = (
-        b"insert 0/1/0 6 clip w W 50 4\n",
-        b"otio: s.txt: E8 Unpinned at 1 0/1\n",
-    );
-    check_halted(&rt, alloc, &free, &halted)
+    check_all_edited(&rt, alloc, nested_track(alloc, true), &NESTED)?;
+    check_all_halted(&rt, alloc, nested_track(alloc, false), &UNPINNED)
 }
 
 // Fills of a gap of 20 frames behind 10 frames of a clip.
-const FILLS: [Edited; 4] = [
+static FILLS: [Edited; 4] = [
     (
         b"fill 0 12 source clip w W 0 30\n",
         "frames --start 39 --count 2 y.otio",
@@ -241,15 +291,11 @@ fn fills_of_gaps_show(rt: HostRuntime) -> Result<(), Fail> {
         ("", None, 20),
         ("e.mov", Some(100), 30),
     ];
-    let timeline = one_track(alloc, &items)?;
-    for case in &FILLS {
-        check_edited(&rt, alloc, &timeline, case)?;
-    }
-    Ok(())
+    check_all_edited(&rt, alloc, one_track(alloc, &items), &FILLS)
 }
 
 // Edits of the edges of three clips.
-const EDGES: [Edited; 5] = [
+static EDGES: [Edited; 5] = [
     (
         b"slide 0 15 4\n",
         "frames --start 13 --count 2 y.otio",
@@ -277,6 +323,13 @@ const EDGES: [Edited; 5] = [
     ),
 ];
 
+// A trim of a clip behind a gap.
+static TRIMMED: [Edited; 1] = [(
+    b"trim 0 3 -8 0\n",
+    "frames --count 1 y.otio",
+    b"0 0 url:\"d.mov\"@47\n",
+)];
+
 #[test]
 fn edits_of_edges_show(rt: HostRuntime) -> Result<(), Fail> {
     let alloc = rt.alloc();
@@ -285,15 +338,7 @@ fn edits_of_edges_show(rt: HostRuntime) -> Result<(), Fail> {
         ("e.mov", Some(100), 20),
         ("h.mov", Some(0), 10),
     ];
-    let timeline = one_track(alloc, &items)?;
-    for case in &EDGES {
-        check_edited(&rt, alloc, &timeline, case)?;
-    }
-    let gapped = one_track(alloc, &[("", None, 3), ("d.mov", Some(50), 10)])?;
-    let trimmed: Edited = (
-        b"trim 0 3 -8 0\n",
-        "frames --count 1 y.otio",
-        b"0 0 url:\"d.mov\"@47\n",
-    );
-    check_edited(&rt, alloc, &gapped, &trimmed)
+    check_all_edited(&rt, alloc, one_track(alloc, &items), &EDGES)?;
+    let gapped = [("", None, 3), ("d.mov", Some(50), 10)];
+    check_all_edited(&rt, alloc, one_track(alloc, &gapped), &TRIMMED)
 }

@@ -7,7 +7,7 @@ pub struct Rewritten {
 }
 
 /// Texts of each schema, with what is written of them by the tables of the schemas.
-pub const REWRITTEN: [Rewritten; 7] = [
+pub static REWRITTEN: [Rewritten; 7] = [
     Rewritten {
         text: r#"{"enabled":false,"b":[1.50],"OTIO_SCHEMA":"Gap.01","name":null,"a":{}}"#,
         written: r#"{"OTIO_SCHEMA":"Gap.1","metadata":{},"name":"","source_range":null,"effects":[],"markers":[],"enabled":false,"b":[1.50],"a":{}}"#,
@@ -38,48 +38,48 @@ pub const REWRITTEN: [Rewritten; 7] = [
     },
 ];
 
-/// A text that is refused, and what is told of it behind the file's name.
+/// A text that is refused, and what is told of it as the file `a.otio`.
 pub struct Refused {
     pub text: &'static str,
     pub told: &'static str,
 }
 
 /// Texts of each fault of objects.
-pub const REFUSED: [Refused; 9] = [
+pub static REFUSED: [Refused; 9] = [
     Refused {
         text: r#"{"OTIO_SCHEMA":"Clip"}"#,
-        told: "S1 NotObject at .\n",
+        told: "otio: a.otio: S1 NotObject at .\n",
     },
     Refused {
         text: r#"{"OTIO_SCHEMA":"Timeline.1","tracks":{"OTIO_SCHEMA":"Stack.1","children":[{"OTIO_SCHEMA":"Track.1","children":[{"OTIO_SCHEMA":"Gap.1"},{"OTIO_SCHEMA":"Foo.7"}]},{"OTIO_SCHEMA":"Foo.8"}]}}"#,
-        told: "S2 UnknownChild at 0/1\n",
+        told: "otio: a.otio: S2 UnknownChild at 0/1\n",
     },
     Refused {
         text: r#"{"OTIO_SCHEMA":"Clip.3"}"#,
-        told: "S3 Newer at .\n",
+        told: "otio: a.otio: S3 Newer at .\n",
     },
     Refused {
         text: r#"{"OTIO_SCHEMA":"Stack.1","children":[{"OTIO_SCHEMA":"Gap.1"},{"OTIO_SCHEMA":"Gap.1","enabled":1}]}"#,
-        told: "S4 Field at 1 enabled\n",
+        told: "otio: a.otio: S4 Field at 1 enabled\n",
     },
     Refused {
         text: r#"{"OTIO_SCHEMA":"Timeline.1","global_start_time":{"OTIO_SCHEMA":"RationalTime.1","rate":29.5,"value":0}}"#,
-        told: "S5 Rate at .\n",
+        told: "otio: a.otio: S5 Rate at .\n",
     },
     Refused {
         text: r#"{"OTIO_SCHEMA":"Timeline.1","global_start_time":{"OTIO_SCHEMA":"RationalTime.1","rate":24,"value":1e99}}"#,
-        told: "S6 Range at .\n",
+        told: "otio: a.otio: S6 Range at .\n",
     },
     Refused {
         text: r#"{"OTIO_SCHEMA":"Stack.1","children":[{"OTIO_SCHEMA":"Transition.1"}]}"#,
-        told: "S7 Transitions at .\n",
+        told: "otio: a.otio: S7 Transitions at .\n",
     },
     Refused {
         text: r#"{"OTIO_SCHEMA":"SerializableCollection.1","children":[{"OTIO_SCHEMA":"Track.1","children":[{"OTIO_SCHEMA":"Transition.1"},{"OTIO_SCHEMA":"Transition.1"}]}]}"#,
-        told: "S7 Transitions at 0\n",
+        told: "otio: a.otio: S7 Transitions at 0\n",
     },
     Refused {
         text: r#"{"OTIO_SCHEMA":"Effect.1"}"#,
-        told: "S2 UnknownChild at .\n",
+        told: "otio: a.otio: S2 UnknownChild at .\n",
     },
 ];

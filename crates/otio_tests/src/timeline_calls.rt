@@ -5,13 +5,14 @@ ghost use Rattle.std.specs.Prelude.{◌≡◌, ◌<◌, ◌^◌, ◌*ℤ◌, IfO
 ghost use Rattle.otio_model.specs.Counts.{count, count_of};
 ghost use Rattle.coord.specs.Soundness.{IsFaultlessItem, IsSound};
 
+use crate::runs::put_text;
 use crate::timelines::{nested_track, one_track, three_tracks, two_layers};
 use coord::sound;
 use dev_io::{MemFiles, MemOut};
 use edit_plans::edit_rate;
 use flat_join::join;
 use otio_model::{Item, ItemOf, Place, Timeline};
-use pieces::{back, cuts_whole, front, strip};
+use pieces::{CutFault, back, cuts_whole, front, strip};
 use place_instants::down;
 use show_prog::{print_show, show};
 use source_files::{Content, Kind, Source, read_source};
@@ -22,20 +23,25 @@ use std::slice::from_ref;
 use std::test::Fail;
 use writable_law::read_timelines_are_writable;
 
-/// The sound timeline that a text is; none where it is none.
-fn timeline_of(alloc: Global, text: &str) -> Result<Option<Timeline>, AllocError>
+/// The sound timeline that a text is, once that is made; none where it is none.
+fn timeline_of(
+    alloc: Global,
+    made: Result<String, AllocError>,
+) -> Result<Option<Timeline>, AllocError>
     ensures sound { IfOk result (λ found. IfSome found IsSound) }
     ensures few { IfOk result
         (λ found. IfSome found (λ timeline. count timeline.tracks.children < 2 ^ 32)) }
 {
     read_timelines_are_writable();
     let mut files = MemFiles::new(alloc);
-    files.put("a.otio", text.as_bytes())?;
+    put_text(&mut files, "a.otio", made)?;
     let source = Source {
         name: "a.otio",
         kind: Kind::Timeline,
     };
-    match read_source(alloc, &source, &mut files) {
+    let read = read_source(alloc, &source, &mut files);
+    drop(files);
+    match read {
         Ok(Content::Film(timeline)) => match sound(alloc, &timeline) {
             Ok(()) => Ok(Some(timeline)),
             Err(_) => {
@@ -51,6 +57,27 @@ fn timeline_of(alloc: Global, text: &str) -> Result<Option<Timeline>, AllocError
     }
 }
 
+/// Prints what a root child shows at a record frame.
+fn print_at(
+    rt: &impl Abort,
+    alloc: Global,
+    timeline: &Timeline,
+    child: usize,
+    frame: i128,
+    out: &mut MemOut,
+) -> Result<(), Fail>
+    requires sound { IsSound timeline.now }
+    requires few { count timeline.now.tracks.children < 2 ^ 32 }
+{
+    if child < timeline.tracks.children.len() {
+        let picture = show(alloc, timeline, child, frame)?;
+        let printed = print_show(&picture, out);
+        drop(picture);
+        assert!(rt; printed.is_ok());
+    }
+    Ok(())
+}
+
 /// Holds that a root child shows this at a record frame.
 fn check_shown(
     rt: &impl Abort,
@@ -64,11 +91,9 @@ fn check_shown(
     requires few { count timeline.now.tracks.children < 2 ^ 32 }
 {
     let mut out = MemOut::new(alloc, 200)?;
-    if child < timeline.tracks.children.len() {
-        let picture = show(alloc, timeline, child, frame)?;
-        assert!(rt; print_show(&picture, &mut out).is_ok());
-    }
+    print_at(rt, alloc, timeline, child, frame, &mut out)?;
     assert_eq!(rt; out.sent(), text);
+    drop(out);
     Ok(())
 }
 
@@ -85,7 +110,7 @@ fn check_pictures(rt: &impl Abort, alloc: Global, timeline: &Timeline) -> Result
 #[test]
 fn pictures_are_shown(rt: HostRuntime) -> Result<(), Fail> {
     let alloc = rt.alloc();
-    match timeline_of(alloc, three_tracks(alloc)?.as_str())? {
+    match timeline_of(alloc, three_tracks(alloc))? {
         Some(timeline) => {
             let held = check_pictures(&rt, alloc, &timeline);
             forget(timeline);
@@ -110,7 +135,7 @@ fn ticks_of(frames: u32) -> i128
 type Reach = (u32, &'static [u32], Option<u32>);
 
 /// A track of ten frames, twenty of a stack at twice its speed, and ten; the stack has one track.
-const REACHED: [Reach; 10] = [
+static REACHED: [Reach; 10] = [
     (12, &[0], Some(12)),
     (12, &[0, 1], Some(4)),
     (12, &[0, 1, 0], Some(4)),
@@ -123,20 +148,41 @@ const REACHED: [Reach; 10] = [
     (12, &[], None),
 ];
 
+fn place_of(alloc: Global, indexes: &[u32]) -> Result<Place, AllocError> {
+    let mut place = Place::new(alloc);
+    for index in indexes {
+        place.push(*index)?;
+    }
+    Ok(place)
+}
+
+fn is_reached(
+    rt: &impl Abort,
+    alloc: Global,
+    timeline: &Timeline,
+    reach: &Reach,
+) -> Result<(), Fail>
+    requires sound { IsSound timeline.now }
+    requires few { count timeline.now.tracks.children < 2 ^ 32 }
+{
+    let (frame, indexes, reached) = *reach;
+    let place = place_of(alloc, indexes)?;
+    let found = down(timeline, &place, ticks_of(frame));
+    drop(place);
+    let there = match reached {
+        Some(frame) => Some(ticks_of(frame)),
+        None => None,
+    };
+    assert_eq!(rt; found, there);
+    Ok(())
+}
+
 fn check_reached(rt: &impl Abort, alloc: Global, timeline: &Timeline) -> Result<(), Fail>
     requires sound { IsSound timeline.now }
     requires few { count timeline.now.tracks.children < 2 ^ 32 }
 {
-    for (frame, indexes, reached) in &REACHED {
-        let mut place = Place::new(alloc);
-        for index in *indexes {
-            place.push(*index)?;
-        }
-        let there = match reached {
-            Some(frame) => Some(ticks_of(*frame)),
-            None => None,
-        };
-        assert_eq!(rt; down(timeline, &place, ticks_of(*frame)), there);
+    for reach in &REACHED {
+        is_reached(rt, alloc, timeline, reach)?;
     }
     Ok(())
 }
@@ -144,7 +190,7 @@ fn check_reached(rt: &impl Abort, alloc: Global, timeline: &Timeline) -> Result<
 #[test]
 fn places_are_reached(rt: HostRuntime) -> Result<(), Fail> {
     let alloc = rt.alloc();
-    match timeline_of(alloc, nested_track(alloc, true)?.as_str())? {
+    match timeline_of(alloc, nested_track(alloc, true))? {
         Some(timeline) => {
             let held = check_reached(&rt, alloc, &timeline);
             forget(timeline);
@@ -168,6 +214,18 @@ fn range_ticks(items: &[Item]) -> Option<i128> {
     }
 }
 
+/// Holds how long a piece of a track is, in ticks.
+fn is_long(rt: &impl Abort, piece: Result<Vec<Item>, CutFault>, ticks: i128) {
+    match piece {
+        Ok(items) => {
+            let found = range_ticks(&items);
+            forget(items);
+            assert_eq!(rt; found, Some(ticks));
+        }
+        Err(_) => assert!(rt; false),
+    }
+}
+
 /// Holds that a track can be cut behind four of twenty frames, and how long both pieces are.
 fn check_cut(rt: &impl Abort, alloc: Global, timeline: &Timeline, track: &Item) -> Result<(), Fail>
     requires few { count_of track.now < 2 ^ 32 }
@@ -177,23 +235,12 @@ fn check_cut(rt: &impl Abort, alloc: Global, timeline: &Timeline, track: &Item) 
     let rate = edit_rate(timeline);
     let four = 117_600_000_000_000_000;
     assert!(rt; cuts_whole(list, four));
-    match front(alloc, list, four, rate) {
-        Ok(items) => {
-            assert_eq!(rt; range_ticks(&items), Some(four));
-            forget(items);
-        }
-        Err(_) => assert!(rt; false),
-    }
-    match back(alloc, list, four, rate) {
-        Ok(items) => {
-            assert_eq!(rt; range_ticks(&items), Some(470_400_000_000_000_000));
-            forget(items);
-        }
-        Err(_) => assert!(rt; false),
-    }
+    is_long(rt, front(alloc, list, four, rate), four);
+    is_long(rt, back(alloc, list, four, rate), 470_400_000_000_000_000);
     let items = strip(alloc, list, four, four)?;
-    assert_eq!(rt; items.len(), 1);
+    let len = items.len();
     forget(items);
+    assert_eq!(rt; len, 1);
     Ok(())
 }
 
@@ -214,7 +261,7 @@ fn check_first_cut(rt: &impl Abort, alloc: Global, timeline: &Timeline) -> Resul
 fn lists_are_cut(rt: HostRuntime) -> Result<(), Fail> {
     let alloc = rt.alloc();
     let two = [("a.mov", Some(0), 10), ("b.mov", Some(0), 10)];
-    match timeline_of(alloc, one_track(alloc, &two)?.as_str())? {
+    match timeline_of(alloc, one_track(alloc, &two))? {
         Some(timeline) => {
             let held = check_first_cut(&rt, alloc, &timeline);
             forget(timeline);
@@ -258,10 +305,9 @@ fn joined_len(alloc: Global, first: Timeline, second: Timeline) -> Option<usize>
 #[test]
 fn timelines_are_joined(rt: HostRuntime) -> Result<(), Fail> {
     let alloc = rt.alloc();
-    let first = one_track(alloc, &[("a.mov", Some(0), 10)])?;
-    let second = two_layers(alloc)?;
-    let len = match timeline_of(alloc, first.as_str())? {
-        Some(first) => match timeline_of(alloc, second.as_str()) {
+    let text = one_track(alloc, &[("a.mov", Some(0), 10)]);
+    let len = match timeline_of(alloc, text)? {
+        Some(first) => match timeline_of(alloc, two_layers(alloc)) {
             Ok(Some(second)) => joined_len(alloc, first, second),
             _ => {
                 forget(first);

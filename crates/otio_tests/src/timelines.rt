@@ -3,12 +3,25 @@
 use itoa::Buffer;
 use std::alloc::{AllocError, Global};
 
+// A timeline up to its tracks, and a track up to its children.
+const ROOT: &str =
+    "{\"OTIO_SCHEMA\":\"Timeline.1\",\"tracks\":{\"OTIO_SCHEMA\":\"Stack.1\",\"children\":[";
+
+const TRACK: &str = "{\"OTIO_SCHEMA\":\"Track.1\",\"children\":[";
+
+/// Adds texts, one after another.
+pub fn put_parts(text: &mut String, parts: &[&str]) -> Result<(), AllocError> {
+    for part in parts {
+        text.push_str(part)?;
+    }
+    Ok(())
+}
+
 // The JSON of a time at 24 frames a second.
 fn put_time(text: &mut String, frames: u32) -> Result<(), AllocError> {
     let mut digits = Buffer::new();
-    text.push_str("{\"OTIO_SCHEMA\":\"RationalTime.1\",\"rate\":24,\"value\":")?;
-    text.push_str(digits.format(frames))?;
-    text.push_str("}")
+    let front = "{\"OTIO_SCHEMA\":\"RationalTime.1\",\"rate\":24,\"value\":";
+    put_parts(text, &[front, digits.format(frames), "}"])
 }
 
 /// The JSON of a span of so many frames.
@@ -35,31 +48,50 @@ pub fn put_clip(text: &mut String, start: u32, length: u32, url: &str) -> Result
         ",\"media_references\":{\"DEFAULT_MEDIA\":{\"OTIO_SCHEMA\":\"ExternalReference.1\",\"available_range\":",
     )?;
     put_span(text, 0, 240)?;
-    text.push_str(",\"target_url\":\"")?;
-    text.push_str(url)?;
-    text.push_str("\"}}")
+    put_parts(text, &[",\"target_url\":\"", url, "\"}}"])
 }
 
-// Two clips of 48 frames with a dissolve of 12 between them.
-fn put_dissolve(text: &mut String) -> Result<(), AllocError> {
-    text.push_str("{\"OTIO_SCHEMA\":\"Track.1\",\"children\":[")?;
-    put_clip(text, 24, 48, "a.mov")?;
+// What stands between two clips with a dissolve: its offsets before and behind the cut.
+fn put_cross(text: &mut String, offsets: [u32; 2]) -> Result<(), AllocError> {
+    let [before, behind] = offsets;
     text.push_str("},{\"OTIO_SCHEMA\":\"Transition.1\",\"in_offset\":")?;
-    put_time(text, 6)?;
+    put_time(text, before)?;
     text.push_str(",\"out_offset\":")?;
-    put_time(text, 6)?;
-    text.push_str("},")?;
-    put_clip(text, 100, 48, "b.mov")?;
+    put_time(text, behind)?;
+    text.push_str("},")
+}
+
+// A track of two clips of these starts and lengths, with a dissolve between them.
+fn put_crossed(
+    text: &mut String,
+    starts: [u32; 2],
+    lengths: [u32; 2],
+    offsets: [u32; 2],
+) -> Result<(), AllocError> {
+    text.push_str(TRACK)?;
+    put_clip(text, starts[0], lengths[0], "a.mov")?;
+    put_cross(text, offsets)?;
+    put_clip(text, starts[1], lengths[1], "b.mov")?;
     text.push_str("}]}")
 }
 
 // A gap of 72 frames and a clip of 12 frames at twice its speed.
 fn put_fast(text: &mut String) -> Result<(), AllocError> {
-    text.push_str("{\"OTIO_SCHEMA\":\"Track.1\",\"children\":[")?;
+    text.push_str(TRACK)?;
     put_gap(text, 72)?;
     text.push_str(",")?;
     put_clip(text, 40, 12, "c.mov")?;
     text.push_str(",\"effects\":[{\"OTIO_SCHEMA\":\"LinearTimeWarp.1\",\"time_scalar\":2.0}]}]}")
+}
+
+fn put_crossed_track(
+    text: &mut String,
+    lengths: [u32; 2],
+    offsets: [u32; 2],
+) -> Result<(), AllocError> {
+    text.push_str(ROOT)?;
+    put_crossed(text, [0, 0], lengths, offsets)?;
+    text.push_str("]}}")
 }
 
 /// A track of two clips with a dissolve between them: their lengths, and the offsets before and
@@ -70,73 +102,71 @@ pub fn crossed_track(
     offsets: [u32; 2],
 ) -> Result<String, AllocError> {
     let mut text = String::new(alloc);
-    text.push_str(
-        "{\"OTIO_SCHEMA\":\"Timeline.1\",\"tracks\":{\"OTIO_SCHEMA\":\"Stack.1\",\"children\":[",
-    )?;
-    text.push_str("{\"OTIO_SCHEMA\":\"Track.1\",\"children\":[")?;
-    put_clip(&mut text, 0, lengths[0], "a.mov")?;
-    text.push_str("},{\"OTIO_SCHEMA\":\"Transition.1\",\"in_offset\":")?;
-    put_time(&mut text, offsets[0])?;
-    text.push_str(",\"out_offset\":")?;
-    put_time(&mut text, offsets[1])?;
-    text.push_str("},")?;
-    put_clip(&mut text, 0, lengths[1], "b.mov")?;
-    text.push_str("}]}]}}")?;
+    put_crossed_track(&mut text, lengths, offsets)?;
     Ok(text)
+}
+
+fn put_two_layers(text: &mut String) -> Result<(), AllocError> {
+    text.push_str(ROOT)?;
+    text.push_str(TRACK)?;
+    put_clip(text, 0, 100, "a.mov")?;
+    text.push_str("}]},{\"OTIO_SCHEMA\":\"Track.1\",\"children\":[")?;
+    put_gap(text, 20)?;
+    text.push_str(",")?;
+    put_clip(text, 0, 30, "c.mov")?;
+    text.push_str("}]}]}}")
 }
 
 /// A track of a clip of 100 frames, and above it one of a gap of 20 frames and a clip of 30.
 pub fn two_layers(alloc: Global) -> Result<String, AllocError> {
     let mut text = String::new(alloc);
-    text.push_str(
-        "{\"OTIO_SCHEMA\":\"Timeline.1\",\"tracks\":{\"OTIO_SCHEMA\":\"Stack.1\",\"children\":[",
-    )?;
-    text.push_str("{\"OTIO_SCHEMA\":\"Track.1\",\"children\":[")?;
-    put_clip(&mut text, 0, 100, "a.mov")?;
-    text.push_str("}]},{\"OTIO_SCHEMA\":\"Track.1\",\"children\":[")?;
-    put_gap(&mut text, 20)?;
-    text.push_str(",")?;
-    put_clip(&mut text, 0, 30, "c.mov")?;
-    text.push_str("}]}]}}")?;
+    put_two_layers(&mut text)?;
     Ok(text)
 }
 
-/// A timeline that starts at frame 86400, of the two tracks above and one of sound.
+fn put_three_tracks(text: &mut String) -> Result<(), AllocError> {
+    text.push_str("{\"OTIO_SCHEMA\":\"Timeline.1\",\"global_start_time\":")?;
+    put_time(text, 86400)?;
+    text.push_str(",\"tracks\":{\"OTIO_SCHEMA\":\"Stack.1\",\"children\":[")?;
+    put_crossed(text, [24, 100], [48, 48], [6, 6])?;
+    text.push_str(",")?;
+    put_fast(text)?;
+    text.push_str(",{\"OTIO_SCHEMA\":\"Track.1\",\"kind\":\"Audio\",\"children\":[")?;
+    put_clip(text, 0, 96, "a.wav")?;
+    text.push_str("}]}]}}")
+}
+
+/// A timeline that starts at frame 86400: two clips of 48 frames with a dissolve of 12 between
+/// them, the fast clip behind its gap, and sound.
 pub fn three_tracks(alloc: Global) -> Result<String, AllocError> {
     let mut text = String::new(alloc);
-    text.push_str("{\"OTIO_SCHEMA\":\"Timeline.1\",\"global_start_time\":")?;
-    put_time(&mut text, 86400)?;
-    text.push_str(",\"tracks\":{\"OTIO_SCHEMA\":\"Stack.1\",\"children\":[")?;
-    put_dissolve(&mut text)?;
-    text.push_str(",")?;
-    put_fast(&mut text)?;
-    text.push_str(",{\"OTIO_SCHEMA\":\"Track.1\",\"kind\":\"Audio\",\"children\":[")?;
-    put_clip(&mut text, 0, 96, "a.wav")?;
-    text.push_str("}]}]}}")?;
+    put_three_tracks(&mut text)?;
     Ok(text)
 }
 
-/// A track of a clip of each of these starts and lengths, the media of each named by its letter.
-/// A start of none is a gap.
-pub fn one_track(alloc: Global, items: &[(&str, Option<u32>, u32)]) -> Result<String, AllocError> {
-    let mut text = String::new(alloc);
-    text.push_str(
-        "{\"OTIO_SCHEMA\":\"Timeline.1\",\"tracks\":{\"OTIO_SCHEMA\":\"Stack.1\",\"children\":[",
-    )?;
-    text.push_str("{\"OTIO_SCHEMA\":\"Track.1\",\"children\":[")?;
+fn put_one_track(text: &mut String, items: &[(&str, Option<u32>, u32)]) -> Result<(), AllocError> {
+    text.push_str(ROOT)?;
+    text.push_str(TRACK)?;
     let mut lead = "";
     for (url, start, length) in items {
         text.push_str(lead)?;
         lead = ",";
         match start {
             Some(first) => {
-                put_clip(&mut text, *first, *length, url)?;
+                put_clip(text, *first, *length, url)?;
                 text.push_str("}")?;
             }
-            None => put_gap(&mut text, *length)?,
+            None => put_gap(text, *length)?,
         }
     }
-    text.push_str("]}]}}")?;
+    text.push_str("]}]}}")
+}
+
+/// A track of a clip of each of these starts and lengths, the media of each named by its letter.
+/// A start of none is a gap.
+pub fn one_track(alloc: Global, items: &[(&str, Option<u32>, u32)]) -> Result<String, AllocError> {
+    let mut text = String::new(alloc);
+    put_one_track(&mut text, items)?;
     Ok(text)
 }
 
@@ -157,18 +187,20 @@ fn put_stack(text: &mut String, ranged: bool) -> Result<(), AllocError> {
     text.push_str("}]}]}")
 }
 
+fn put_nested_track(text: &mut String, ranged: bool) -> Result<(), AllocError> {
+    text.push_str(ROOT)?;
+    text.push_str(TRACK)?;
+    put_clip(text, 0, 10, "p.mov")?;
+    text.push_str("},")?;
+    put_stack(text, ranged)?;
+    text.push_str(",")?;
+    put_clip(text, 0, 10, "z.mov")?;
+    text.push_str("}]}]}}")
+}
+
 /// A track of a clip, such a composition, with a range of its own or without, and a clip.
 pub fn nested_track(alloc: Global, ranged: bool) -> Result<String, AllocError> {
     let mut text = String::new(alloc);
-    text.push_str(
-        "{\"OTIO_SCHEMA\":\"Timeline.1\",\"tracks\":{\"OTIO_SCHEMA\":\"Stack.1\",\"children\":[",
-    )?;
-    text.push_str("{\"OTIO_SCHEMA\":\"Track.1\",\"children\":[")?;
-    put_clip(&mut text, 0, 10, "p.mov")?;
-    text.push_str("},")?;
-    put_stack(&mut text, ranged)?;
-    text.push_str(",")?;
-    put_clip(&mut text, 0, 10, "z.mov")?;
-    text.push_str("}]}]}}")?;
+    put_nested_track(&mut text, ranged)?;
     Ok(text)
 }

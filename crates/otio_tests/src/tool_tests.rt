@@ -1,38 +1,41 @@
 //! Timelines that are joined, piled, cut to a window, flattened, counted and listed.
 
-use crate::runs::{Case, check_case, check_usage, status_of};
+use crate::runs::{
+    Case, Named, check_case, check_cases, check_usages, files_of, put_output, put_text,
+};
 use crate::timelines::{crossed_track, one_track, three_tracks, two_layers};
-use dev_io::{MemFiles, MemOut};
+use dev_io::MemFiles;
 use otio_tools::Status;
 use std::alloc::{AllocError, Global};
 use std::process::Abort;
 use std::test::Fail;
 
-/// How many bytes of a timeline a test takes.
-const ROOM: usize = 20_000;
-
 /// A command line whose output is the file `y.otio`, a line on that file, and what this sends.
 type Made = (&'static str, &'static str, &'static [u8]);
 
-fn some_files(alloc: Global) -> Result<MemFiles, AllocError> {
-    let mut files = MemFiles::new(alloc);
-    let a = ("a.mov", Some(0), 10);
-    let b = ("b.mov", Some(0), 10);
-    files.put("a.otio", one_track(alloc, &[a])?.as_bytes())?;
-    files.put(
-        "b.otio",
-        one_track(alloc, &[("b.mov", Some(0), 5)])?.as_bytes(),
-    )?;
-    files.put("ab.otio", one_track(alloc, &[a, b])?.as_bytes())?;
-    files.put("layers.otio", two_layers(alloc)?.as_bytes())?;
-    files.put("x.otio", three_tracks(alloc)?.as_bytes())?;
-    let late = crossed_track(alloc, [10, 3], [2, 8])?;
-    files.put("late.otio", late.as_bytes())?;
-    files.put(
+// A list, and its media.
+static FILES: [Named; 2] = [
+    (
         "a.edl",
         b"1 A1 V C 00:00:00:00 00:00:00:10 00:00:00:00 00:00:00:10\n",
-    )?;
-    files.put("m.txt", b"A1\t24\t0\t240\ta1.mov\n")?;
+    ),
+    ("m.txt", b"A1\t24\t0\t240\ta1.mov\n"),
+];
+
+fn put_timelines(alloc: Global, files: &mut MemFiles) -> Result<(), AllocError> {
+    let a = ("a.mov", Some(0), 10);
+    let b = ("b.mov", Some(0), 10);
+    put_text(files, "a.otio", one_track(alloc, &[a]))?;
+    put_text(files, "b.otio", one_track(alloc, &[("b.mov", Some(0), 5)]))?;
+    put_text(files, "ab.otio", one_track(alloc, &[a, b]))?;
+    put_text(files, "layers.otio", two_layers(alloc))?;
+    put_text(files, "x.otio", three_tracks(alloc))?;
+    put_text(files, "late.otio", crossed_track(alloc, [10, 3], [2, 8]))
+}
+
+fn some_files(alloc: Global) -> Result<MemFiles, AllocError> {
+    let mut files = files_of(alloc, &FILES)?;
+    put_timelines(alloc, &mut files)?;
     Ok(files)
 }
 
@@ -44,27 +47,33 @@ fn check_made(
     case: &Made,
 ) -> Result<(), Fail> {
     let (line, shown, rows) = *case;
-    let mut out = MemOut::new(alloc, ROOM)?;
-    let mut err = MemOut::new(alloc, 1000)?;
-    let ended = status_of(alloc, line, files, &mut out, &mut err)?;
-    assert_eq!(rt; err.sent(), b"".as_slice(), "{line}");
-    assert_eq!(rt; ended, Status::Done, "{line}");
-    files.put("y.otio", out.sent())?;
+    put_output(rt, alloc, files, line, "y.otio")?;
     let told: Case = (shown, Status::Done, rows, b"");
     check_case(rt, alloc, files, &told)
+}
+
+fn check_each_made(
+    rt: &impl Abort,
+    alloc: Global,
+    files: &mut MemFiles,
+    cases: &[Made],
+) -> Result<(), Fail> {
+    for case in cases {
+        check_made(rt, alloc, files, case)?;
+    }
+    Ok(())
 }
 
 // Holds each of some cases over the same files.
 fn check_all_made(rt: &impl Abort, alloc: Global, cases: &[Made]) -> Result<(), Fail> {
     let mut files = some_files(alloc)?;
-    for case in cases {
-        check_made(rt, alloc, &mut files, case)?;
-    }
-    Ok(())
+    let held = check_each_made(rt, alloc, &mut files, cases);
+    drop(files);
+    held
 }
 
 // A window of two clips of 10 frames.
-const WINDOWS: [Made; 3] = [
+static WINDOWS: [Made; 3] = [
     (
         "tool --trim 4,12 ab.otio",
         "frames --start 9 --count 2 y.otio",
@@ -89,7 +98,7 @@ fn windows_show_what_they_showed(rt: HostRuntime) -> Result<(), Fail> {
 }
 
 // Two timelines one after another, a list among them, and above each other.
-const JOINED: [Made; 5] = [
+static JOINED: [Made; 5] = [
     (
         "cat a.otio b.otio",
         "frames --start 9 --count 2 y.otio",
@@ -124,7 +133,7 @@ fn joined_timelines_show_each_in_its_place(rt: HostRuntime) -> Result<(), Fail> 
 }
 
 // One track of those of a kind, and tracks without transitions.
-const FLAT: [Made; 5] = [
+static FLAT: [Made; 5] = [
     (
         "tool --flatten video layers.otio",
         "frames --start 19 --count 2 y.otio",
@@ -159,7 +168,7 @@ fn flat_timelines_show_what_was_on_top(rt: HostRuntime) -> Result<(), Fail> {
 }
 
 // Listings, in their order, and what is refused.
-const TOLD: [Case; 9] = [
+static TOLD: [Case; 9] = [
     (
         "stat x.otio",
         Status::Done,
@@ -220,14 +229,13 @@ const TOLD: [Case; 9] = [
 fn timelines_are_listed_or_refused(rt: HostRuntime) -> Result<(), Fail> {
     let alloc = rt.alloc();
     let mut files = some_files(alloc)?;
-    for case in &TOLD {
-        check_case(&rt, alloc, &mut files, case)?;
-    }
-    Ok(())
+    let held = check_cases(&rt, alloc, &mut files, &TOLD);
+    drop(files);
+    held
 }
 
 // Lines that no command has.
-const NOTHING: [&str; 5] = [
+static NOTHING: [&str; 5] = [
     "tool --concat --stack a.otio b.otio",
     "tool a.otio b.otio",
     "tool --video-only --audio-only x.otio",
@@ -239,8 +247,7 @@ const NOTHING: [&str; 5] = [
 fn other_lines_are_usage(rt: HostRuntime) -> Result<(), Fail> {
     let alloc = rt.alloc();
     let mut files = some_files(alloc)?;
-    for line in &NOTHING {
-        check_usage(&rt, alloc, &mut files, line)?;
-    }
-    Ok(())
+    let held = check_usages(&rt, alloc, &mut files, &NOTHING);
+    drop(files);
+    held
 }

@@ -65,7 +65,7 @@ fn asks_for_list(
     Ok(())
 }
 
-// That a line asks for this command on the file of this name. An empty name is the line's last word.
+// That a line asks for this command on the file of this name. An empty name is its last word.
 fn asks_for_file(
     rt: &impl Abort,
     alloc: Global,
@@ -333,7 +333,7 @@ fn other_lines_ask_for_no_frames(rt: HostRuntime) -> Result<(), Fail> {
     Ok(())
 }
 
-// That a line asks for the edits of a script, of a list at a rate of this numerator or of a timeline.
+// That a line asks for a script's edits: of a list at a rate of this numerator, or of a timeline.
 fn asks_for_edit(
     rt: &impl Abort,
     alloc: Global,
