@@ -14,17 +14,17 @@ use Rattle.script_law.specs.Shown.{opened}
 use Rattle.script_law.proofs.Starting.{start_editable, start_kept, start_state}
 use Rattle.edl_list.specs.declared.list.EventList.{EventList}
 use Rattle.edl_frames.specs.Carried.{IsListOf}
-use Rattle.drill_media.specs.Media.{rows}
-use Rattle.drill_timeline.specs.Starting.{IsStart, behind_start}
-use Rattle.drill_edits.specs.Rounds.{Drills, Round}
-use Rattle.drill_edits.specs.Rewinding.{rewound}
-use Rattle.drill_edits.specs.Turns.{round_of}
-use Rattle.drill_sums.specs.Sums.{back_sum}
-use Rattle.drill_lists.specs.Lists.{Conforms, IsListed}
-use Rattle.drill_lists.specs.declared.listed.Listed.{Listed}
-use Rattle.drill_lists.specs.declared.listed.Listed.TheVariants as L
-use Rattle.drill_lines.specs.declared.tally.Carried.{Carried}
-use Rattle.drill_lines.specs.declared.tally.Tally.{Tally}
+use Rattle.drill.specs.Media.{rows}
+use Rattle.drill.specs.Starting.{IsStart, behind_start}
+use Rattle.drill.specs.Rounds.{Drills, Round}
+use Rattle.drill.specs.Rewinding.{rewound}
+use Rattle.drill.specs.Turns.{round_of}
+use Rattle.drill.specs.Sums.{back_sum}
+use Rattle.drill.specs.Lists.{Conforms, IsListed}
+use Rattle.drill.specs.declared.listed.Listed.{Listed}
+use Rattle.drill.specs.declared.listed.Listed.TheVariants as L
+use Rattle.drill.specs.declared.tally.Carried.{Carried}
+use Rattle.drill.specs.declared.tally.Tally.{Tally}
 use Rattle.drill.specs.Told.{DrillsTo, GoesThrough, IsToldOf, begun, carried_of, track_children}
 
 -- a timeline that can be edited, with a log of nothing

@@ -1,4 +1,21 @@
 -- Lemmas on drills.
+pub mod ActSteps
+pub mod WorkedLemmas
+pub mod LineLemmas
+pub mod ListLemmas
+pub mod MadeClips
+pub mod PlainClips
+pub mod SoundStart
+pub mod Editable
+pub mod Tries
+pub mod RoundLemmas
+pub mod SumLemmas
+pub mod VideoTracks
+pub mod SourceOuts
+pub mod FaultlessItems
+pub mod FaultlessTracks
+pub mod SoundTimelines
+pub mod KeptLists
 pub mod Starts
 pub mod Undone
 pub mod OneTally

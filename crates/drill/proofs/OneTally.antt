@@ -10,17 +10,17 @@ use Rattle.edl_frames.specs.Conformed.{IsTimelineOf}
 use Rattle.edl_frames.specs.declared.reasons.Why.{Why}
 use Rattle.edl_frames_law.proofs.OneList.{one_list}
 use Rattle.edl_frames_law.proofs.OneTimeline.{one_timeline}
-use Rattle.drill_media.specs.Media.{rows}
-use Rattle.drill_timeline.specs.Starting.{IsStart, behind_start}
-use Rattle.drill_edits.specs.Rounds.{Drills, Goes, Round, accepted, refused, drawn}
-use Rattle.drill_edits.specs.Rewinding.{rewound}
-use Rattle.drill_lists.specs.Lists.{Conforms, IsListed, IsReason}
-use Rattle.drill_lists.specs.declared.listed.Listed.{Listed}
-use Rattle.drill_lists.specs.declared.listed.Listed.TheVariants as L
-use Rattle.drill_sums.specs.Sums.{back_sum}
-use Rattle.drill_lines.specs.declared.tally.Carried.{Carried}
-use Rattle.drill_lines.specs.declared.tally.Carried.TheVariants as C
-use Rattle.drill_lines.specs.declared.tally.Tally.{Tally}
+use Rattle.drill.specs.Media.{rows}
+use Rattle.drill.specs.Starting.{IsStart, behind_start}
+use Rattle.drill.specs.Rounds.{Drills, Goes, Round, accepted, refused, drawn}
+use Rattle.drill.specs.Rewinding.{rewound}
+use Rattle.drill.specs.Lists.{Conforms, IsListed, IsReason}
+use Rattle.drill.specs.declared.listed.Listed.{Listed}
+use Rattle.drill.specs.declared.listed.Listed.TheVariants as L
+use Rattle.drill.specs.Sums.{back_sum}
+use Rattle.drill.specs.declared.tally.Carried.{Carried}
+use Rattle.drill.specs.declared.tally.Carried.TheVariants as C
+use Rattle.drill.specs.declared.tally.Tally.{Tally}
 use Rattle.drill.specs.Told.{DrillsTo, IsToldOf, begun, carried_of, track_children}
 use Rattle.drill.proofs.Starts.{one_start}
 use Rattle.drill.proofs.Undone.{kept_drill, rewound_now}

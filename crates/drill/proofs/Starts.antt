@@ -8,8 +8,8 @@ use Rattle.otio_model.specs.Timelines.{bare}
 use Rattle.cuts.specs.Finest.{rate_24}
 use Rattle.script_text.specs.declared.commands.Put.{Put}
 use Rattle.edit_script.proofs.Once.{one_item, one_time}
-use Rattle.drill_media.specs.Media.{rows}
-use Rattle.drill_timeline.specs.Starting.{AreItems, IsStart, first_frame, start_clips, timeline_with}
+use Rattle.drill.specs.Media.{rows}
+use Rattle.drill.specs.Starting.{AreItems, IsStart, first_frame, start_clips, timeline_with}
 
 one_list : (puts : List Put) (xs ys : List (ItemOf Listed)) → AreItems puts xs → AreItems puts ys
     → xs ≡ ys

@@ -7,8 +7,8 @@ use Rattle.script_text.specs.declared.commands.Act.{Act}
 use Rattle.media_rows.specs.Rows.{MediaRows}
 use Rattle.edit_script.specs.Runs.{Takes, edits, undoes, redoes}
 use Rattle.script_law.specs.Shown.{undone}
-use Rattle.drill_edits.specs.Rounds.{Drills, Goes, Round, accepted, refused}
-use Rattle.drill_edits.specs.Rewinding.{rewound, rewound_to}
+use Rattle.drill.specs.Rounds.{Drills, Goes, Round, accepted, refused}
+use Rattle.drill.specs.Rewinding.{rewound, rewound_to}
 
 -- the first timeline of a state
 abbrev first_of : State → Timeline

@@ -7,17 +7,17 @@ use Rattle.otio_model.specs.Trees.{children_of, items_of}
 use Rattle.undo_log.specs.States.{State}
 use Rattle.script_law.specs.Shown.{opened}
 use Rattle.coord.specs.Programs.{start_frame}
-use Rattle.drill_lists.specs.Lists.{IsListed}
-use Rattle.drill_lists.specs.declared.listed.Listed.{Listed}
-use Rattle.drill_lists.specs.declared.listed.Listed.TheVariants as L
-use Rattle.drill_media.specs.Media.{rows}
-use Rattle.drill_timeline.specs.Starting.{IsStart, behind_start}
-use Rattle.drill_edits.specs.Rounds.{Drills, Round}
-use Rattle.drill_edits.specs.Rewinding.{rewound}
-use Rattle.drill_sums.specs.Sums.{channel_sum, frames_of, back_sum}
-use Rattle.drill_lines.specs.declared.tally.Carried.{Carried}
-use Rattle.drill_lines.specs.declared.tally.Carried.TheVariants as C
-use Rattle.drill_lines.specs.declared.tally.Tally.{Tally}
+use Rattle.drill.specs.Lists.{IsListed}
+use Rattle.drill.specs.declared.listed.Listed.{Listed}
+use Rattle.drill.specs.declared.listed.Listed.TheVariants as L
+use Rattle.drill.specs.Media.{rows}
+use Rattle.drill.specs.Starting.{IsStart, behind_start}
+use Rattle.drill.specs.Rounds.{Drills, Round}
+use Rattle.drill.specs.Rewinding.{rewound}
+use Rattle.drill.specs.Sums.{channel_sum, frames_of, back_sum}
+use Rattle.drill.specs.declared.tally.Carried.{Carried}
+use Rattle.drill.specs.declared.tally.Carried.TheVariants as C
+use Rattle.drill.specs.declared.tally.Tally.{Tally}
 
 -- how many children a list of children has, 0 where there is none
 abbrev pub length_of : Option Children → ℕ

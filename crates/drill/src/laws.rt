@@ -4,8 +4,8 @@ ghost use Rattle.std.specs.Prelude.{◌≡◌, ℕ};
 ghost use Rattle.otio_model.specs.declared.timelines.Timeline.{Timeline};
 ghost use Rattle.otio_model.specs.Timelines.{bare};
 ghost use Rattle.undo_log.specs.States.{State};
-ghost use Rattle.drill_timeline.specs.Starting.{IsStart};
-ghost use Rattle.drill_lines.specs.declared.tally.Tally.{Tally};
+ghost use Rattle.drill.specs.Starting.{IsStart};
+ghost use Rattle.drill.specs.declared.tally.Tally.{Tally};
 ghost use Rattle.drill.specs.Told.{DrillsTo};
 
 /// Law: a seed and a number of edits have one drill at most: one tally, and one state.

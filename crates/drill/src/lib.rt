@@ -1,9 +1,44 @@
-//! A drill: a timeline is made and edited by drawing numbers, its list is made and conformed, and
-//! all is undone.
+//! A drill: a timeline is made and edited by drawing numbers, its list is made and conformed, the
+//! frames that it shows are summed, and all is undone.
+//!
+//! A generator gives numbers one after another, each from the one before, so a drill is the same
+//! for the same seed. Of a frame its number counts, of a mix those of both sides, and where nothing
+//! is seen 0.
 #![tactic(auto)]
 
+mod acts;
+mod channels;
+mod clips;
+mod conforming;
+mod draw_laws;
 mod drilling;
+mod frames;
+mod generator;
 mod laws;
+mod lines;
+mod listed;
+mod listing;
+mod pictures;
+mod record_frames;
+mod reels;
+mod rounds;
+mod steps;
+mod sums;
+mod tally;
+mod timeline;
 
+pub use channels::channel_sum;
+pub use draw_laws::draws_are_worked;
 pub use drilling::{Drilled, drill};
+pub use frames::{frame_ticks, track_frames, track_ticks};
+pub use generator::Generator;
 pub use laws::{one_outcome, undone_is_start};
+pub use lines::write_tally;
+pub use listed::Listed;
+pub use listing::conformed;
+pub use record_frames::frames_of;
+pub use reels::media;
+pub use rounds::{run_edits, undo_all};
+pub use sums::{back_sum, child_sum};
+pub use tally::{Carried, Tally};
+pub use timeline::start_timeline;

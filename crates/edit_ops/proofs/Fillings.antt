@@ -12,9 +12,9 @@ use Rattle.otio_model.specs.declared.editing.RemoveMode.TheVariants as R
 use Rattle.cuts.specs.Children.{all_made, is_far, made, new_gap, with_first}
 use Rattle.edits.specs.Edits.{filling}
 use Rattle.edits.specs.Refusals.{cuts_filling}
-use Rattle.edit_tests.specs.Filled.{IsFilling, IsMisfit, is_wrong}
-use Rattle.edit_tests.specs.declared.fillings.FillFault.{FillFault}
-use Rattle.edit_tests.specs.declared.fillings.FillFault.TheVariants as G
+use Rattle.edit_plans.specs.Filled.{IsFilling, IsMisfit, is_wrong}
+use Rattle.edit_plans.specs.declared.fillings.FillFault.{FillFault}
+use Rattle.edit_plans.specs.declared.fillings.FillFault.TheVariants as G
 use Rattle.edit_ops.specs.Zoned.{in_place, misfit, told}
 use Rattle.edit_ops.proofs.Items.{gap_near}
 

@@ -9,7 +9,7 @@ use Rattle.cuts.specs.Children.{ticks}
 use Rattle.edits.specs.Edges.{held_at, is_gap}
 use Rattle.edits_law.proofs.Accepted.{found}
 use Rattle.edits_law.proofs.Parted.{added_low}
-use Rattle.plan_parts.specs.Parts.{IsHeldAt}
+use Rattle.edit_plans.specs.Parts.{IsHeldAt}
 use Rattle.edit_ops.specs.Begun.{IsHolding}
 
 index_of : (l : List (ItemOf Listed)) (i : ℕ) (x : ItemOf Listed) → slice_get l i ≡ Some x

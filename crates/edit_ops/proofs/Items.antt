@@ -14,7 +14,7 @@ use Rattle.cuts.specs.Children.{ticks, is_far, new_gap, plain_gap}
 use Rattle.depths.specs.Editable.{IsEditItem}
 use Rattle.pieces.specs.Short.{IsShort}
 use Rattle.pieces.proofs.Grown.{ticks_are}
-use Rattle.edit_tests.proofs.FillLemmas.{not_far}
+use Rattle.edit_plans.proofs.FillLemmas.{not_far}
 
 -- the length of a source_range, else of another range
 abbrev len_of : Option Span → Option Range → ℕ

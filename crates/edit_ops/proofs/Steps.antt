@@ -22,7 +22,7 @@ use Rattle.edits.specs.Edits.{at_held, edited, filled, filling, removed}
 use Rattle.edits.specs.Narrow.{touched}
 use Rattle.edits.specs.Refusals.{cuts_filling, early_fault, long, pin_fault, test}
 use Rattle.edits.specs.Zones.{touches}
-use Rattle.edit_tests.specs.Filled.{is_wrong}
+use Rattle.edit_plans.specs.Filled.{is_wrong}
 use Rattle.edit_ops.specs.Begun.{IsBegun, IsHolding}
 use Rattle.edit_ops.specs.Zoned.{IsZoned, cuts_then, in_place, in_place_ticks, misfit, phase_by}
 use Rattle.edit_ops.proofs.Tests.{begun_tests, fill_tests}

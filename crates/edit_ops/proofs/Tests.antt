@@ -16,7 +16,7 @@ use Rattle.edits.specs.After.{at_of, frame_of, list_of, place_of}
 use Rattle.edits.specs.Edges.{Held, held_at, is_gap, is_zero, start}
 use Rattle.edits.specs.Edits.{filling}
 use Rattle.edits.specs.Refusals.{asks_item, cuts_ends, cuts_filling, early_fault, first_fault, has_no_neighbour, has_wrong_fit, is_empty, is_filled_item, is_phased, is_wrong_speed, list_fault, pin_fault, place_fault, test}
-use Rattle.edit_tests.specs.Filled.{is_wrong}
+use Rattle.edit_plans.specs.Filled.{is_wrong}
 use Rattle.edit_ops.specs.Begun.{IsBegun}
 use Rattle.edit_ops.specs.Zoned.{misfit, phase_by}
 

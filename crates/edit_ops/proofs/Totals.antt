@@ -10,7 +10,7 @@ use Rattle.otio_model.specs.Trees.{items_of}
 use Rattle.otio_model.proofs.LengthLimits.{short_enough}
 use Rattle.edits.specs.Edges.{added}
 use Rattle.edit_ops.specs.Zoned.{change}
-use Rattle.plan_parts.proofs.Holding.{all_ticks}
+use Rattle.edit_plans.proofs.Holding.{all_ticks}
 
 pub is_added : (l : Listed) (n : ℕ) → n ≡ model.added (lengths l) → pos n ≡ added (items_of l)
 is_added l n e = ap pos e ∙ all_ticks l

@@ -19,7 +19,7 @@ use Rattle.edits.specs.Edits.{edited}
 use Rattle.edits.specs.Narrow.{touched}
 use Rattle.edits.specs.Refusals.{cuts_ends, early_fault, IsRefused, long, pin_fault, too_long, at_once, unpinned}
 use Rattle.edits.specs.Zones.{touches}
-use Rattle.plan_parts.proofs.LongLemmas.{long_between}
+use Rattle.edit_plans.proofs.LongLemmas.{long_between}
 use Rattle.edit_plans.specs.Planned.{IsMiddle}
 use Rattle.edit_ops.specs.Zoned.{IsZoned, change, cuts_then, phase_by, pin_by}
 

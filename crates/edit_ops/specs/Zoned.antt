@@ -19,9 +19,9 @@ use Rattle.edits.specs.Edits.{edited}
 use Rattle.edits.specs.Narrow.{touched}
 use Rattle.edits.specs.Refusals.{cuts_ends, cuts_filling, early_fault, long, pin_fault, test, unpinned}
 use Rattle.edits.specs.Zones.{touches}
-use Rattle.edit_tests.specs.Filled.{is_wrong}
-use Rattle.edit_tests.specs.declared.fillings.FillFault.{FillFault}
-use Rattle.edit_tests.specs.declared.fillings.FillFault.TheVariants as G
+use Rattle.edit_plans.specs.Filled.{is_wrong}
+use Rattle.edit_plans.specs.declared.fillings.FillFault.{FillFault}
+use Rattle.edit_plans.specs.declared.fillings.FillFault.TheVariants as G
 
 -- the edit is one of the track at the place, and puts these children, so long, between two
 -- instants; these are the items that they are; its tests up to the one of pinned lengths come to

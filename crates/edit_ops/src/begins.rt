@@ -6,8 +6,7 @@ ghost use Rattle.edits.specs.After.{at_of, place_of};
 ghost use Rattle.edits.specs.Refusals.{early_fault};
 ghost use Rattle.edit_ops.specs.Begun.{IsBegun};
 
-use edit_plans::{edit_rate, frame_at};
-use edit_tests::place_fault;
+use edit_plans::{edit_rate, frame_at, place_fault};
 use otio_model::{EditFault, Place, Timeline};
 use tick_time::Rate;
 

@@ -7,10 +7,9 @@ ghost use Rattle.edits.specs.Edges.{held_at};
 ghost use Rattle.pieces.specs.Short.{AreCuttable};
 ghost use Rattle.edit_ops.specs.Begun.{IsHolding};
 
-use edit_tests::is_gap;
+use edit_plans::{child, held, is_gap};
 use otio_model::Children;
 use pieces::sound_ticks;
-use plan_parts::{child, held};
 
 /// An item that holds an instant.
 #[derive(Clone, Copy, Debug)]

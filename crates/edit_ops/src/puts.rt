@@ -10,11 +10,11 @@ ghost use Rattle.depths.specs.Editable.{IsEditItem};
 ghost use Rattle.edits.specs.Edges as edges;
 ghost use Rattle.edits.specs.Edits as edits;
 ghost use Rattle.edits.specs.Refusals.{cuts_filling};
-ghost use Rattle.edit_tests.specs.Filled.{is_wrong};
+ghost use Rattle.edit_plans.specs.Filled.{is_wrong};
 ghost use Rattle.edit_ops.specs.Zoned.{in_place, in_place_ticks, misfit};
 ghost use Rattle.edit_ops.specs.Zoned as zoned;
 
-use edit_tests::{FillFault, fill, filling_ticks, is_nothing};
+use edit_plans::{FillFault, fill, filling_ticks, is_nothing};
 use otio_model::{EditFault, FillMode, Item, RemoveMode};
 use pieces::{RangedFault, new_gap, ticks_of};
 use std::alloc::{AllocError, Global};

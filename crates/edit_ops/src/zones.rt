@@ -18,10 +18,9 @@ ghost use Rattle.edit_ops.specs.Zoned as zoned;
 ghost use Rattle.edit_ops.specs.Zoned.{IsZoned};
 ghost use Rattle.edit_plans.specs.Planned.{IsPlan};
 
-use edit_plans::{finish, track_of, unpinned};
+use edit_plans::{can_be_cut, fill_zone, finish, track_of, unpinned};
 use otio_model::{Children, EditFault, Item, Patch, Place, Timeline};
 use pieces::RangedFault;
-use plan_parts::{can_be_cut, fill_zone};
 use std::alloc::Global;
 use tick_time::Rate;
 

@@ -1,4 +1,10 @@
--- What plans of edits are.
+-- What plans of edits are made of, as the code has it: the edits are defined in `edits`.
+pub mod Parts
+pub mod Bounds
+pub mod Meanings
+pub mod Filled
+pub mod Neighbours
+pub mod Way
 pub mod Amounts
 pub mod Pins
 pub mod Planned

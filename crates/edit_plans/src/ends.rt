@@ -16,11 +16,11 @@ ghost use Rattle.edit_plans.specs.Planned.{IsMiddle, IsPlan};
 ghost use Rattle.edit_plans.specs.Ways as ways;
 
 use crate::amounts::{Amount, amount_of, stretch_amount};
+use crate::middles::Middle;
 use crate::tracks::track_of;
 use crate::ways::{has_long, is_way_long};
 use limits::MOST_ITEMS;
 use otio_model::{EditFault, Items, Patch, Place, Timeline};
-use plan_parts::Middle;
 
 /// So many ticks without those that go and with those that come, up to the greatest number.
 fn exchanged_ticks(all: u128, gone: u128, come: u128) -> u128

@@ -10,9 +10,9 @@ use Rattle.edits.specs.Edges.{Held, end, first_item, is_gap_at, last_item, rippl
 use Rattle.edits.specs.Edges.{slide_by, slip_by, start, trim_by}
 use Rattle.edits.specs.Edges as edges
 use Rattle.edits.specs.Edits.{in_ticks}
-use Rattle.edit_clamps.specs.Bounds.{IsMove}
-use Rattle.edit_clamps.specs.Parts.{moves_of}
-use Rattle.edit_clamps.specs.declared.moves.Moves.{Moves}
+use Rattle.edit_plans.specs.Bounds.{IsMove}
+use Rattle.edit_plans.specs.Meanings.{moves_of}
+use Rattle.edit_plans.specs.declared.moves.Moves.{Moves}
 use Rattle.edit_trim.specs.Motions.{IsMotion, trim_growth}
 use Rattle.edit_trim.specs.Seats.{IsInstant, ripple_shape, roll_shape, slide_shape, trim_shape}
 use Rattle.edit_trim.specs.declared.asked.EdgeEdit.{EdgeEdit}

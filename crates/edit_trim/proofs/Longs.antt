@@ -15,7 +15,7 @@ use Rattle.edits.specs.Refusals.{long}
 use Rattle.cuts_law.proofs.Splice.{cases}
 use Rattle.edit_trim.specs.Changes.{changed, parts}
 use Rattle.edit_trim.specs.declared.shapes.Shape.{Shape}
-use Rattle.plan_parts.proofs.LongLemmas.{long_olds, long_both}
+use Rattle.edit_plans.proofs.LongLemmas.{long_olds, long_both}
 
 pub zero_is : (z : ℤ) → is_zero z ≡ true → z ≡ pos 0
 zero_is z e = by_lt_z z (pos 0)

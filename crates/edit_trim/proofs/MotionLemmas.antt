@@ -17,7 +17,7 @@ use Rattle.edits.specs.Edits.{beside, in_ticks}
 use Rattle.edits.specs.Refusals.{long}
 use Rattle.cuts_law.proofs.Splice.{cases}
 use Rattle.edits_law.proofs.Parted.{added_strip}
-use Rattle.edit_clamps.specs.Bounds.{IsMove}
+use Rattle.edit_plans.specs.Bounds.{IsMove}
 use Rattle.edit_trim.specs.Changes.{IsChange, Leaves, changed, reshaped}
 use Rattle.edit_trim.specs.Motions.{IsMotion, held_list}
 use Rattle.edit_trim.specs.Seats.{IsInstant, keep, ripple_shape, roll_shape, slide_shape, zone_of}
@@ -27,7 +27,7 @@ use Rattle.edit_trim.specs.declared.changes.Change.{Change}
 use Rattle.edit_trim.specs.declared.changes.Change.TheVariants as C
 use Rattle.edit_trim.specs.declared.shapes.Shape.{Shape}
 use Rattle.edit_trim.specs.declared.shapes.Stretch.{Stretch}
-use Rattle.plan_parts.proofs.LongLemmas.{long_both, long_olds}
+use Rattle.edit_plans.proofs.LongLemmas.{long_both, long_olds}
 use Rattle.edit_trim.proofs.Bounded.{GivesBefore, GivesBehind, Rolls, ripple_left, rolls}
 use Rattle.edit_trim.proofs.Bounded.{slide_left}
 use Rattle.edit_trim.proofs.Kept.{first_keep, first_none, first_strip, last_keep, last_none}

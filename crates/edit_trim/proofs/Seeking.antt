@@ -10,7 +10,7 @@ use Rattle.cuts.specs.Children.{ticks}
 use Rattle.edits.specs.Edges.{Held, held_at}
 use Rattle.edits_law.proofs.Accepted.{found}
 use Rattle.edits_law.proofs.Parted.{added_low}
-use Rattle.plan_parts.specs.Parts.{IsHeldAt}
+use Rattle.edit_plans.specs.Parts.{IsHeldAt}
 use Rattle.edit_trim.specs.Founds.{HasNeighbours, IsFound, IsNoNeighbour, LacksNeighbour}
 use Rattle.edit_trim.specs.Motions.{IsMotion}
 use Rattle.edit_trim.specs.Seats.{IsAt}

@@ -15,7 +15,7 @@ use Rattle.edits.specs.Edges.{trimmed_before, trimmed_behind}
 use Rattle.edits.specs.Edits.{in_ticks}
 use Rattle.edits.specs.Good.{IsTrimmedBefore, IsTrimmedBehind}
 use Rattle.edits.specs.Refusals.{long}
-use Rattle.edit_clamps.specs.Bounds.{IsMove}
+use Rattle.edit_plans.specs.Bounds.{IsMove}
 use Rattle.edit_trim.specs.Changes.{IsChange, Leaves, changed, reshaped}
 use Rattle.edit_trim.specs.Motions.{IsMotion, held_list, trim_growth}
 use Rattle.edit_trim.specs.Seats.{IsInstant, keep, trim_shape, zone_of}

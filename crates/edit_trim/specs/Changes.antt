@@ -5,7 +5,7 @@ use Rattle.otio_model.specs.declared.compositions.Listed.{Listed}
 use Rattle.cuts.specs.Children.{Child, ticks}
 use Rattle.edits.specs.Edges.{Held, Zone, left_before, left_behind, first_changed, last_changed}
 use Rattle.edits.specs.Edges.{one, moved, grown, slipped_item, gap_of}
-use Rattle.edit_clamps.specs.Bounds.{IsMove}
+use Rattle.edit_plans.specs.Bounds.{IsMove}
 use Rattle.edit_trim.specs.declared.changes.Change.{Change}
 use Rattle.edit_trim.specs.declared.changes.Change.TheVariants as C
 use Rattle.edit_trim.specs.declared.shapes.Shape.{Shape}

@@ -11,7 +11,7 @@ use Rattle.edits.specs.Edges.{slipped, slipped_item, slide_by, slid, ripple_by, 
 use Rattle.edits.specs.Edges.{trim_by, trimmed, roll_by, rolled}
 use Rattle.edits.specs.Edits.{beside, in_ticks}
 use Rattle.edits.specs.Refusals.{long}
-use Rattle.edit_clamps.specs.Bounds.{IsMove}
+use Rattle.edit_plans.specs.Bounds.{IsMove}
 use Rattle.edit_trim.specs.Changes.{reshaped}
 use Rattle.edit_trim.specs.Seats.{IsRound, IsShape, LeavesAll, zone_of}
 use Rattle.edit_trim.specs.declared.asked.EdgeEdit.{EdgeEdit}

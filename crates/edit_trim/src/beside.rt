@@ -7,9 +7,8 @@ ghost use Rattle.edits.specs.Edges as edges;
 ghost use Rattle.edits.specs.Edges.{first_item, last_item};
 ghost use Rattle.pieces.specs.Short.{AreCuttable, IsCuttable};
 
-use edit_tests::{after_item, before_item, is_gap};
+use edit_plans::{after_item, before_item, child, is_gap};
 use otio_model::{Children, Item};
-use plan_parts::child;
 
 /// The nearest item before a child, past transitions.
 pub(crate) fn item_before(children: &Children, index: usize) -> Option<&Item>

@@ -13,13 +13,12 @@ ghost use Rattle.cuts.specs.Children as children;
 ghost use Rattle.cuts.specs.Children.{all_made, has_far, is_far};
 ghost use Rattle.edits.specs.Edges as edges;
 ghost use Rattle.pieces.specs.Short.{IsCuttable};
-ghost use Rattle.edit_clamps.specs.Bounds.{IsMove};
+ghost use Rattle.edit_plans.specs.Bounds.{IsMove};
 ghost use Rattle.edit_trim.specs.Changes as changes;
 ghost use Rattle.edit_trim.specs.Changes.{IsChange, Leaves};
 
 use coord::speed;
-use edit_clamps::is_zero;
-use edit_tests::is_gap;
+use edit_plans::{is_gap, is_zero};
 use otio_model::{Item, copy_item};
 use pieces::{RangedFault, new_gap, ranged, sound_ticks, start_ticks};
 use std::alloc::Global;

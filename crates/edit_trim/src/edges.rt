@@ -16,7 +16,7 @@ ghost use Rattle.edits.specs.Edges.{Held};
 ghost use Rattle.edits.specs.Refusals as refusals;
 ghost use Rattle.edits.specs.Refusals.{IsRefused};
 ghost use Rattle.pieces.specs.Short.{AreCuttable};
-ghost use Rattle.edit_clamps.specs.Bounds.{IsMove};
+ghost use Rattle.edit_plans.specs.Bounds.{IsMove};
 ghost use Rattle.edit_plans.specs.Planned.{is_list_edit, IsMiddle, IsPlan, ShowsThrough};
 ghost use Rattle.edit_trim.specs.Asked.{edit_of};
 ghost use Rattle.edit_trim.specs.Founds.{HasNeighbours, IsFound, IsNoItem, IsNoNeighbour};
@@ -30,12 +30,11 @@ use crate::beside::{item_before, item_behind};
 use crate::changes::{Change, changed};
 use crate::motions::{Motion, in_ticks, ripple, roll, slide, slip, trim};
 use crate::shapes::reshaped;
-use edit_clamps::is_zero;
-use edit_plans::{edit_rate, finish, frame_at, track_of, unpinned};
-use edit_tests::place_fault;
+use edit_plans::{
+    Middle, child, edit_rate, finish, frame_at, held, is_zero, place_fault, track_of, unpinned,
+};
 use otio_model::{Children, Edit, EditFault, Item, Patch, Place, Seat, Timeline};
 use pieces::RangedFault;
-use plan_parts::{Middle, child, held};
 use std::alloc::Global;
 use tick_time::Rate;
 

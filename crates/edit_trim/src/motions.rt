@@ -8,7 +8,7 @@ ghost use Rattle.cuts.specs.Children.{ticks as child_ticks};
 ghost use Rattle.edits.specs.Edges as edges;
 ghost use Rattle.edits.specs.Edges.{Held, first_item, last_item};
 ghost use Rattle.pieces.specs.Short.{IsCuttable};
-ghost use Rattle.edit_clamps.specs.Bounds.{IsMove};
+ghost use Rattle.edit_plans.specs.Bounds.{IsMove};
 ghost use Rattle.edit_trim.specs.Motions as trims;
 ghost use Rattle.edit_trim.specs.Motions.{IsMotion};
 ghost use Rattle.edit_trim.specs.Seats as seats;
@@ -18,7 +18,7 @@ ghost use Rattle.edit_trim.specs.declared.asked.EdgeEdit.TheVariants as asks;
 use crate::beside::is_gap_at;
 use crate::changes::Change;
 use crate::shapes::{Shape, Stretch};
-use edit_clamps::{Moves, ripple_by, roll_by, slide_by, slip_by, trim_by};
+use edit_plans::{Moves, ripple_by, roll_by, slide_by, slip_by, trim_by};
 use otio_model::Item;
 use pieces::sound_ticks;
 

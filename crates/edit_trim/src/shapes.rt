@@ -14,7 +14,7 @@ ghost use Rattle.edits.specs.Edges as edges;
 ghost use Rattle.edits.specs.Edges.{Held, first_item, last_item};
 ghost use Rattle.edits.specs.Narrow.{touched as touched_children};
 ghost use Rattle.pieces.specs.Short.{AreCuttable, IsCuttable};
-ghost use Rattle.edit_clamps.specs.Bounds.{IsMove};
+ghost use Rattle.edit_plans.specs.Bounds.{IsMove};
 ghost use Rattle.edit_trim.specs.Changes as changes;
 ghost use Rattle.edit_trim.specs.Changes.{IsChange, Leaves};
 ghost use Rattle.edit_trim.specs.Seats as seats;
@@ -22,9 +22,9 @@ ghost use Rattle.edit_trim.specs.Seats.{IsAt, IsFirst, IsInstant, IsLast, IsShap
 ghost use Rattle.edit_trim.specs.Seats.{LeavesAll, zone_of};
 
 use crate::changes::{Change, changed, gap_of};
+use edit_plans::{Middle, ahead, child, kept, touched};
 use otio_model::{Children, Item, ItemOf, Seat};
 use pieces::{RangedFault, member, sound_ticks};
-use plan_parts::{Middle, ahead, child, kept, touched};
 use std::alloc::{AllocError, Global};
 use tick_time::Rate;
 

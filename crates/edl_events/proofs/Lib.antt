@@ -1,3 +1,17 @@
+-- Lemmas on lists of timelines.
+pub mod TenthsLemmas
+pub mod FrameLemmas
+pub mod StartLemmas
+pub mod SeatLemmas
+pub mod DraftLemmas
+pub mod ReelTests
+pub mod ShortLemmas
+pub mod NearLemmas
+pub mod MadeLemmas
+pub mod CastLemmas
+pub mod PartLemmas
+pub mod JudgeLemmas
+pub mod PlaceLemmas
 pub mod FirstSaid
 pub mod EventTimes
 pub mod ChannelEvents

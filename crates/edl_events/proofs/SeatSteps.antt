@@ -17,11 +17,11 @@ use Rattle.media_rows.specs.Rows.{MediaRows}
 use Rattle.edl_frames.specs.Jobs.{mode_in}
 use Rattle.edl_frames.specs.Seats.{length_in, past_by, is_there}
 use Rattle.edl_frames.specs.ChildEvents.{event_of}
-use Rattle.edl_seats.specs.declared.job.Job.{Job}
-use Rattle.edl_seats.specs.declared.seat.Past.{Past}
-use Rattle.edl_seats.specs.declared.seat.Seat.{Seat}
-use Rattle.edl_seats.specs.Seated.{IsCarried, IsSeatAt, IsSeated}
-use Rattle.edl_seats.specs.Stated.{IsJobOf, stated_job, stated_past, stated_seat}
+use Rattle.edl_events.specs.declared.job.Job.{Job}
+use Rattle.edl_events.specs.declared.seat.Past.{Past}
+use Rattle.edl_events.specs.declared.seat.Seat.{Seat}
+use Rattle.edl_events.specs.Seated.{IsCarried, IsSeatAt, IsSeated}
+use Rattle.edl_events.specs.Stated.{IsJobOf, stated_job, stated_past, stated_seat}
 use Rattle.edl_events.specs.Walk.{IsUnderWay}
 use Rattle.edl_events.proofs.ChildSteps.{IsHere, goes_on}
 use Rattle.edl_events.proofs.ListFacts.{IsJob}

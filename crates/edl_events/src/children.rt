@@ -8,13 +8,16 @@ ghost use Rattle.otio_model.specs.Lengths.{added, lengths};
 ghost use Rattle.otio_model.specs.Trees.{items_of};
 ghost use Rattle.coord.specs.Soundness.{AreFaultless};
 ghost use Rattle.edl_frames.specs.ChildEvents as child_events;
-ghost use Rattle.edl_seats.specs.Seated.{IsCarried, IsPast, IsSeated};
-ghost use Rattle.edl_seats.specs.Stated.{stated_job, stated_seat};
+ghost use Rattle.edl_events.specs.Seated.{IsCarried, IsPast, IsSeated};
+ghost use Rattle.edl_events.specs.Stated.{stated_job, stated_seat};
 ghost use Rattle.edl_events.specs.Walk.{IsWalked};
 
+use crate::job::Job;
+use crate::judging::reason_of;
+use crate::seat::{Past, Seat};
+use crate::writing::event_of;
 use edl_frames::Why;
 use edl_list::{Channel, Event};
-use edl_seats::{Job, Past, Seat, event_of, reason_of};
 use otio_model::Children;
 use std::alloc::{AllocError, Global};
 

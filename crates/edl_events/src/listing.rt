@@ -8,10 +8,10 @@ ghost use Rattle.edl_frames.specs.Carried.{IsListOf, IsNotCarried, not_carried};
 
 use crate::merging::listed;
 use crate::refusing::at_root;
+use crate::starting::job_of;
 use crate::tracks::gather;
 use edl_frames::{NotCarried, Why};
 use edl_list::{EventList, most_events};
-use edl_seats::job_of;
 use media_list::MediaList;
 use otio_model::Timeline;
 use sequences::Text;

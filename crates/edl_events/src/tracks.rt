@@ -9,15 +9,15 @@ ghost use Rattle.otio_model.specs.declared.compositions.Listed.{Listed};
 ghost use Rattle.coord.specs.Soundness.{AreFaultless, IsFaultlessItem};
 ghost use Rattle.edl_frames.specs.Carried as carried;
 ghost use Rattle.edl_frames.specs.Carried.{examine, examine_all, examine_track, first_said};
-ghost use Rattle.edl_seats.specs.Stated.{stated_job};
+ghost use Rattle.edl_events.specs.Stated.{stated_job};
 ghost use Rattle.edl_events.specs.Walk as walk;
 ghost use Rattle.edl_events.specs.Walk.{AddsRoot, AddsTrack, AreGathered, AreTaken, IsSaid};
 
 use crate::children::put_children;
+use crate::job::Job;
 use crate::refusing::{at_child, at_track};
 use edl_frames::{NotCarried, Why};
 use edl_list::{Channel, Event};
-use edl_seats::Job;
 use otio_model::{Children, Item, ItemOf, Track};
 use std::alloc::Global;
 

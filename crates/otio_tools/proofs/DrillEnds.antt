@@ -14,8 +14,8 @@ use Rattle.command_words.specs.declared.requests.Task.{Task}
 use Rattle.command_words.specs.declared.requests.Command.{Command}
 use Rattle.command_words.proofs.Drilling.{drill_once as drill_asked_once, not_both as never_drill}
 use Rattle.drill.specs.Told.{DrillsTo}
-use Rattle.drill_lines.specs.Lines.{tally_text}
-use Rattle.drill_lines.specs.declared.tally.Tally.{Tally}
+use Rattle.drill.specs.Lines.{tally_text}
+use Rattle.drill.specs.declared.tally.Tally.{Tally}
 use Rattle.otio_tools.specs.Asked.{Asked, Asks}
 use Rattle.otio_tools.specs.Forms.{Answer, done}
 use Rattle.otio_tools.specs.Answer.{ByDrill, AnswersDrill}

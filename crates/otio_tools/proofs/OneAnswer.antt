@@ -40,8 +40,8 @@ use Rattle.command_words.specs.Asked.{OtherNames}
 use Rattle.command_words.specs.Drills.{AsksDrill}
 use Rattle.command_words.proofs.Drilling.{drill_once as drill_asked_once, not_both as never_drill}
 use Rattle.drill.proofs.OneTally.{one_tally}
-use Rattle.drill_lines.specs.Lines.{tally_text}
-use Rattle.drill_lines.specs.declared.tally.Tally.{Tally}
+use Rattle.drill.specs.Lines.{tally_text}
+use Rattle.drill.specs.declared.tally.Tally.{Tally}
 use Rattle.undo_log.specs.States.{State}
 use Rattle.script_text.specs.declared.commands.Command as script
 use Rattle.script_text.specs.Scripts.{IsScript}

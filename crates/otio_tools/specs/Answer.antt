@@ -14,8 +14,8 @@ use Rattle.command_words.specs.declared.requests.Command.TheVariants.{ListToList
 use Rattle.command_words.specs.declared.requests.Command.TheVariants.{Cat, ListCat, Stat, ListStat, Tool, ListTool}
 use Rattle.undo_log.specs.States.{State}
 use Rattle.drill.specs.Told.{DrillsTo}
-use Rattle.drill_lines.specs.Lines.{tally_text}
-use Rattle.drill_lines.specs.declared.tally.Tally.{Tally}
+use Rattle.drill.specs.Lines.{tally_text}
+use Rattle.drill.specs.declared.tally.Tally.{Tally}
 use Rattle.otio_tools.specs.Asked.{Asked, Asks}
 use Rattle.otio_tools.specs.Forms.{Answer, done, refused, absent, usage}
 use Rattle.otio_tools.specs.Events.{AnswersEvents}

@@ -5,8 +5,8 @@ use Rattle.undo_log.specs.States.{IsKept, State, state_of}
 use Rattle.edit_script.specs.Keeping.{HoldsEdits}
 use Rattle.command_words.specs.Drills.{AsksDrill}
 use Rattle.drill.specs.Told.{DrillsTo}
-use Rattle.drill_lines.specs.Lines.{tally_text}
-use Rattle.drill_lines.specs.declared.tally.Tally.{Tally}
+use Rattle.drill.specs.Lines.{tally_text}
+use Rattle.drill.specs.declared.tally.Tally.{Tally}
 use Rattle.otio_tools.specs.Forms.{Answer, done}
 use Rattle.otio_tools.specs.Run.{Streams, Sends, SendsNothing, Directs, DirectsPrefix, Message, OutFailed, no_memory, output_failed}
 use Rattle.otio_tools.specs.declared.Desk.{Desk}

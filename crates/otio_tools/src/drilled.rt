@@ -1,7 +1,7 @@
 // Drills.
 ghost use Rattle.std.specs.Prelude.{◌≡◌, None};
 ghost use Rattle.dev_io.specs.Calls.{Tells, SendsAll, IsFresh};
-ghost use Rattle.drill_lines.specs.Lines.{tally_text};
+ghost use Rattle.drill.specs.Lines.{tally_text};
 ghost use Rattle.otio_tools.specs.Drilled.{EndsDrill, SendsTally};
 ghost use Rattle.otio_tools.specs.Plan.{HasSendCause, WritesTo};
 ghost use Rattle.otio_tools.specs.Run.{streams};
@@ -11,8 +11,7 @@ use crate::command::{complain_of_memory, complain_of_output};
 use crate::{Desk, Status};
 use command_words::DrillAsked;
 use dev_io::Out;
-use drill::{Drilled, drill};
-use drill_lines::{Tally, write_tally};
+use drill::{Drilled, Tally, drill, write_tally};
 use frame_rows::RowFault;
 use std::alloc::Global;
 use std::mem;

@@ -1,3 +1,12 @@
+-- Lemmas on the reader of objects.
+pub mod Asking
+pub mod FirstShapes
+pub mod KeptMembers
+pub mod KindLemmas
+pub mod Objects
+pub mod Points
+pub mod Sides
+pub mod StillSpeeds
 pub mod Counting
 pub mod Exits
 pub mod Measures

@@ -1,4 +1,5 @@
--- Measures and conditions of the reader's own functions. No clause of a public call cites them.
+-- Objects as the reader takes them: what they stand for is defined in `schema_rows`.
+pub mod Shapes
 pub mod Depths
 pub mod Kinds
 pub mod Objects

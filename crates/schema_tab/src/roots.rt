@@ -7,12 +7,12 @@ ghost use Rattle.schema_rows.specs.Counts.{count_of};
 ghost use Rattle.schema_rows.specs.Stands.{Stands};
 ghost use Rattle.schema_rows.specs.Faults.{IsFirstFault};
 
+use crate::asked::root_of;
 use crate::counts::left_after;
 use crate::reader::read_object;
 use json_value::Json;
 use limits::MOST_ITEMS;
 use otio_model::{Object, Place};
-use schema_parts::asked::root_of;
 use schema_rows::{ROOTS, SchemaFault};
 use std::alloc::Global;
 

@@ -6,11 +6,11 @@ ghost use Rattle.schema_rows.specs.declared.values.Fields.{Fields};
 ghost use Rattle.schema_rows.specs.Schemas.{rows_of};
 ghost use Rattle.schema_rows.specs.Families as families;
 
+use crate::faults::transitions_fault;
+use crate::finding::others;
+use crate::rules::{breaks, still};
 use json_value::Members;
 use otio_model::Place;
-use schema_parts::faults::transitions_fault;
-use schema_parts::finding::others;
-use schema_parts::rules::{breaks, still};
 use schema_rows::{Fields, Matched, Schema, SchemaFault, Value};
 use sequences::Sequence;
 use std::alloc::Global;

@@ -10,9 +10,9 @@ use Rattle.script_text.specs.declared.commands.Put.{Put}
 use Rattle.script_text.specs.declared.commands.Put.TheVariants as P
 use Rattle.script_text.specs.declared.verbs.Verb.{Verb}
 use Rattle.script_text.specs.declared.verbs.Verb.TheVariants as V
-use Rattle.script_words.specs.Numbers.{whole, place}
-use Rattle.script_words.specs.Words.{with_word, is_end}
-use Rattle.script_words.proofs.WordLemmas.{end_is}
+use Rattle.script_text.specs.Numbers.{whole, place}
+use Rattle.script_text.specs.Words.{with_word, is_end}
+use Rattle.script_text.proofs.WordLemmas.{end_is}
 use Rattle.script_text.specs.Acts.{meaning, verb_words, step_words, fill_words, count, text, clip_of, gap_words, clip_words, put_of, edges_of, by_of, filling_of, mode_of, nothing_of, edit_of, placed_of, step_of, act_of}
 
 abbrev Words : Type 0

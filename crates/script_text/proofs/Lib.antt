@@ -1,3 +1,8 @@
+-- Lemmas on edit scripts.
+pub mod WordLemmas
+pub mod Figures
+pub mod PlaceLemmas
+pub mod Grammar
 pub mod ActLemmas
 pub mod Once
 pub mod LineByLine

@@ -11,8 +11,8 @@ use Rattle.script_text.specs.declared.commands.Put.{Put}
 use Rattle.script_text.specs.declared.commands.Put.TheVariants as P
 use Rattle.script_text.specs.declared.verbs.Verb.{Verb}
 use Rattle.script_text.specs.declared.verbs.Verb.TheVariants as V
-use Rattle.script_words.specs.Numbers.{natural, whole, place}
-use Rattle.script_words.specs.Words.{words_of}
+use Rattle.script_text.specs.Numbers.{natural, whole, place}
+use Rattle.script_text.specs.Words.{words_of}
 
 -- what the first of the texts that is the word means
 abbrev pub meaning : {A : Type 0} → List ℕ → List (List ℕ × A) → Option A

@@ -1,14 +1,15 @@
 //! What the words of a line say.
 
 ghost use Rattle.std.specs.Prelude.{◌≡◌, ◌∷◌, ℕ, ℤ, List, Option, Some, None, IfOk, MatchOption, option_map, option_and_then, []};
-ghost use Rattle.script_words.specs.Words.{words_of};
+ghost use Rattle.script_text.specs.Words.{words_of};
 ghost use Rattle.script_text.specs.Acts as acts;
-ghost use Rattle.script_words.specs.Numbers as numbers;
+ghost use Rattle.script_text.specs.Numbers as numbers;
 
 use crate::commands::{Act, Put};
+use crate::numbers::{count, place_of, whole};
 use crate::verbs::{Verb, fill_of, is_word, remove_of, verb_of};
+use crate::words::{has_ended, next_word};
 use otio_model::{FillMode, Place, RemoveMode};
-use script_words::{count, has_ended, next_word, place_of, whole};
 use sequences::Text;
 use std::alloc::{AllocError, Global};
 

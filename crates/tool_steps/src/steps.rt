@@ -21,7 +21,7 @@ use crate::gathering::gathered;
 use command_words::{Flattening, ToolAsked, TrackKind, Window};
 use coord::record_rate;
 use flat::FlatFault;
-use flat_stack::{flatten, is_of, window, without_transitions};
+use flat_timelines::{flatten, is_of, window, without_transitions};
 use otio_model::{Children, Item, Items, Timeline, copy_item};
 use record_points::{RecordPoint, frame_at};
 use sequences::Text;

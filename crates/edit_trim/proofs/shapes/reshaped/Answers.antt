@@ -1,7 +1,7 @@
 use Rattle.std.proofs.Common.{arith}
 use Rattle.otio_model.specs.Trees.{items_of}
 use Rattle.otio_model.proofs.LengthLimits.{few_enough}
-use Rattle.plan_parts.proofs.ZoneLemmas.{short_all}
+use Rattle.edit_plans.proofs.ZoneLemmas.{short_all}
 use Rattle.edit_trim.proofs.Copying.{copied, ended, placed}
 use Rattle.edit_trim.proofs.Reshaping.{far, few, leaves, made}
 use Rattle.edit_trim.proofs.Seeking.{index_there}

@@ -1,7 +1,7 @@
 use Rattle.std.proofs.Common.{sym, ◌∙◌, arith}
 use Rattle.otio_model.specs.Trees.{items_of}
 use Rattle.coord.proofs.Members.{index_few}
-use Rattle.edl_seats.specs.Stated.{stated_job, stated_seat}
+use Rattle.edl_events.specs.Stated.{stated_job, stated_seat}
 use Rattle.edl_events.proofs.ChildSteps.{stops}
 use Rattle.edl_events.proofs.SeatSteps.{here, kept, walks_on}
 use Rattle.edl_events.proofs.children.put_children.Goals as goal

@@ -2,9 +2,9 @@
 use Rattle.std.proofs.Common.{◌≡◌, pos}
 use Rattle.otio_model.specs.Trees.{items_of}
 use Rattle.otio_model.specs.Lengths.{start_of}
-use Rattle.edl_seats.specs.declared.seat.Past.{Past}
-use Rattle.edl_seats.specs.Seated.{IsPast}
-use Rattle.edl_seats.specs.Stated.{stated_job, stated_past}
+use Rattle.edl_events.specs.declared.seat.Past.{Past}
+use Rattle.edl_events.specs.Seated.{IsPast}
+use Rattle.edl_events.specs.Stated.{stated_job, stated_past}
 use Rattle.edl_events.specs.Walk.{IsUnderWay}
 use Rattle.edl_events.proofs.children.put_children.Given as goal
 

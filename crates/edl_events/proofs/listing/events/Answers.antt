@@ -1,6 +1,6 @@
 use Rattle.std.proofs.Common.{refl, ◌∙◌, arith}
 use Rattle.std.specs.Option.{option_copied}
-use Rattle.edl_seats.specs.Stated.{stated_job}
+use Rattle.edl_events.specs.Stated.{stated_job}
 use Rattle.edl_events.proofs.ListFacts.{children_said, many_said, none_is_said, is_list}
 use Rattle.edl_events.proofs.SeatSteps.{job_is}
 use Rattle.edl_events.proofs.listing.events.Goals as goal

@@ -2,7 +2,7 @@ use Rattle.std.proofs.Common.{take, arith}
 use Rattle.otio_model.specs.Trees.{items_of}
 use Rattle.coord.proofs.JudgingLemmas.{sound_child}
 use Rattle.coord.proofs.Members.{child_few, index_few}
-use Rattle.edl_seats.specs.Stated.{stated_job}
+use Rattle.edl_events.specs.Stated.{stated_job}
 use Rattle.edl_events.proofs.RootSteps.{comes_on, root_stops}
 use Rattle.edl_events.proofs.tracks.gather.Goals as goal
 

@@ -1,6 +1,6 @@
 -- The root children so far have come.
 use Rattle.otio_model.specs.Trees.{items_of}
-use Rattle.edl_seats.specs.Stated.{stated_job}
+use Rattle.edl_events.specs.Stated.{stated_job}
 use Rattle.edl_events.specs.Walk.{HasCome}
 use Rattle.edl_events.proofs.tracks.gather.Given as goal
 

@@ -1,6 +1,6 @@
 use Rattle.std.proofs.Common.{sym, subst}
 use Rattle.otio_model.specs.declared.compositions.ItemOf.TheVariants.{Track}
-use Rattle.edl_seats.specs.Stated.{stated_job}
+use Rattle.edl_events.specs.Stated.{stated_job}
 use Rattle.edl_events.specs.Walk.{AddsRoot}
 use Rattle.edl_events.proofs.RootSteps.{adds_root}
 use Rattle.edl_events.proofs.tracks.put_root.Goals as goal

@@ -1,7 +1,7 @@
 use Rattle.std.proofs.Common.{refl, sym, ◌∙◌}
 use Rattle.otio_model.specs.declared.compositions.ItemOf.TheVariants.{Track}
 use Rattle.coord.proofs.JudgingLemmas.{children_sound}
-use Rattle.edl_seats.specs.Stated.{stated_job}
+use Rattle.edl_events.specs.Stated.{stated_job}
 use Rattle.edl_events.proofs.TrackLimits.{track_fits}
 use Rattle.edl_events.proofs.TrackSteps.{walked_adds, stop_said}
 use Rattle.edl_events.proofs.tracks.put_track.Goals as goal

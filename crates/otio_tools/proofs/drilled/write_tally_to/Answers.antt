@@ -1,4 +1,4 @@
-use Rattle.drill_lines.specs.Lines.{tally_text}
+use Rattle.drill.specs.Lines.{tally_text}
 use Rattle.otio_tools.proofs.RunEnds.{written_here}
 use Rattle.otio_tools.proofs.drilled.write_tally_to.Goals as goal
 

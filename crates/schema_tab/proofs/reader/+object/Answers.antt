@@ -10,12 +10,12 @@ use Rattle.schema_rows.specs.Readings.{known, item_fields, object_fields, effect
 use Rattle.schema_rows.specs.Families.{child, member, medium}
 use Rattle.schema_rows.specs.Stands.{Gives_rows}
 use Rattle.schema_rows.specs.Faults.{Refuses_reading, wrong, in_span, in_time, in_stack, in_child, in_member, in_medium, newer, in_rows, Refuses_rows}
-use Rattle.schema_parts.proofs.Objects.{foreign_by}
+use Rattle.schema_tab.proofs.Objects.{foreign_by}
 use Rattle.schema_tab.specs.Depths.{depth}
 use Rattle.schema_tab.proofs.Exits.{item_inside, pair_inside, list_more, list_fails, items_end, objects_end, effects_end, markers_end, second_at, names_more, media_end, row_more, row_fails, row_end}
 use Rattle.schema_tab.proofs.Measures.{depth-Map, looked_up_falls, looked_up_numerals}
 use Rattle.schema_tab.proofs.Members.{row_given, row_refused, row_absent, row_missing, items_refused, objects_refused, effects_refused, markers_refused, media_refused, stack_refused, no_list}
-use Rattle.schema_parts.proofs.Asking.{wrong_field}
+use Rattle.schema_tab.proofs.Asking.{wrong_field}
 use Rattle.schema_tab.proofs.Whole.{object_read, object_refused, foreign_any}
 use Rattle.schema_tab.proofs.reader.+object.Goals as goal
 

@@ -1,5 +1,5 @@
 use Rattle.std.proofs.lemmas.Int.{to_z-of_z}
-use Rattle.script_words.specs.Words.{words_of}
+use Rattle.script_text.specs.Words.{words_of}
 use Rattle.script_text.specs.declared.verbs.Verb.TheVariants as V
 use Rattle.script_text.proofs.ActLemmas.{of_verb}
 use Rattle.script_text.proofs.acts.edit_of.Goals as goal

@@ -1,5 +1,5 @@
 use Rattle.std.proofs.Common.{sym, ◌∙◌}
-use Rattle.script_words.specs.Words.{words_of}
+use Rattle.script_text.specs.Words.{words_of}
 use Rattle.script_text.proofs.ActLemmas.{filling_some, filling_no_put}
 use Rattle.script_text.proofs.acts.filling_of.Goals as goal
 

@@ -1,6 +1,6 @@
 use Rattle.std.proofs.Common.{sym, ◌∙◌, rules, FitsSigned, w64}
 use Rattle.std.proofs.lemmas.Int.{to_z-of_z}
-use Rattle.script_words.specs.Words.{words_of}
+use Rattle.script_text.specs.Words.{words_of}
 use Rattle.script_text.proofs.ActLemmas.{placed_none, placed_one, placed_no_number, placed_no_place, placed_is}
 use Rattle.script_text.proofs.acts.placed_of.Goals as goal
 

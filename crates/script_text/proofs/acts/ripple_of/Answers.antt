@@ -1,6 +1,6 @@
 use Rattle.std.proofs.Common.{sym, ◌∙◌, rules, FitsSigned, w64}
 use Rattle.std.proofs.lemmas.Int.{to_z-of_z}
-use Rattle.script_words.specs.Words.{words_of}
+use Rattle.script_text.specs.Words.{words_of}
 use Rattle.script_text.specs.declared.commands.Act.TheVariants as A
 use Rattle.script_text.specs.Acts.{edges_of}
 use Rattle.script_text.proofs.ActLemmas.{made, not_made}

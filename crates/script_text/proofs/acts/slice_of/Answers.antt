@@ -1,6 +1,6 @@
 use Rattle.std.proofs.Common.{sym, ◌∙◌}
 use Rattle.std.proofs.lemmas.Int.{to_z-of_z}
-use Rattle.script_words.specs.Words.{words_of}
+use Rattle.script_text.specs.Words.{words_of}
 use Rattle.script_text.proofs.ActLemmas.{slice_made, no_slice}
 use Rattle.script_text.proofs.acts.slice_of.Goals as goal
 

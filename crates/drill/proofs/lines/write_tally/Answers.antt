@@ -1,0 +1,7 @@
+use Rattle.dev_io.proofs.BufferLemmas.{flush_told}
+use Rattle.drill.proofs.lines.write_tally.Goals as goal
+
+pub returns-clause-told : goal.returns-clause-told
+returns-clause-told g c =
+    flush_told c.new-buffer.ensures.held c.new-buffer.ensures.failed c.put_tally.ensures
+    c.flush.ensures.sent

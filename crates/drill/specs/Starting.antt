@@ -1,0 +1,85 @@
+-- The timeline that a drill begins with.
+use Rattle.std.specs.Prelude.{◌≡◌, ℕ, zero, suc, ℤ, pos, true, List, [], ◌∷◌, Some, None, codes}
+use Rattle.tick_time.specs.declared.times.Time.{Time}
+use Rattle.otio_model.specs.declared.compositions.StackOf.{StackOf}
+use Rattle.otio_model.specs.declared.compositions.ItemOf.{ItemOf}
+use Rattle.otio_model.specs.declared.compositions.ItemOf.TheVariants.{Track}
+use Rattle.otio_model.specs.declared.compositions.Listed.{Listed}
+use Rattle.otio_model.specs.declared.timelines.Timeline.{Timeline}
+use Rattle.otio_model.specs.Timelines.{bare}
+use Rattle.otio_model.specs.Trees.{listed}
+use Rattle.cuts.specs.Finest.{rate_24}
+use Rattle.script_text.specs.declared.commands.Put.{Put}
+use Rattle.edit_script.specs.Items.{IsItem}
+use Rattle.tick_time.specs.Frames.{IsFrames}
+use Rattle.drill.specs.Acts.{clips}
+use Rattle.drill.specs.Draws.{after}
+use Rattle.drill.specs.Media.{rows}
+
+-- the number of the first record frame
+abbrev pub first_frame : ℤ
+first_frame = pos 86400
+
+-- a Video track with these items, and nothing else
+abbrev pub track_with : List (ItemOf Listed) → ItemOf Listed
+track_with xs = Track (record {
+  metadata = [];
+  name = [];
+  source_range = None;
+  effects = [];
+  markers = [];
+  enabled = true;
+  children = listed xs;
+  kind = codes "Video";
+  rest = [];
+})
+
+-- the root stack with an item alone
+abbrev pub stack_with : ItemOf Listed → StackOf Listed
+stack_with x = record {
+  metadata = [];
+  name = codes "tracks";
+  source_range = None;
+  effects = [];
+  markers = [];
+  enabled = true;
+  children = listed (x ∷ []);
+  rest = [];
+}
+
+-- the timeline with that track alone
+abbrev pub timeline_with : Time → List (ItemOf Listed) → Timeline
+timeline_with start xs = record {
+  metadata = [];
+  name = codes "drill";
+  global_start_time = Some start;
+  tracks = stack_with (track_with xs);
+  rest = [];
+  spare = record { room = 0; taken = 0 };
+}
+
+-- the generator's number behind so many clips
+abbrev pub behind : ℕ → ℕ → ℕ
+behind zero x = x
+behind (suc n) x = behind n (after 2 x)
+
+-- the forty clips of the timeline, and the generator's number behind them
+unfoldable pub start_clips : ℕ → List Put
+start_clips x = clips 0 40 x
+
+unfoldable pub behind_start : ℕ → ℕ
+behind_start x = behind 40 x
+
+-- the items are those that are put in, one after another, at 24 frames a second
+abbrev pub AreItems : List Put → List (ItemOf Listed) → Type 0
+AreItems [] xs = xs ≡ []
+AreItems (put ∷ puts) xs = (x : ItemOf Listed) × (others : List (ItemOf Listed))
+    × (xs ≡ x ∷ others) × IsItem rate_24 (Some rows) put x × AreItems puts others
+
+-- the timeline of forty clips, drawn where the generator's number is x
+pub record IsStart (x : ℕ) (t : Timeline) : Type 0 where
+  pub start : Time
+  pub begins : IsFrames rate_24 first_frame start
+  pub items : List (ItemOf Listed)
+  pub drawn : AreItems (start_clips x) items
+  pub is : bare t ≡ timeline_with start items

@@ -1,3 +1,0 @@
--- Lemmas on what is drawn.
-pub mod ActSteps
-pub mod WorkedLemmas

@@ -1,4 +1,0 @@
--- What a drill draws.
-pub mod Draws
-pub mod Acts
-pub mod Worked

@@ -1,2 +1,0 @@
--- What a drill tells.
-pub mod Lines

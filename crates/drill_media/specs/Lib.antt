@@ -1,2 +1,0 @@
--- The media that a drill's clips show.
-pub mod Media

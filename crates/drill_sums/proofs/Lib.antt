@@ -1,3 +1,0 @@
--- Lemmas on sums of frame numbers.
-pub mod SumLemmas
-pub mod VideoTracks

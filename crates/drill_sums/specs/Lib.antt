@@ -1,2 +1,0 @@
--- Sums of the source frame numbers that a timeline shows.
-pub mod Sums

@@ -1,6 +1,0 @@
-use Rattle.drill_timeline.specs.Making.{AreMade}
-use Rattle.drill_timeline.proofs.clips.clips.Given as goal
-
-abbrev pub invariant-clips : goal.invariant-clips
-invariant-clips l =
-    AreMade l.count l.index l.fn.generator.state l.generator.state l.made.items

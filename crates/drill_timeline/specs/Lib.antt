@@ -1,3 +1,0 @@
--- The timeline that a drill begins with.
-pub mod Starting
-pub mod Making

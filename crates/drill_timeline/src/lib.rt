@@ -1,7 +1,0 @@
-//! The timeline that a drill begins with.
-#![tactic(auto)]
-
-mod clips;
-mod timeline;
-
-pub use timeline::start_timeline;

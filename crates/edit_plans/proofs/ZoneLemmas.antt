@@ -1,0 +1,401 @@
+-- What comes in place of the touched children makes the whole list.
+use Rattle.std.proofs.Common.{◌≡◌, refl, sym, subst, ap, ap₂, ◌∙◌, ℕ, zero, suc, ◌+◌, ◌-◌, ◌*◌, ◌<◌}
+use Rattle.std.proofs.Common.{◌≤◌, ℤ, pos, ◌+ℤ◌, ◌-ℤ◌, ◌≤ℤ◌, ◌<ℤ◌, Bool, true, false, ◌||◌}
+use Rattle.std.proofs.Common.{List, [], ◌∷◌, ◌++◌, Option, Some, None, take, drop, length}
+use Rattle.std.proofs.Common.{arith, ◌⊎◌, inl, inr}
+use Rattle.std.specs.Prelude.{option_map, slice_get}
+use Rattle.std.proofs.lemmas.Int.{ints}
+use Rattle.tick_time.specs.declared.rates.Rate.{Rate}
+use Rattle.otio_model.specs.declared.compositions.ItemOf.{ItemOf}
+use Rattle.otio_model.specs.declared.compositions.Listed.{Listed}
+use Rattle.otio_model.specs.Edits.{replaced}
+use Rattle.coord.specs.Sights.{overlap_of}
+use Rattle.cuts.specs.Splices.{is_stripped}
+use Rattle.cuts.specs.Children.{Child, ticks, made, all_made, with_first}
+use Rattle.cuts.specs.Cuts.{front, back, strip, olds, put_between}
+use Rattle.edits.specs.Edges.{added}
+use Rattle.edits.specs.Narrow.{ahead, touched, beyond}
+use Rattle.cuts.specs.Children.{has_far}
+use Rattle.cuts.specs.Children.{is_far}
+use Rattle.edits_law.proofs.Parted.{narrow_between, made_narrow, replaced_middle, between_few}
+use Rattle.edits_law.proofs.Touched.{apart, in_parts, ahead_early}
+use Rattle.pieces.specs.Short.{AreCuttable, IsCuttable, AreShort}
+use Rattle.pieces.proofs.Faultless.{faultless_is_short}
+use Rattle.edit_plans.proofs.Passing.{added_ahead, ahead_count}
+use Rattle.pieces.proofs.SameTimes.{or_left, or_right}
+use Rattle.coord.proofs.Members.{next}
+use Rattle.pieces.proofs.StripLemmas.{Stripped, strip_first, keep_as, drop_as}
+
+-- ---- lists that are made are made together
+
+first_made : (o : Option (ItemOf Listed)) (l k : Option (List (ItemOf Listed)))
+    (p q m : List (ItemOf Listed)) → with_first o l ≡ Some p → l ≡ Some m → k ≡ Some (m ++ q)
+    → with_first o k ≡ Some (p ++ q)
+first_made None l k p q m e f g = absurd (cc e)
+first_made (Some a) None k p q m e f g = absurd (cc e)
+first_made (Some a) (Some b) k p q m e f g =
+    let same : b ≡ m = cc f in
+    let whole : a ∷ b ≡ p = cc e in
+    ap (with_first (Some a)) g ∙ ap (λ z. Some ((a ∷ z) ++ q)) (sym same)
+    ∙ ap (λ z. Some (z ++ q)) whole
+
+some_first : (o : Option (ItemOf Listed)) (l : Option (List (ItemOf Listed)))
+    (p : List (ItemOf Listed)) → with_first o l ≡ Some p → (m : List (ItemOf Listed)) × (l ≡ Some m)
+some_first None l p e = absurd (cc e)
+some_first (Some a) None p e = absurd (cc e)
+some_first (Some a) (Some b) p e = (b, refl)
+
+pub made_both : (r : Rate) (c d : List Child) (p q : List (ItemOf Listed)) → all_made r c ≡ Some p
+    → all_made r d ≡ Some q → all_made r (c ++ d) ≡ Some (p ++ q)
+made_both r [] d p q e f = let same : [] ≡ p = cc e in f ∙ ap (λ z. Some (z ++ q)) same
+made_both r (x ∷ c) d p q e f =
+    let rest = some_first (made r x) (all_made r c) p e in
+    first_made (made r x) (all_made r c) (all_made r (c ++ d)) p q rest.0 e rest.1
+    (made_both r c d rest.0 q rest.1 f)
+
+pub between_made : (r : Rate) (l : List (ItemOf Listed)) (a b u v : ℤ)
+    (f p k all : List (ItemOf Listed)) → all_made r (front l u) ≡ Some f
+    → all_made r (back l v) ≡ Some k → all ≡ f ++ (p ++ k) → u ≡ a → v ≡ b
+    → (n : List Child) → all_made r n ≡ Some p → all_made r (put_between l a n b) ≡ Some all
+between_made r l a b u v f p k all e g h i j n m =
+    made_both r (front l a) (n ++ back l b) f (p ++ k)
+    (ap (λ z. all_made r (front l z)) (sym i) ∙ e)
+    (made_both r n (back l b) p k m (ap (λ z. all_made r (back l z)) (sym j) ∙ g)) ∙ ap Some (sym h)
+
+-- ---- starts and lengths out of range
+
+pub far_left : (c d : List Child) → has_far c ≡ true → has_far (c ++ d) ≡ true
+far_left [] d e = absurd (cc e)
+far_left (x ∷ c) d e = by (is_far x) refl (far_left c d)
+  where
+    by : (b : Bool) → is_far x ≡ b → (has_far c ≡ true → has_far (c ++ d) ≡ true)
+        → has_far ((x ∷ c) ++ d) ≡ true
+    by true f i = or_left (is_far x) (has_far (c ++ d)) f
+    by false f i = or_right (is_far x) (has_far (c ++ d)) (i (rest (is_far x) (has_far c) f e))
+      where
+        rest : (p q : Bool) → p ≡ false → (p || q) ≡ true → q ≡ true
+        rest false q g h = h
+        rest true q g h = absurd (cc g)
+
+pub far_right : (c d : List Child) → has_far d ≡ true → has_far (c ++ d) ≡ true
+far_right [] d e = e
+far_right (x ∷ c) d e = or_right (is_far x) (has_far (c ++ d)) (far_right c d e)
+
+pub front_far : (l : List (ItemOf Listed)) (a b u : ℤ) → has_far (front l u) ≡ true → u ≡ a
+    → (n : List Child) → has_far (put_between l a n b) ≡ true
+front_far l a b u e i n = far_left (front l a) (n ++ back l b)
+    (ap (λ z. has_far (front l z)) (sym i) ∙ e)
+
+pub back_far : (l : List (ItemOf Listed)) (a b v : ℤ) → has_far (back l v) ≡ true → v ≡ b
+    → (n : List Child) → has_far (put_between l a n b) ≡ true
+back_far l a b v e i n = far_right (front l a) (n ++ back l b)
+    (far_right n (back l b) (ap (λ z. has_far (back l z)) (sym i) ∙ e))
+
+-- ---- faultless parts of faultless lists
+
+pub drop_faultless : (l : List (ItemOf Listed)) (i : ℕ) → AreCuttable l → AreCuttable (drop i l)
+drop_faultless l zero h = h
+drop_faultless [] (suc i) h = h
+drop_faultless (x ∷ l) (suc i) h = drop_faultless l i (λ j y e. h (suc j) y e)
+
+pub take_faultless : (l : List (ItemOf Listed)) (i : ℕ) → AreCuttable l → AreCuttable (take i l)
+take_faultless l zero h = λ j y e. absurd (cc e)
+take_faultless [] (suc i) h = h
+take_faultless (x ∷ l) (suc i) h = with_head x (take i l) (h 0 x refl)
+    (take_faultless l i (λ j y e. h (suc j) y e))
+  where
+    with_head : (x : ItemOf Listed) (l : List (ItemOf Listed)) → IsCuttable x → AreCuttable l
+        → AreCuttable (x ∷ l)
+    with_head x l h k zero y e = let same : x ≡ y = cc e in subst IsCuttable same h
+    with_head x l h k (suc j) y e = k j y e
+
+with_first_faultless : (x : ItemOf Listed) (l : List (ItemOf Listed)) → IsCuttable x → AreCuttable l
+    → AreCuttable (x ∷ l)
+with_first_faultless x l h k zero y e = let same : x ≡ y = cc e in subst IsCuttable same h
+with_first_faultless x l h k (suc j) y e = k j y e
+
+strip_one : (x : ItemOf Listed) (l : List (ItemOf Listed)) (a b : ℤ) (c : Bool)
+    → is_stripped a b (overlap_of x) ≡ c → IsCuttable x → AreCuttable (strip l a b)
+    → AreCuttable (strip l (a -ℤ ticks x) (b -ℤ ticks x)) → AreCuttable (strip (x ∷ l) a b)
+strip_one x l a b true e h i k = let q : strip (x ∷ l) a b ≡ strip l a b = rw e refl in
+    subst AreCuttable (sym q) i
+strip_one x l a b false e h i k = let q : strip (x ∷ l) a b ≡ x
+    ∷ strip l (a -ℤ ticks x) (b -ℤ ticks x) = rw e refl in
+    subst AreCuttable (sym q) (with_first_faultless x _ h k)
+
+pub strip_faultless : (l : List (ItemOf Listed)) (a b : ℤ) → AreCuttable l
+    → AreCuttable (strip l a b)
+strip_faultless [] a b h = h
+strip_faultless (x ∷ l) a b h = strip_one x l a b (is_stripped a b (overlap_of x)) refl (h 0 x refl)
+    (strip_faultless l a b (λ j y e. h (suc j) y e))
+    (strip_faultless l (a -ℤ ticks x) (b -ℤ ticks x) (λ j y e. h (suc j) y e))
+
+-- ---- the touched children by their index
+
+drop_front : {A : Type 0} (l r : List A) → drop (length l) (l ++ r) ≡ r
+drop_front [] r = refl
+drop_front (x ∷ l) r = drop_front l r
+
+take_front : {A : Type 0} (l r : List A) → take (length l) (l ++ r) ≡ l
+take_front [] r = refl
+take_front (x ∷ l) r = ap (λ q. x ∷ q) (take_front l r)
+
+pub touched_is : (l : List (ItemOf Listed)) (a b : ℤ)
+    → take (length (touched l a b)) (drop (length (ahead l a b)) l) ≡ touched l a b
+touched_is l a b =
+    ap (λ q. take (length (touched l a b)) (drop (length (ahead l a b)) q)) (sym (in_parts l a b))
+    ∙ ap (take (length (touched l a b))) (drop_front (ahead l a b) (touched l a b ++ beyond l a b))
+    ∙ take_front (touched l a b) (beyond l a b)
+
+len_both : {A : Type 0} (l r : List A) → length (l ++ r) ≡ length l + length r
+len_both [] r = zero_plus (length r)
+  where
+    zero_plus : (n : ℕ) → n ≡ 0 + n
+    zero_plus n = omega arith
+len_both (x ∷ l) r = ap suc (len_both l r) ∙ plus_suc (length l) (length r)
+  where
+    plus_suc : (m n : ℕ) → suc (m + n) ≡ suc m + n
+    plus_suc m n = omega arith
+
+pub touched_there : (l : List (ItemOf Listed)) (a b : ℤ)
+    → length (ahead l a b) + length (touched l a b) ≤ length l
+touched_there l a b =
+    let e = ap length (in_parts l a b) in
+    let f = len_both (ahead l a b) (touched l a b ++ beyond l a b) in
+    let g = len_both (touched l a b) (beyond l a b) in
+    omega (arith, e, f, g)
+
+-- the zone begins behind what stands ahead of it
+pub zone_low : (l : List (ItemOf Listed)) (a b : ℤ) → pos 0 ≤ℤ a → a ≤ℤ b → added (ahead l a b) ≤ℤ a
+zone_low l a b h k = by (ahead_early l a b k (omega (arith, ints, h, k)))
+  where
+    by : (ahead l a b ≡ []) ⊎ (added (ahead l a b) <ℤ a) → added (ahead l a b) ≤ℤ a
+    by (inl e) = let z : added (ahead l a b) ≡ pos 0 = ap added e in omega (arith, ints, z, h)
+    by (inr e) = omega (arith, ints, e)
+
+-- ---- the whole list
+
+pub middle_made : (r : Rate) (l : List (ItemOf Listed)) (a b u v : ℤ) (put p : List (ItemOf Listed))
+    (n : List Child) (at count : ℕ) → pos 0 ≤ℤ a → a ≤ℤ b → at ≡ length (ahead l a b)
+    → count ≡ length (touched l a b) → u ≡ a -ℤ added (ahead l a b)
+    → v ≡ b -ℤ added (ahead l a b)
+    → all_made r (put_between (strip (take count (drop at l)) u v) u n v) ≡ Some p
+    → all_made r (put_between (strip l a b) a n b) ≡ Some (replaced at count p l)
+middle_made r l a b u v put p n at count h k e f g i m =
+    let A : List (ItemOf Listed) = ahead l a b in
+    let T : List (ItemOf Listed) = touched l a b in
+    let B : List (ItemOf Listed) = beyond l a b in
+    let c : ℤ = a -ℤ added A in
+    let d : ℤ = b -ℤ added A in
+    let same : take count (drop at l) ≡ T = ap₂ (λ x y. take x (drop y l)) f e ∙ touched_is l a b in
+    let zone : put_between (strip (take count (drop at l)) u v) u n v
+    ≡ put_between (strip T c d) c n d = ap (λ q. put_between (strip q u v) u n v) same
+    ∙ ap₂ (λ x y. put_between (strip T x y) x n y) g i in
+    let inner : all_made r (put_between (strip T c d) c n d) ≡ Some p = ap (all_made r) (sym zone)
+    ∙ m in
+    let parted : put_between (strip l a b) a n b ≡ olds A
+    ++ (put_between (strip T c d) c n d ++ olds B) =
+    ap (λ q. put_between (strip q a b) a n b) (sym (in_parts l a b))
+    ∙ narrow_between A T B a b n (apart l a b k (omega (arith, ints, h, k))) in
+    let list : replaced at count p l ≡ A ++ (p ++ B) = ap₂ (λ x y. replaced x y p l) e f
+    ∙ ap (replaced (length A) (length T) p) (sym (in_parts l a b)) ∙ replaced_middle A T B p in
+    ap (all_made r) parted ∙ made_narrow r A (put_between (strip T c d) c n d) B
+    ∙ ap (option_map (λ q. A ++ (q ++ B))) inner ∙ ap Some (sym list)
+
+pub middle_far : (l : List (ItemOf Listed)) (a b u v : ℤ) (n : List Child) (at count : ℕ)
+    → pos 0 ≤ℤ a → a ≤ℤ b → at ≡ length (ahead l a b) → count ≡ length (touched l a b)
+    → u ≡ a -ℤ added (ahead l a b) → v ≡ b -ℤ added (ahead l a b)
+    → has_far (put_between (strip (take count (drop at l)) u v) u n v) ≡ true
+    → has_far (put_between (strip l a b) a n b) ≡ true
+middle_far l a b u v n at count h k e f g i m =
+    let A : List (ItemOf Listed) = ahead l a b in
+    let T : List (ItemOf Listed) = touched l a b in
+    let B : List (ItemOf Listed) = beyond l a b in
+    let c : ℤ = a -ℤ added A in
+    let d : ℤ = b -ℤ added A in
+    let same : take count (drop at l) ≡ T = ap₂ (λ x y. take x (drop y l)) f e ∙ touched_is l a b in
+    let zone : put_between (strip (take count (drop at l)) u v) u n v
+    ≡ put_between (strip T c d) c n d = ap (λ q. put_between (strip q u v) u n v) same
+    ∙ ap₂ (λ x y. put_between (strip T x y) x n y) g i in
+    let parted : put_between (strip l a b) a n b ≡ olds A
+    ++ (put_between (strip T c d) c n d ++ olds B) =
+    ap (λ q. put_between (strip q a b) a n b) (sym (in_parts l a b))
+    ∙ narrow_between A T B a b n (apart l a b k (omega (arith, ints, h, k))) in
+    ap has_far parted ∙ far_right (olds A) _ (far_left (put_between (strip T c d) c n d) (olds B)
+    (ap has_far (sym zone) ∙ m))
+
+-- ---- items that can be cut
+
+pub short_all : (l : List (ItemOf Listed)) → AreCuttable l → AreShort l
+short_all l h = λ i x e. faultless_is_short x (h i x e)
+
+pub kept_faultless : (l k : List (ItemOf Listed)) (n a : ℕ) (u v : ℤ) → AreCuttable l
+    → k ≡ strip (take n (drop a l)) u v → AreCuttable k
+kept_faultless l k n a u v h e = subst AreCuttable (sym e)
+    (strip_faultless (take n (drop a l)) u v (take_faultless (drop a l) n (drop_faultless l a h)))
+
+-- the same, with each number and list by an equation
+pub made_as : (r : Rate) (l k : List (ItemOf Listed)) (a b x y u v : ℤ) (p : List (ItemOf Listed))
+    (n : List Child) (at count : ℕ) → pos 0 ≤ℤ a → a ≤ℤ b → x ≡ a → y ≡ b
+    → at ≡ length (ahead l x y) → count ≡ length (touched l x y) → u ≡ a -ℤ added (ahead l x y)
+    → v ≡ b -ℤ added (ahead l x y)
+    → k ≡ strip (take count (drop at l)) u v → all_made r (put_between k u n v) ≡ Some p
+    → all_made r (put_between (strip l a b) a n b) ≡ Some (replaced at count p l)
+made_as r l k a b x y u v p n at count h j ex ey e f g i s m =
+    middle_made r l a b u v [] p n at count h j (e ∙ ap₂ (λ c d. length (ahead l c d)) ex ey)
+    (f ∙ ap₂ (λ c d. length (touched l c d)) ex ey)
+    (g ∙ ap₂ (λ c d. a -ℤ added (ahead l c d)) ex ey)
+    (i ∙ ap₂ (λ c d. b -ℤ added (ahead l c d)) ex ey)
+    (subst (λ q. all_made r (put_between q u n v) ≡ Some p) s m)
+
+pub far_as : (l k : List (ItemOf Listed)) (a b x y u v : ℤ) (n : List Child) (at count : ℕ)
+    → pos 0 ≤ℤ a → a ≤ℤ b → x ≡ a → y ≡ b → at ≡ length (ahead l x y)
+    → count ≡ length (touched l x y) → u ≡ a -ℤ added (ahead l x y) → v ≡ b -ℤ added (ahead l x y)
+    → k ≡ strip (take count (drop at l)) u v → has_far (put_between k u n v) ≡ true
+    → has_far (put_between (strip l a b) a n b) ≡ true
+far_as l k a b x y u v n at count h j ex ey e f g i s m =
+    middle_far l a b u v n at count h j (e ∙ ap₂ (λ c d. length (ahead l c d)) ex ey)
+    (f ∙ ap₂ (λ c d. length (touched l c d)) ex ey)
+    (g ∙ ap₂ (λ c d. a -ℤ added (ahead l c d)) ex ey)
+    (i ∙ ap₂ (λ c d. b -ℤ added (ahead l c d)) ex ey)
+    (subst (λ q. has_far (put_between q u n v) ≡ true) s m)
+
+pub there_as : (l : List (ItemOf Listed)) (x y : ℤ) (at count : ℕ) → at ≡ length (ahead l x y)
+    → count ≡ length (touched l x y) → at + count ≤ length l
+there_as l x y at count e f = let h = touched_there l x y in omega (arith, h, e, f)
+
+pub stretch_faultless : (l k : List (ItemOf Listed)) (n a : ℕ) → AreCuttable l
+    → k ≡ take n (drop a l) → AreCuttable k
+stretch_faultless l k n a h e = subst AreCuttable (sym e)
+    (take_faultless (drop a l) n (drop_faultless l a h))
+
+pub ahead_short : (l : List (ItemOf Listed)) (x y t : ℤ) → AreCuttable l → t ≡ added (ahead l x y)
+    → (pos 0 ≤ℤ t) × (t ≤ℤ pos (length l * 705600000000000000000000))
+ahead_short l x y t h e =
+    let b = added_ahead l x y (short_all l h) in
+    let n = ahead_count l x y in
+    (omega (arith, ints, b.0, e), omega (arith, ints, b.1, n, e))
+
+-- ---- how few come in place of the touched ones
+
+olds_made : (r : Rate) (l : List (ItemOf Listed)) → all_made r (olds l) ≡ Some l
+olds_made r [] = refl
+olds_made r (x ∷ l) = ap (with_first (Some x)) (olds_made r l)
+
+with_one : (o : Option (ItemOf Listed)) (l : Option (List (ItemOf Listed)))
+    (p : List (ItemOf Listed)) (n : ℕ) → ((m : List (ItemOf Listed)) → l ≡ Some m → length m ≡ n)
+    → with_first o l ≡ Some p → length p ≡ suc n
+with_one None l p n f e = absurd (cc e)
+with_one (Some a) None p n f e = absurd (cc e)
+with_one (Some a) (Some b) p n f e =
+    let whole : a ∷ b ≡ p = cc e in
+    ap length (sym whole) ∙ ap suc (f b refl)
+
+made_length : (r : Rate) (c : List Child) (p : List (ItemOf Listed)) → all_made r c ≡ Some p
+    → length p ≡ length c
+made_length r [] p e = let same : [] ≡ p = cc e in ap length (sym same)
+made_length r (x ∷ c) p e =
+    with_one (made r x) (all_made r c) p (length c) (λ m f. made_length r c m f) e
+
+olds_length : (l : List (ItemOf Listed)) → length (olds l) ≡ length l
+olds_length [] = refl
+olds_length (x ∷ l) = ap suc (olds_length l)
+
+take_few : {A : Type 0} (l : List A) (n : ℕ) → length (take n l) ≤ n
+take_few l zero = omega arith
+take_few [] (suc n) = omega arith
+take_few (x ∷ l) (suc n) = let h = take_few l n in omega (arith, h)
+
+pub few_as : (r : Rate) (l k : List (ItemOf Listed)) (a b x y u v : ℤ)
+    (put p : List (ItemOf Listed)) (at count : ℕ) → x ≡ a → y ≡ b
+    → count ≡ length (touched l x y) → u ≤ℤ v → k ≡ strip (take count (drop at l)) u v
+    → ((n : List Child) → all_made r n ≡ Some put → all_made r (put_between k u n v) ≡ Some p)
+    → length p ≤ length (touched l a b) + 1 + length put
+few_as r l k a b x y u v put p at count ex ey h z e f =
+    let made_of : length p ≡ length (put_between k u (olds put) v) =
+    made_length r (put_between k u (olds put) v) p (f (olds put) (olds_made r put)) in
+    let same : length (put_between k u (olds put) v)
+    ≡ length (put_between (strip (take count (drop at l)) u v) u (olds put) v) =
+    ap (λ q. length (put_between q u (olds put) v)) e in
+    let few = between_few (take count (drop at l)) u v (olds put) z in
+    let taken = take_few (drop at l) count in
+    let number : count ≡ length (touched l a b) =
+    h ∙ ap₂ (λ c d. length (touched l c d)) ex ey in
+    let many = olds_length put in
+    omega (arith, made_of, same, few, taken, number, many)
+
+-- ---- the touched ones without the transitions that go
+
+take_next : {A : Type 0} (l : List A) (n i m : ℕ) (x : A) → slice_get l i ≡ Some x → n ≡ suc m
+    → take n (drop i l) ≡ x ∷ take m (drop (i + 1) l)
+take_next l n i m x e f =
+    ap₂ (λ k q. take k q) f (next l i x e)
+
+none_taken : {A : Type 0} (l : List A) (n : ℕ) → n ≡ 0 → take n l ≡ []
+none_taken l n e = ap (λ k. take k l) e
+
+-- what is kept of so many children from a first on, and what is left
+pub record IsKept (l : List (ItemOf Listed)) (at number : ℕ) (a b : ℤ)
+    (kept : List (ItemOf Listed)) (start : ℤ) (i : ℕ) : Type 0 where
+  pub later : at ≤ i
+  pub is : Stripped (take number (drop at l)) a b kept (take ((at + number) - i) (drop i l)) start
+      (i - at)
+
+pub kept_first : (l : List (ItemOf Listed)) (at number : ℕ) (a b : ℤ)
+    → IsKept l at number a b [] (pos 0) at
+kept_first l at number a b =
+    let e : (at + number) - at ≡ number = omega arith in
+    let f : at - at ≡ 0 = omega arith in
+    record {
+      later = omega arith;
+      is = subst (λ n. Stripped (take number (drop at l)) a b []
+          (take ((at + number) - at) (drop at l)) (pos 0) n) (sym f)
+          (strip_first (take number (drop at l)) (take ((at + number) - at) (drop at l)) a b
+          (ap (λ n. take n (drop at l)) e));
+    }
+
+pub kept_more : (l kept new : List (ItemOf Listed)) (at number i : ℕ) (a b start now : ℤ)
+    (x y : ItemOf Listed) (r : Bool) → IsKept l at number a b kept start i → i < at + number
+    → slice_get l i ≡ Some x → r ≡ is_stripped (a -ℤ start) (b -ℤ start) (overlap_of x)
+    → r ≡ false → y ≡ x → new ≡ kept ++ y ∷ [] → now ≡ start +ℤ ticks x
+    → ticks x ≤ℤ pos 705600000000000000000000 → IsKept l at number a b new now (i + 1)
+kept_more l kept new at number i a b start now x y r k h got e f same g z high =
+    let rest = take_next l ((at + number) - i) i ((at + number) - (i + 1)) x got
+    (omega (arith, h)) in
+    let s : (i + 1) - at ≡ (i - at) + 1 = omega (arith, k.later) in
+    record {
+      later = omega (arith, k.later);
+      is = subst (λ n. Stripped (take number (drop at l)) a b new
+          (take ((at + number) - (i + 1)) (drop (i + 1) l)) now n) (sym s)
+          (keep_as (take number (drop at l)) _ _ kept new a b start now (i - at) x y r k.is rest e
+          f same g z (omega (arith, ints)) high);
+    }
+
+pub kept_less : (l kept new : List (ItemOf Listed)) (at number i : ℕ) (a b start now : ℤ)
+    (x : ItemOf Listed) (r : Bool) → IsKept l at number a b kept start i → i < at + number
+    → slice_get l i ≡ Some x → r ≡ is_stripped (a -ℤ start) (b -ℤ start) (overlap_of x)
+    → r ≡ true → new ≡ kept → now ≡ start → IsKept l at number a b new now (i + 1)
+kept_less l kept new at number i a b start now x r k h got e f g z =
+    let rest = take_next l ((at + number) - i) i ((at + number) - (i + 1)) x got
+    (omega (arith, h)) in
+    let s : (i + 1) - at ≡ (i - at) + 1 = omega (arith, k.later) in
+    record {
+      later = omega (arith, k.later);
+      is = subst (λ n. Stripped (take number (drop at l)) a b new
+          (take ((at + number) - (i + 1)) (drop (i + 1) l)) now n) (sym s)
+          (drop_as (take number (drop at l)) _ _ kept new a b start now (i - at) x r k.is rest e f
+          g z);
+    }
+
+none_more : {A : Type 0} (r : List A) → r ++ [] ≡ r
+none_more [] = refl
+none_more (x ∷ r) = ap (λ q. x ∷ q) (none_more r)
+
+pub kept_end : (l kept : List (ItemOf Listed)) (at number i : ℕ) (a b c d start : ℤ)
+    → IsKept l at number a b kept start i → at + number ≤ i → a ≡ c → b ≡ d
+    → kept ≡ strip (take number (drop at l)) c d
+kept_end l kept at number i a b c d start k h e f =
+    let s = k.is in
+    sym (s.is ∙ ap (λ q. kept ++ strip q (a -ℤ start) (b -ℤ start))
+    (none_taken (drop i l) ((at + number) - i) (omega (arith, h))) ∙ none_more kept)
+    ∙ ap₂ (strip (take number (drop at l))) e f

@@ -1,4 +1,0 @@
-pub mod Places
-pub mod Beside
-pub mod FitLemmas
-pub mod FillLemmas

@@ -1,1 +1,0 @@
--- Copies of parts of timelines: their words stand in `otio_model` and `flat`.

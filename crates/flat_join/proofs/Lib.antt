@@ -1,9 +1,0 @@
-pub mod MeasureLemmas
-pub mod CrossingLemmas
-pub mod BlockLemmas
-pub mod InputLemmas
-pub mod KnowLemmas
-pub mod SeatLemmas
-pub mod TrackLemmas
-pub mod CountLemmas
-pub mod JoinLemmas

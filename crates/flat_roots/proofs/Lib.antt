@@ -1,4 +1,0 @@
-pub mod FirstLemmas
-pub mod PlaceLemmas
-pub mod RootLemmas
-mod RateLemmas

@@ -1,2 +1,0 @@
--- Places at which something is wrong with root children.
-pub mod Sought

@@ -1,4 +1,0 @@
-pub mod Sides
-pub mod Reached
-pub mod Bounds
-pub mod Ways

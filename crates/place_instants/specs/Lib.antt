@@ -1,2 +1,0 @@
--- The way down to a place.
-pub mod Way

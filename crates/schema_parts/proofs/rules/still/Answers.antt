@@ -1,5 +1,0 @@
-use Rattle.schema_parts.proofs.StillSpeeds.{unstilled}
-use Rattle.schema_parts.proofs.rules.still.Goals as goal
-
-pub returns-in_default : goal.returns-in_default
-returns-in_default c = unstilled c.args.schema c.args.values.items c.in_default.not-Freeze

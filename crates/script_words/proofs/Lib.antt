@@ -1,4 +1,0 @@
-pub mod WordLemmas
-pub mod Figures
-pub mod PlaceLemmas
-pub mod Grammar

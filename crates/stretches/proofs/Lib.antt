@@ -1,4 +1,0 @@
-pub mod TrackLemmas
-pub mod RunLemmas
-pub mod LayerLemmas
-pub mod LongestLemmas

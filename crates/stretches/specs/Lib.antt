@@ -1,2 +1,0 @@
--- Words of the stretches of a flat track.
-pub mod Runs
