@@ -1,3 +1,4 @@
+mod MediaTicks
 pub mod Members
 pub mod Clips
 pub mod JudgingLemmas

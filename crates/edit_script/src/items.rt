@@ -128,9 +128,7 @@ fn media_of(alloc: Global, row: &MediaRow) -> Result<Media, AllocError>
 fn references_of(alloc: Global, media: Media) -> Result<MediaMap, AllocError>
     ensures { IfOk result (λ map. map ≡ (codes "DEFAULT_MEDIA", media) ∷ []) }
 {
-    let mut pairs = Vec::with_capacity(alloc, 1)?;
-    pairs.push((Text::of(alloc, "DEFAULT_MEDIA")?, media))?;
-    Ok(NamedValues::of(pairs))
+    NamedValues::one(alloc, "DEFAULT_MEDIA", media)
 }
 
 /// The clip of a name that shows a row's media from a frame on, so many record frames long.

@@ -56,22 +56,13 @@ pub(crate) fn transition_of(alloc: Global, rate: Rate, kind: Text, count: u16) -
     })
 }
 
-/// One value under a name, in memory for no more.
-fn one_value<T: Drop>(alloc: Global, name: &str, value: T) -> Result<NamedValues<T>, AllocError>
-    ensures { IfOk result (λ values. values ≡ (name.now, value) ∷ []) }
-{
-    let mut pairs = Vec::with_capacity(alloc, 1)?;
-    pairs.push((Text::of(alloc, name)?, value))?;
-    Ok(NamedValues::of(pairs))
-}
-
 /// The members that tell of a reel.
 fn reel_members(alloc: Global, reel: &Text) -> Result<Members, AllocError>
     ensures { IfOk result (TellsReel reel.now) }
 {
     let text = Text::of(alloc, reel.as_str())?;
-    let inner = one_value(alloc, "reel", Json::Str(text))?;
-    one_value(alloc, "cmx_3600", Json::Map(inner))
+    let inner = NamedValues::one(alloc, "reel", Json::Str(text))?;
+    NamedValues::one(alloc, "cmx_3600", Json::Map(inner))
 }
 
 /// A still.
@@ -165,7 +156,7 @@ fn name_of(alloc: Global, side: &Side, reel: &Text) -> Result<Text, AllocError>
 fn references_of(alloc: Global, reference: Media) -> Result<MediaMap, AllocError>
     ensures { IfOk result (λ map. map ≡ (codes "DEFAULT_MEDIA", reference) ∷ []) }
 {
-    one_value(alloc, "DEFAULT_MEDIA", reference)
+    NamedValues::one(alloc, "DEFAULT_MEDIA", reference)
 }
 
 /// The clip of a side of a reel, so many frames of the record long.

@@ -1,6 +1,6 @@
 //! Values under distinct names, in order.
 
-ghost use Rattle.std.specs.Prelude.{◌≡◌, ℕ, List, [], length, reverse, IfOk, OnOk, OnErr, OnSome, IsOk, IsSome, slice_get, remove, option_map};
+ghost use Rattle.std.specs.Prelude.{◌≡◌, ◌∷◌, ℕ, List, [], length, reverse, IfOk, OnOk, OnErr, OnSome, IsOk, IsSome, slice_get, remove, option_map};
 ghost use Rattle.std.specs.Option.{option_copied};
 ghost use Rattle.sequences.specs.Pairs as pairs_of;
 
@@ -95,6 +95,15 @@ impl<T> NamedValues<T> {
 }
 
 impl<T: Drop> NamedValues<T> {
+    /// One value under a name, in memory for no more. An error comes where memory runs out.
+    pub fn one(alloc: Global, name: &str, value: T) -> Result<NamedValues<T>, AllocError>
+        ensures { IfOk result (λ made. made ≡ (name.now, value) ∷ []) }
+    {
+        let mut pairs = Vec::with_capacity(alloc, 1)?;
+        pairs.push((Text::of(alloc, name)?, value))?;
+        Ok(NamedValues::of(pairs))
+    }
+
     /// The pairs of `pairs` under distinct names: the value of a later pair of a name replaces that
     /// of the first pair, in the first one's place, and all other pairs stay in order. An error
     /// comes where memory runs out.

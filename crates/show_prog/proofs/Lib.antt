@@ -1,6 +1,7 @@
 -- What is proved of shows.
 mod Euclid
 mod FarInstants
+mod MediaTicks
 pub mod PrintTexts
 mod Roots
 mod ShowLemmas

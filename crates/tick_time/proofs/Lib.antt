@@ -21,3 +21,10 @@ pub mod RereadLemmas
 pub mod SameValues
 pub mod BoolLemmas
 pub mod DigitBytes
+pub mod Products
+pub mod NearTimes
+pub mod Offsets
+pub mod RateBounds
+pub mod Negatives
+pub mod Exponents
+pub mod Holdings
