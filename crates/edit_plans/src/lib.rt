@@ -40,4 +40,4 @@ pub use phases::can_be_cut;
 pub use pins::unpinned;
 pub use seeking::{Passed, ahead, child, held, is_met, touched};
 pub use tests_of_edits::{is_gap, is_nothing, is_track, place_fault};
-pub use tracks::{edit_frame, edit_rate, frame_at, track_of};
+pub use tracks::{edit_rate, frame_at, track_of};

@@ -32,15 +32,6 @@ pub fn frame_at(rate: Rate) -> i128
     rate.frame_ticks()
 }
 
-/// A record frame of a timeline, in ticks.
-pub fn edit_frame(timeline: &Timeline) -> i128
-    ensures value { result ≡ frame_of timeline.now }
-    ensures least { pos 1000000 ≤ℤ result }
-    ensures most { result ≤ℤ pos 705600000000000000 }
-{
-    frame_at(edit_rate(timeline))
-}
-
 /// The children of the track that a place leads to.
 #[tactic(auto, using(crate::proofs::TrackLemmas::some_there, crate::proofs::TrackLemmas::has_children, crate::proofs::TrackLemmas::children_there, crate::proofs::TrackLemmas::list_is, crate::proofs::TrackLemmas::list_few, crate::proofs::TrackLemmas::list_sound, crate::proofs::TrackLemmas::list_short))]
 pub fn track_of<'a>(timeline: &'a Timeline, place: &Place) -> &'a Children
