@@ -20,7 +20,7 @@ use std::alloc::Global;
 use tick_time::Span;
 
 /// What was found below some children or in an item.
-#[derive(Debug, Drop)]
+#[derive(Drop)]
 pub(crate) enum Found {
     /// A fault, and the indexes that lead to its item.
     At(Vec<u32>, ItemFault),

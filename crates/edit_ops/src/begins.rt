@@ -11,7 +11,7 @@ use otio_model::{EditFault, Place, Timeline};
 use tick_time::Rate;
 
 /// When an edit is made.
-#[derive(Clone, Copy, Debug)]
+#[derive(Clone, Copy)]
 pub(crate) struct Moment {
     /// The record rate.
     pub(crate) rate: Rate,

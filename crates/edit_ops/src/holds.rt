@@ -12,7 +12,7 @@ use otio_model::Children;
 use pieces::sound_ticks;
 
 /// An item that holds an instant.
-#[derive(Clone, Copy, Debug)]
+#[derive(Clone, Copy)]
 pub(crate) struct Hold {
     /// Where it starts, in ticks from the track's start.
     pub(crate) from: i128,

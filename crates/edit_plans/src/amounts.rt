@@ -9,7 +9,7 @@ use otio_model::{Children, Item, ItemOf};
 use pieces::{known_ticks, member};
 
 /// What items come to, up to the greatest numbers.
-#[derive(Clone, Copy, Debug)]
+#[derive(Clone, Copy)]
 pub(crate) struct Amount {
     /// Their lengths added up, in ticks, one that isn't known as 0.
     pub(crate) ticks: u128,

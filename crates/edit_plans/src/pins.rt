@@ -11,7 +11,7 @@ use std::alloc::{AllocError, Global};
 use tick_time::Span;
 
 /// Whether the length of an item changes with that of the track below it.
-#[derive(Clone, Copy, Debug)]
+#[derive(Clone, Copy)]
 enum Pin {
     /// It is pinned.
     Pinned,

@@ -16,7 +16,7 @@ use pieces::{sound_ticks, start_ticks};
 use tick_time::Span;
 
 /// Unused media before and behind what a clip uses, in ticks of the media.
-#[derive(Clone, Copy, Debug, PartialEq, Eq)]
+#[derive(Clone, Copy)]
 pub(crate) struct Room {
     pub before: i128,
     pub behind: i128,

@@ -7,7 +7,7 @@ ghost use Rattle.edit_trim.specs.Asked.{asked, edit_of};
 use otio_model::{Edit, Place};
 
 /// How edges move, in record frames.
-#[derive(Clone, Copy, Debug, PartialEq, Eq)]
+#[derive(Clone, Copy)]
 pub(crate) enum EdgeEdit {
     /// The head and the tail of the item, against the gaps beside it.
     Trim { head: i64, tail: i64 },
@@ -22,7 +22,7 @@ pub(crate) enum EdgeEdit {
 }
 
 /// An edit of edges: where, when and how.
-#[derive(Debug, Drop)]
+#[derive(Drop)]
 pub(crate) struct Asked {
     pub place: Place,
     pub at: i64,

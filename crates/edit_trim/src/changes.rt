@@ -25,7 +25,7 @@ use std::alloc::Global;
 use tick_time::Rate;
 
 /// What becomes of an item, in ticks.
-#[derive(Clone, Copy, Debug, PartialEq, Eq)]
+#[derive(Clone, Copy)]
 pub(crate) enum Change {
     /// Its edges move so far.
     Move { head: i128, tail: i128 },

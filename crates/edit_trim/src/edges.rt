@@ -39,7 +39,7 @@ use std::alloc::Global;
 use tick_time::Rate;
 
 /// Where the held item stands, and what an edit does to it.
-#[derive(Clone, Copy, Debug)]
+#[derive(Clone, Copy)]
 struct Found {
     seat: Seat,
     motion: Motion,

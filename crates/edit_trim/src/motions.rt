@@ -23,7 +23,7 @@ use otio_model::Item;
 use pieces::sound_ticks;
 
 /// What an edit of edges does to the track, in ticks.
-#[derive(Clone, Copy, Debug, PartialEq, Eq)]
+#[derive(Clone, Copy)]
 pub(crate) enum Motion {
     /// The start of the item moves in its media, and no edge moves.
     Media {

@@ -29,7 +29,7 @@ use std::alloc::{AllocError, Global};
 use tick_time::Rate;
 
 /// What becomes of an item, of what stands beside it, and of the time between them, in ticks.
-#[derive(Clone, Copy, Debug, PartialEq, Eq)]
+#[derive(Clone, Copy)]
 pub(crate) struct Shape {
     /// What becomes of the item before.
     pub before: Change,
@@ -44,7 +44,7 @@ pub(crate) struct Shape {
 }
 
 /// From one instant to another one, in ticks from the start of the track.
-#[derive(Clone, Copy, Debug, PartialEq, Eq)]
+#[derive(Clone, Copy)]
 pub(crate) struct Stretch {
     pub from: i128,
     pub to: i128,

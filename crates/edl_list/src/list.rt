@@ -22,7 +22,7 @@ pub enum Channel {
 }
 
 /// Where a side's frames come from.
-#[derive(Debug, Drop)]
+#[derive(Debug)]
 pub enum Reel {
     /// Black, or silence: `BL` in a list.
     Black,
@@ -33,7 +33,7 @@ pub enum Reel {
 
 /// One source of an event: the incoming one of a pair or that of a cut, or the outgoing one of a
 /// pair.
-#[derive(Debug, Drop)]
+#[derive(Debug)]
 pub struct Side {
     /// Where the frames come from.
     pub reel: Reel,
@@ -49,7 +49,7 @@ pub struct Side {
 }
 
 /// How an event begins.
-#[derive(Debug, Drop)]
+#[derive(Debug)]
 pub enum Cross {
     /// At once.
     Cut,
@@ -73,7 +73,7 @@ pub enum Cross {
 }
 
 /// One event of a list on one channel.
-#[derive(Debug, Drop)]
+#[derive(Debug)]
 pub struct Event {
     /// The line that it was read from, counted from 1: the second one of a pair. For an event of a
     /// timeline its place in the list, counted from 1.
@@ -95,7 +95,7 @@ pub struct Event {
 pub type EventSeq = Sequence<Event>;
 
 /// An edit decision list.
-#[derive(Debug, Drop)]
+#[derive(Debug)]
 pub struct EventList {
     /// The title, empty where the list has none.
     pub title: Text,
@@ -106,4 +106,65 @@ pub struct EventList {
     pub drop: bool,
     /// The events.
     pub events: EventSeq,
+}
+
+// Drops are written out: a derived one is proved anew in each crate that drops such a value.
+
+impl Drop for Reel {
+    fn drop(self) {
+        match self {
+            Reel::Black => {}
+            Reel::Named(_) => {}
+        }
+    }
+}
+
+impl Drop for Side {
+    fn drop(self) {
+        let Side {
+            reel: _,
+            name: _,
+            src_in: _,
+            src_out: _,
+            speed: _,
+        } = self;
+    }
+}
+
+impl Drop for Cross {
+    fn drop(self) {
+        match self {
+            Cross::Cut => {}
+            Cross::Dissolve { frames: _, from: _ } => {}
+            Cross::Wipe {
+                code: _,
+                frames: _,
+                from: _,
+            } => {}
+        }
+    }
+}
+
+impl Drop for Event {
+    fn drop(self) {
+        let Event {
+            line: _,
+            channel: _,
+            to: _,
+            cross: _,
+            rec_in: _,
+            rec_out: _,
+        } = self;
+    }
+}
+
+impl Drop for EventList {
+    fn drop(self) {
+        let EventList {
+            title: _,
+            rate: _,
+            drop: _,
+            events: _,
+        } = self;
+    }
 }

@@ -20,7 +20,6 @@ use std::alloc::{AllocError, Global};
 /// A text has at most 127 levels of lists and objects and at most 33 554 432 bytes. A numeral
 /// stands for its spelling. A later member of a name replaces the value of the first one, in the
 /// first one's place. An escape that names half of a character needs the other half.
-#[derive(Drop)]
 pub struct JsonReader {
     machine: Machine,
     taken: u64,
@@ -152,5 +151,18 @@ fn fault_of(stop: Stop, offset: u64) -> JsonFault
         Stop::Syntax => JsonFault::Syntax(offset),
         Stop::Utf8 => JsonFault::Utf8(offset),
         Stop::Depth => JsonFault::Depth(offset),
+    }
+}
+
+// Drops are written out: a derived one is proved anew in each crate that drops such a value.
+
+impl Drop for JsonReader {
+    fn drop(self) {
+        let JsonReader {
+            machine: _,
+            taken: _,
+            fault: _,
+            room: _,
+        } = self;
     }
 }

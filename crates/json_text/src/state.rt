@@ -4,7 +4,7 @@ use json_value::{Json, JsonList};
 use sequences::{Sequence, Text};
 
 /// Why a byte can't be taken.
-#[derive(Clone, Copy, Debug, PartialEq, Eq)]
+#[derive(Clone, Copy)]
 pub(crate) enum Stop {
     Syntax,
     Utf8,
@@ -12,14 +12,14 @@ pub(crate) enum Stop {
 }
 
 /// What came of a byte.
-#[derive(Clone, Copy, Debug, PartialEq, Eq)]
+#[derive(Clone, Copy)]
 pub(crate) enum Taken {
     Goes,
     Stops(Stop),
 }
 
 /// The digits of an escape so far.
-#[derive(Clone, Copy, Debug)]
+#[derive(Clone, Copy)]
 pub(crate) enum Digits {
     Zero,
     One(u8),
@@ -28,7 +28,7 @@ pub(crate) enum Digits {
 }
 
 /// What came last in a numeral.
-#[derive(Clone, Copy, Debug)]
+#[derive(Clone, Copy)]
 pub(crate) enum Place {
     Minus,
     Nought,
@@ -41,14 +41,14 @@ pub(crate) enum Place {
 }
 
 /// What a string is.
-#[derive(Clone, Copy, Debug)]
+#[derive(Clone, Copy)]
 pub(crate) enum Role {
     Name,
     Content,
 }
 
 /// Where a string stands.
-#[derive(Clone, Copy, Debug)]
+#[derive(Clone, Copy)]
 pub(crate) enum Part {
     Plain,
     Escape,
@@ -60,7 +60,7 @@ pub(crate) enum Part {
 }
 
 /// The words of JSON.
-#[derive(Clone, Copy, Debug)]
+#[derive(Clone, Copy)]
 pub(crate) enum Word {
     Null,
     True,
@@ -68,7 +68,7 @@ pub(crate) enum Word {
 }
 
 /// What stands at the end of the bytes so far.
-#[derive(Clone, Copy, Debug)]
+#[derive(Clone, Copy)]
 pub(crate) enum Hand {
     Value,
     FirstItem,
@@ -84,14 +84,14 @@ pub(crate) enum Hand {
 
 /// A list or an object that isn't closed yet, with what it holds so far; of an object also the name
 /// whose value is to come.
-#[derive(Debug, Drop)]
+#[derive(Drop)]
 pub(crate) enum Level {
     List(JsonList),
     Map(Sequence<(Text, Json)>, Text),
 }
 
 /// What came of several bytes: all were taken, or one was not, at this index.
-#[derive(Clone, Copy, Debug)]
+#[derive(Clone, Copy)]
 pub(crate) enum Ran {
     All,
     Stops(usize, Stop),

@@ -23,7 +23,6 @@ pub(crate) const LIMIT: usize = MOST_BYTES as usize;
 
 /// The sources that a conform knows, which contracts see as the list of the rows, in the order of
 /// their lines. No two rows have one reel or one URL.
-#[derive(Drop)]
 pub struct MediaList {
     table: Table,
 }
@@ -124,5 +123,13 @@ fn take_line(table: &mut Table, alloc: Global, line: &[u8], number: u32) -> Resu
         Ok(Some(row)) => table.add(alloc, row, number),
         Ok(None) => Ok(()),
         Err(fault) => Err(fault),
+    }
+}
+
+// Drops are written out: a derived one is proved anew in each crate that drops such a value.
+
+impl Drop for MediaList {
+    fn drop(self) {
+        let MediaList { table: _ } = self;
     }
 }

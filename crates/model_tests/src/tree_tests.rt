@@ -14,10 +14,9 @@ use tick_time::{Scalar, Span};
 /// A clip of these media, that uses those of this key.
 fn clip_of(alloc: Global, key: Text, media_references: MediaMap) -> Clip {
     let effects = Effects::new(alloc);
-    Clip {
-        active_media_reference_key: key,
-        ..played(alloc, Text::empty(), None, media_references, effects)
-    }
+    let mut clip = played(alloc, Text::empty(), None, media_references, effects);
+    clip.active_media_reference_key = key;
+    clip
 }
 
 /// A reference to a file.

@@ -21,7 +21,7 @@ use tick_time::Time;
 ///
 /// Besides the fields of its schema it keeps memory to spare. Contracts see that as the room that
 /// it has, and compare two timelines by the word `bare`, which sets it aside.
-#[derive(Debug, Drop)]
+#[derive(Debug)]
 pub struct Timeline {
     /// Metadata, kept as it is.
     pub metadata: Members,
@@ -167,4 +167,19 @@ fn below<'a>(item: &'a Item, place: &[u32]) -> Option<&'a Item>
     };
     let child = item.children()?.item(*first as usize)?;
     below(child, rest)
+}
+
+// Drops are written out: a derived one is proved anew in each crate that drops such a value.
+
+impl Drop for Timeline {
+    fn drop(self) {
+        let Timeline {
+            metadata: _,
+            name: _,
+            global_start_time: _,
+            tracks: _,
+            rest: _,
+            spare: _,
+        } = self;
+    }
 }

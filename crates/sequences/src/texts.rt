@@ -9,7 +9,6 @@ use std::marker::Model;
 
 /// A text in UTF-8, which contracts see as the list of its bytes. A text of few bytes takes no
 /// memory beside the value.
-#[derive(Drop)]
 pub struct Text {
     held: Held,
 }
@@ -118,5 +117,13 @@ impl TextRoom {
 impl Debug for Text {
     fn fmt<W: Write>(&self, f: &mut Formatter<W>) -> fmt::Result {
         Debug::fmt(self.as_str(), f)
+    }
+}
+
+// Drops are written out: a derived one is proved anew in each crate that drops such a value.
+
+impl Drop for Text {
+    fn drop(self) {
+        let Text { held: _ } = self;
     }
 }

@@ -17,7 +17,7 @@ use otio_model::{Children, Item, ItemOf, Seat, offset_ticks};
 use sequences::Text;
 
 /// An overlap that holds an instant: its two sides, each with its own instant.
-#[derive(Clone, Copy, Debug)]
+#[derive(Clone, Copy)]
 pub(crate) struct ActiveTransition<'a> {
     /// The transition's type.
     pub(crate) kind: &'a Text,
@@ -33,7 +33,7 @@ pub(crate) struct ActiveTransition<'a> {
 }
 
 /// An item that holds an instant, and the instant in it.
-#[derive(Clone, Copy, Debug)]
+#[derive(Clone, Copy)]
 pub(crate) struct Held {
     pub(crate) index: usize,
     pub(crate) ticks: i128,

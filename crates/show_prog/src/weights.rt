@@ -5,7 +5,7 @@ ghost use Rattle.coord.specs.Looks as looks;
 ghost use Rattle.show_prog.specs.Walk.{weight_of};
 
 /// A fraction `num / den` in lowest terms.
-#[derive(Clone, Copy, Debug)]
+#[derive(Clone, Copy)]
 pub(crate) struct Share {
     pub(crate) num: i128,
     pub(crate) den: i128,
