@@ -1,19 +1,22 @@
 -- The commands of `clap`, and their errors.
-use Rattle.std.proofs.Common.{◌≡◌, ◌↔◌, ℕ, true, Some, List, [], ◌∷◌, inl, inr, refl, ap}
+use Rattle.std.proofs.Common.{◌≡◌, ◌<◌, ◌≤◌, ◌+◌, ◌↔◌, ◌∙◌, ℕ, true, Some, List, [], ◌∷◌, inl, inr, refl, sym, ap, drop, length, map, get_or}
+use Rattle.std.proofs.lemmas.List.{drop_all, drop_more}
 use Rattle.clap.specs.Kinds.{Kinds, HasKind}
 use Rattle.clap.specs.Simple.{app_of_fields}
-use Rattle.clap.specs.Words.{Text, app_of, fault_of, is_simple, is_simple_and_free, kind_of, rule_of}
+use Rattle.clap.specs.Words.{App, Text, app_of, fault_of, is_simple, is_simple_and_free, kind_of, rule_of, with_rule}
 use Rattle.clap.specs.declared.builder.arg.Arg.{Arg}
 use Rattle.clap.specs.declared.builder.command.Command.{Command}
 use Rattle.clap.specs.declared.builder.command.Command.TheViews.{out-Command}
 use Rattle.clap.specs.declared.error.Error.{Error}
 use Rattle.clap.specs.declared.error.kind.ErrorKind.TheVariants as kind
 use Rattle.command_words.specs.Given.{GivesNothing}
-use Rattle.command_words.specs.Options.{lettered, needed, reader_of, unnamed}
+use Rattle.command_words.specs.Options.{lettered, needed, reader_of, unnamed, with_rules}
+use Rattle.command_words.specs.Taken.{taken_rule}
 use Rattle.command_words.specs.declared.faults.WordsFault.{WordsFault}
 use Rattle.command_words.specs.declared.faults.WordsFault.TheVariants.{Usage, Memory}
 use Rattle.command_words.specs.declared.names.Verb.{Verb}
 use Rattle.command_words.specs.declared.names.Verb.TheVariants.{Convert, Cat, Stat, Tool, Frames, Edit, Drill}
+use Rattle.command_words.specs.declared.options.Taken.{Taken}
 
 -- a command whose words don't begin with its name
 pub unnamed_app : (old new : Command)
@@ -29,6 +32,20 @@ lettered_rule old new letter e = ap rule_of e
 pub needed_rule : (old new : Arg) → new ≡ record old { required = true }
     → rule_of new ≡ needed (rule_of old)
 needed_rule old new e = ap rule_of e
+
+-- a command with the next of what is left, and with nothing left
+pub with_next : (all : List Taken) (i : ℕ) (d : Taken) (old new whole : App) → i < length all
+    → new ≡ with_rule old (taken_rule (get_or all i d))
+    → with_rules old (map taken_rule (drop i all)) ≡ whole
+    → with_rules new (map taken_rule (drop (i + 1) all)) ≡ whole
+with_next all i d old new whole lt e h =
+    ap (λ a. with_rules a (map taken_rule (drop (i + 1) all))) e
+    ∙ sym (ap (λ l. with_rules old (map taken_rule l)) (drop_more all i d lt)) ∙ h
+
+pub with_none : (all : List Taken) (i : ℕ) (app whole : App) → length all ≤ i
+    → with_rules app (map taken_rule (drop i all)) ≡ whole → app ≡ whole
+with_none all i app whole le h =
+    sym (ap (λ l. with_rules app (map taken_rule l)) (drop_all i all le)) ∙ h
 
 -- each command is one of which `clap` publishes the meaning
 pub readers_are_free : (verb : Verb) → is_simple_and_free (reader_of verb) ≡ true

@@ -1,5 +1,6 @@
 pub mod Names
 pub mod Options
+pub mod Taken
 pub mod Given
 pub mod Tools
 pub mod Drills

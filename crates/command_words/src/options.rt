@@ -1,12 +1,25 @@
 // The options and the positional words of each command, as one simple command of `clap`.
-ghost use Rattle.std.specs.Prelude.{◌≡◌, false, IfOk};
+ghost use Rattle.std.specs.Prelude.{◌≡◌, false, map, IfOk};
 ghost use Rattle.clap.specs.Words.{app_of, rule_of};
-ghost use Rattle.command_words.specs.Options.{valued as valued_rule, flag as flag_rule, file as file_rule, files as files_rule, output as output_rule, list_options, tool_flags, reader_of as reader, with_rules};
+ghost use Rattle.command_words.specs.Options.{valued as valued_rule, needed as needed_rule, flag as flag_rule, file as file_rule, files as files_rule, output as output_rule, reader_of as reader, with_rules};
+ghost use Rattle.command_words.specs.Taken.{taken_rule, list_reader_of};
 ghost use Rattle.command_words.specs.Names.{word_of};
 
 use crate::names::Verb;
 use clap::{Arg, ArgAction, Command};
 use std::alloc::{AllocError, Global};
+
+// What a command takes: an option of that name with a value, one that has to be given, a flag,
+// the output, one file, or one file and more.
+#[derive(Clone, Copy)]
+enum Taken<'a> {
+    Valued(&'a str),
+    Needed(&'a str),
+    Flag(&'a str),
+    Output,
+    File,
+    Files,
+}
 
 /// The command of `clap` that reads the words behind a command's own word.
 pub fn reader_of<'a>(alloc: Global, verb: Verb) -> Result<Command<'a>, AllocError>
@@ -27,100 +40,127 @@ pub fn reader_of<'a>(alloc: Global, verb: Verb) -> Result<Command<'a>, AllocErro
 fn convert_reader<'a>(alloc: Global) -> Result<Command<'a>, AllocError>
     ensures { IfOk result (λ command. app_of command ≡ reader Verb.Convert) }
 {
-    let command = Command::new(alloc, "convert")
-        .no_binary_name(true)
-        .arg(valued(alloc, "from"))?
-        .arg(valued(alloc, "to"))?
-        .arg(flag(alloc, "drop"))?
-        .arg(flag(alloc, "wide"))?;
-    with_list_options(alloc, command)?.arg(file(alloc))
+    let own = &[
+        Taken::Valued("from"),
+        Taken::Valued("to"),
+        Taken::Flag("drop"),
+        Taken::Flag("wide"),
+    ];
+    list_reader(alloc, "convert", own, Taken::File)
 }
 
 // The command that reads the words of `cat`.
 fn cat_reader<'a>(alloc: Global) -> Result<Command<'a>, AllocError>
     ensures { IfOk result (λ command. app_of command ≡ reader Verb.Cat) }
 {
-    let command = Command::new(alloc, "cat").no_binary_name(true);
-    with_list_options(alloc, command)?.arg(files(alloc))
+    list_reader(alloc, "cat", &[], Taken::Files)
 }
 
 // The command that reads the words of `stat`.
 fn stat_reader<'a>(alloc: Global) -> Result<Command<'a>, AllocError>
     ensures { IfOk result (λ command. app_of command ≡ reader Verb.Stat) }
 {
-    let command = Command::new(alloc, "stat").no_binary_name(true);
-    with_list_options(alloc, command)?.arg(file(alloc))
+    list_reader(alloc, "stat", &[], Taken::File)
 }
 
 // The command that reads the words of `tool`.
 fn tool_reader<'a>(alloc: Global) -> Result<Command<'a>, AllocError>
     ensures { IfOk result (λ command. app_of command ≡ reader Verb.Tool) }
 {
-    let command = Command::new(alloc, "tool")
-        .no_binary_name(true)
-        .arg(valued(alloc, "trim"))?
-        .arg(valued(alloc, "flatten"))?;
-    let flagged = with_tool_flags(alloc, command)?;
-    with_list_options(alloc, flagged)?.arg(files(alloc))
-}
-
-// A command with the flags of `tool`.
-fn with_tool_flags<'a>(alloc: Global, command: Command<'a>) -> Result<Command<'a>, AllocError>
-    ensures { IfOk result (λ more. app_of more ≡ with_rules (app_of command.entry) tool_flags) }
-{
-    command
-        .arg(flag(alloc, "list-tracks"))?
-        .arg(flag(alloc, "list-clips"))?
-        .arg(flag(alloc, "list-media"))?
-        .arg(flag(alloc, "stats"))?
-        .arg(flag(alloc, "video-only"))?
-        .arg(flag(alloc, "audio-only"))?
-        .arg(flag(alloc, "keep-flattened-tracks"))?
-        .arg(flag(alloc, "remove-transitions"))?
-        .arg(flag(alloc, "concat"))?
-        .arg(flag(alloc, "stack"))
+    let own = &[
+        Taken::Valued("trim"),
+        Taken::Valued("flatten"),
+        Taken::Flag("list-tracks"),
+        Taken::Flag("list-clips"),
+        Taken::Flag("list-media"),
+        Taken::Flag("stats"),
+        Taken::Flag("video-only"),
+        Taken::Flag("audio-only"),
+        Taken::Flag("keep-flattened-tracks"),
+        Taken::Flag("remove-transitions"),
+        Taken::Flag("concat"),
+        Taken::Flag("stack"),
+    ];
+    list_reader(alloc, "tool", own, Taken::Files)
 }
 
 // The command that reads the words of `frames`.
 fn frames_reader<'a>(alloc: Global) -> Result<Command<'a>, AllocError>
     ensures { IfOk result (λ command. app_of command ≡ reader Verb.Frames) }
 {
-    let command = Command::new(alloc, "frames")
-        .no_binary_name(true)
-        .arg(valued(alloc, "child"))?
-        .arg(valued(alloc, "start"))?
-        .arg(valued(alloc, "count"))?;
-    with_list_options(alloc, command)?.arg(file(alloc))
+    let own = &[
+        Taken::Valued("child"),
+        Taken::Valued("start"),
+        Taken::Valued("count"),
+    ];
+    list_reader(alloc, "frames", own, Taken::File)
 }
 
 // The command that reads the words of `edit`.
 fn edit_reader<'a>(alloc: Global) -> Result<Command<'a>, AllocError>
     ensures { IfOk result (λ command. app_of command ≡ reader Verb.Edit) }
 {
-    let command = Command::new(alloc, "edit")
-        .no_binary_name(true)
-        .arg(valued(alloc, "script").required(true))?;
-    with_list_options(alloc, command)?.arg(file(alloc))
+    list_reader(alloc, "edit", &[Taken::Needed("script")], Taken::File)
 }
 
 // The command that reads the words of `drill`.
 fn drill_reader<'a>(alloc: Global) -> Result<Command<'a>, AllocError>
     ensures { IfOk result (λ command. app_of command ≡ reader Verb.Drill) }
 {
-    Command::new(alloc, "drill")
-        .no_binary_name(true)
-        .arg(output(alloc))?
-        .arg(files(alloc))
+    let command = Command::new(alloc, "drill").no_binary_name(true);
+    with_all(alloc, command, &[Taken::Output, Taken::Files])
 }
 
-// A command with the options of each command that takes lists.
-fn with_list_options<'a>(alloc: Global, command: Command<'a>) -> Result<Command<'a>, AllocError>
-    ensures { IfOk result (λ more. app_of more ≡ with_rules (app_of command.entry) list_options) }
+// The command of that name with its own options, those of each command that takes lists, and
+// its files.
+fn list_reader<'a>(
+    alloc: Global,
+    name: &'a str,
+    own: &[Taken<'a>],
+    files: Taken<'a>,
+) -> Result<Command<'a>, AllocError>
+    ensures { IfOk result (λ command. app_of command
+        ≡ list_reader_of name.entry.now own.now files.entry) }
 {
-    command
-        .arg(valued(alloc, "rate"))?
-        .arg(valued(alloc, "media"))?
-        .arg(output(alloc))
+    let command = Command::new(alloc, name).no_binary_name(true);
+    let more = with_all(alloc, command, own)?;
+    let shared = &[
+        Taken::Valued("rate"),
+        Taken::Valued("media"),
+        Taken::Output,
+        files,
+    ];
+    with_all(alloc, more, shared)
+}
+
+// A command with all of these, each in its turn.
+fn with_all<'a>(
+    alloc: Global,
+    mut command: Command<'a>,
+    all: &[Taken<'a>],
+) -> Result<Command<'a>, AllocError>
+    ensures { IfOk result (λ more. app_of more
+        ≡ with_rules (app_of command.entry) (map taken_rule all.now)) }
+{
+    for &taken in all {
+        command = command.arg(arg_of(alloc, taken))?;
+    }
+    Ok(command)
+}
+
+// What a command takes, as an argument of `clap`.
+fn arg_of<'a>(alloc: Global, taken: Taken<'a>) -> Arg<'a>
+    ensures rule { rule_of result ≡ taken_rule taken.entry }
+    ensures local { result.global ≡ false }
+{
+    match taken {
+        Taken::Valued(name) => valued(alloc, name),
+        Taken::Needed(name) => needed(alloc, name),
+        Taken::Flag(name) => flag(alloc, name),
+        Taken::Output => output(alloc),
+        Taken::File => file(alloc),
+        Taken::Files => files(alloc),
+    }
 }
 
 // The name of the output: `--output` or `-o`.
@@ -137,6 +177,14 @@ fn valued<'a>(alloc: Global, name: &'a str) -> Arg<'a>
     ensures local { result.global ≡ false }
 {
     Arg::new(alloc, name).long(name).action(ArgAction::Set)
+}
+
+// The option `--NAME`, which takes a value and has to be given.
+fn needed<'a>(alloc: Global, name: &'a str) -> Arg<'a>
+    ensures rule { rule_of result ≡ needed_rule (valued_rule name.entry.now) }
+    ensures local { result.global ≡ false }
+{
+    valued(alloc, name).required(true)
 }
 
 // The flag `--NAME`, which takes none.
