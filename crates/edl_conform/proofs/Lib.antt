@@ -1,4 +1,5 @@
 pub mod ProductBounds
+pub mod SpanLengths
 pub mod ItemSteps
 pub mod LoopSteps
 pub mod CountLemmas

@@ -28,3 +28,4 @@ pub mod MisfitLemmas
 pub mod SoughtLemmas
 pub mod RefusalLemmas
 mod PieceLemmas
+mod PileLemmas

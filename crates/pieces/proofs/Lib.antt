@@ -5,5 +5,6 @@ pub mod Inner
 pub mod Faultless
 pub mod BackLemmas
 pub mod StripLemmas
+pub mod OverlapBounds
 pub mod WholeLemmas
 pub mod NotFar
