@@ -13,9 +13,9 @@ use Rattle.command_words.specs.declared.requests.Command.TheVariants.{Cat, ListC
 use Rattle.command_words.specs.declared.requests.FramesAsked.{FramesAsked}
 use Rattle.command_words.specs.declared.names.Verb.{Verb}
 use Rattle.command_words.specs.declared.names.Verb.TheVariants as verbs
-use Rattle.record_points.specs.declared.points.RecordPoint.{RecordPoint}
-use Rattle.record_points.specs.Words.{IsWholeNumber, IsPoint}
-use Rattle.record_points.proofs.OnePoint.{number_once, point_once}
+use Rattle.smpte_tc.specs.declared.points.RecordPoint.{RecordPoint}
+use Rattle.smpte_tc.specs.Words.{IsWholeNumber, IsPoint}
+use Rattle.smpte_tc.proofs.OnePoint.{number_once, point_once}
 use Rattle.command_words.specs.Names.{word_of, IsListName}
 use Rattle.command_words.proofs.Naming.{verb_once}
 use Rattle.command_words.proofs.SameRates.{asked_rate_once}

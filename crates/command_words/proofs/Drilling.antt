@@ -1,7 +1,7 @@
 -- Drills that words ask for.
 use Rattle.std.proofs.Common.{◌≡◌, ℕ, ◌≤◌, List, [], ◌∷◌, Option, Some, sym, ◌∙◌, subst, arith}
-use Rattle.record_points.specs.Words.{IsWholeNumber}
-use Rattle.record_points.proofs.OnePoint.{number_once}
+use Rattle.smpte_tc.specs.Words.{IsWholeNumber}
+use Rattle.smpte_tc.proofs.OnePoint.{number_once}
 use Rattle.command_words.specs.Given.{Given}
 use Rattle.command_words.specs.Asked.{Ask, IsAskedBy, OtherNames}
 use Rattle.command_words.specs.Drills.{AsksDrill, IsDrill, IsEditCount, IsSeed}

@@ -1,7 +1,7 @@
 -- What the options of `tool` ask for at most once.
 use Rattle.std.proofs.Common.{◌≡◌, ℕ, Bool, true, false, List, Option, Some, None, refl, sym, ◌∙◌, ap, arith, get_or}
 use Rattle.std.specs.List.{after_first, before_first}
-use Rattle.record_points.proofs.OnePoint.{point_once}
+use Rattle.smpte_tc.proofs.OnePoint.{point_once}
 use Rattle.command_words.specs.Given.{Given, IsValue}
 use Rattle.command_words.specs.Tools.{AreTools, IsFlattening, IsJoining, IsOnly, IsWindow, are_several, is_comma}
 use Rattle.command_words.specs.declared.tools.Flattening.{Flattening}

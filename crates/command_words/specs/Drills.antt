@@ -1,6 +1,6 @@
 -- Words that ask for a drill.
 use Rattle.std.specs.Prelude.{◌≡◌, ◌≢◌, ℕ, ◌<◌, ◌≤◌, ◌^◌, List, [], ◌∷◌, Option, Some, decimal, length, slice_index}
-use Rattle.record_points.specs.Words.{IsWholeNumber}
+use Rattle.smpte_tc.specs.Words.{IsWholeNumber}
 use Rattle.command_words.specs.Names.{word_of}
 use Rattle.command_words.specs.Given.{Given, Gives}
 use Rattle.command_words.specs.declared.names.Verb.TheVariants.{Drill}

@@ -1,7 +1,7 @@
 -- What the options of `tool` ask for.
 use Rattle.std.specs.Prelude.{◌≡◌, ◌<◌, ◌==◌, ℕ, Bool, true, false, List, [], ◌∷◌, Option, Some, None, codes, length}
 use Rattle.std.specs.List.{after_first, before_first, position_or_len}
-use Rattle.record_points.specs.Words.{IsPoint}
+use Rattle.smpte_tc.specs.Words.{IsPoint}
 use Rattle.command_words.specs.Given.{Given, IsValue}
 use Rattle.command_words.specs.declared.tools.Flattening.{Flattening}
 use Rattle.command_words.specs.declared.tools.Flattening.TheVariants as flattening

@@ -12,7 +12,7 @@ use text_lines::is_text;
 use tick_time::Rate;
 
 /// What a file is read as, or what is written.
-#[derive(Clone, Copy, Debug, PartialEq, Eq)]
+#[derive(Clone, Copy, PartialEq, Eq)]
 pub enum Form {
     /// An object of OpenTimelineIO.
     Objects,

@@ -5,13 +5,13 @@ ghost use Rattle.command_words.specs.Drills.{IsDrill, IsEditCount, IsSeed, IsUns
 ghost use Rattle.command_words.specs.Given.{given_by};
 
 use crate::lines::Line;
-use record_points::whole_number;
+use smpte_tc::whole_number;
 
 /// How many edits a drill tries at most.
 const MOST_EDITS: u64 = 10_000;
 
 /// A drill that is asked for.
-#[derive(Clone, Copy, Debug, PartialEq, Eq)]
+#[derive(Clone, Copy, PartialEq, Eq)]
 pub struct DrillAsked<'a> {
     /// The number that the drill's generator starts at.
     pub seed: u64,

@@ -6,7 +6,7 @@ use clap::Error;
 use clap::error::ErrorKind;
 
 /// Why words give no request.
-#[derive(Clone, Copy, Debug, PartialEq, Eq)]
+#[derive(Clone, Copy, PartialEq, Eq)]
 pub enum WordsFault {
     /// They ask for nothing.
     Usage,

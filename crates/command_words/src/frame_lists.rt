@@ -1,7 +1,7 @@
 // What a command line of `frames` asks for.
 ghost use Rattle.std.specs.Prelude.{◌≡◌, ℕ, List, Option, MatchOption};
 ghost use Rattle.std.specs.Option.{option_map};
-ghost use Rattle.record_points.specs.Words.{IsWholeNumber, IsPoint};
+ghost use Rattle.smpte_tc.specs.Words.{IsWholeNumber, IsPoint};
 ghost use Rattle.command_words.specs.Asked.{AreFrames, IsCount, IsFrameList, IsListing};
 ghost use Rattle.command_words.specs.Given.{IsValue, given_by};
 
@@ -9,7 +9,7 @@ use crate::lines::Line;
 use crate::names::is_list_name;
 use crate::rates::rate_asked;
 use crate::requests::{Command, FramesAsked};
-use record_points::{RecordPoint, point_of, whole_number};
+use smpte_tc::{RecordPoint, point_of, whole_number};
 use tick_time::Rate;
 
 /// How many record frames a command line may ask for at least.

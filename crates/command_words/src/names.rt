@@ -5,7 +5,7 @@ ghost use Rattle.command_words.specs.Names.{meaning, verb_words, HasList, IsList
 use text_lines::strip_back;
 
 /// A command, by its own word.
-#[derive(Clone, Copy, Debug, PartialEq, Eq)]
+#[derive(Clone, Copy, PartialEq, Eq)]
 pub enum Verb {
     /// `convert`.
     Convert,

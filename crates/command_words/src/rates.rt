@@ -3,7 +3,7 @@ ghost use Rattle.std.specs.Prelude.{MatchOption, None};
 ghost use Rattle.std.specs.Option.{option_map};
 ghost use Rattle.command_words.specs.Asked.{IsRate};
 
-use rate_words::rate_of;
+use smpte_tc::rate_of;
 use tick_time::Rate;
 
 /// The rate of lists: the one that is asked for, else 24 frames a second.

@@ -15,12 +15,12 @@ use crate::lines::{Line, line_of};
 use crate::names::{Verb, first_word, verb_of};
 use crate::several::{cat_of, stat_of, tool_of};
 use crate::tools::ToolAsked;
-use record_points::RecordPoint;
+use smpte_tc::RecordPoint;
 use std::alloc::Global;
 use tick_time::Rate;
 
 /// What is to be done with a file.
-#[derive(Clone, Copy, Debug, PartialEq, Eq)]
+#[derive(Clone, Copy, PartialEq, Eq)]
 pub enum Command {
     /// A list is written as a list, in its one spelling.
     ListToList {
@@ -89,7 +89,7 @@ pub enum Command {
 }
 
 /// Which record frames of a timeline are listed.
-#[derive(Clone, Copy, Debug, PartialEq, Eq)]
+#[derive(Clone, Copy, PartialEq, Eq)]
 pub struct FramesAsked {
     /// The root child that is listed, counted from 0; none for each of them.
     pub child: Option<u64>,

@@ -6,11 +6,11 @@ ghost use Rattle.command_words.specs.Given.{IsValue, given_by};
 ghost use Rattle.command_words.specs.Tools.{AreTools, IsFlattening, IsJoining, IsOnly, IsWindow, are_several as several_behind, is_comma};
 
 use crate::lines::Line;
-use record_points::{RecordPoint, point_of};
+use smpte_tc::{RecordPoint, point_of};
 use text_lines::is_text;
 
 /// How several timelines become one.
-#[derive(Clone, Copy, Debug, PartialEq, Eq)]
+#[derive(Clone, Copy, PartialEq, Eq)]
 pub enum Joining {
     /// One after another, track by track.
     Concat,
@@ -19,7 +19,7 @@ pub enum Joining {
 }
 
 /// A kind of tracks.
-#[derive(Clone, Copy, Debug, PartialEq, Eq)]
+#[derive(Clone, Copy, PartialEq, Eq)]
 pub enum TrackKind {
     /// Tracks of pictures.
     Video,
@@ -28,7 +28,7 @@ pub enum TrackKind {
 }
 
 /// Which tracks are flattened into one of their kind.
-#[derive(Clone, Copy, Debug, PartialEq, Eq)]
+#[derive(Clone, Copy, PartialEq, Eq)]
 pub enum Flattening {
     /// Those of pictures.
     Video,
@@ -39,7 +39,7 @@ pub enum Flattening {
 }
 
 /// What is kept of a timeline, from one record point to another.
-#[derive(Clone, Copy, Debug, PartialEq, Eq)]
+#[derive(Clone, Copy, PartialEq, Eq)]
 pub struct Window {
     /// The record point of the first frame that is kept.
     pub start: RecordPoint,
@@ -48,7 +48,7 @@ pub struct Window {
 }
 
 /// What is done with timelines, in this order, and what is listed of the outcome.
-#[derive(Clone, Copy, Debug, PartialEq, Eq)]
+#[derive(Clone, Copy, PartialEq, Eq)]
 pub struct ToolAsked {
     /// How the timelines become one; none where one file alone is named.
     pub joining: Option<Joining>,

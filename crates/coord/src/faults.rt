@@ -3,7 +3,7 @@
 use otio_model::Place;
 
 /// What is wrong with one item.
-#[derive(Clone, Copy, Debug, PartialEq, Eq)]
+#[derive(Clone, Copy, PartialEq, Eq)]
 pub enum ItemFault {
     /// It has no length.
     NoLength,
@@ -15,7 +15,7 @@ pub enum ItemFault {
 }
 
 /// What is wrong with a timeline.
-#[derive(Debug, Drop)]
+#[derive(Drop)]
 pub enum CoordFault {
     /// `global_start_time` lies on no frame of its rate.
     StartOffFrame,

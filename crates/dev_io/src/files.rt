@@ -11,7 +11,7 @@ ghost use Rattle.dev_io.specs.Causes.{HasExactCause, HasOpenCause};
 pub struct Failed;
 
 /// What opening a file gave.
-#[derive(Clone, Copy, Debug, PartialEq, Eq)]
+#[derive(Clone, Copy, PartialEq, Eq)]
 pub enum Opened {
     /// The file is in hand, and all of its bytes are left.
     Found,

@@ -2,8 +2,8 @@
 use Rattle.std.proofs.Common.{◌≡◌, ◌+◌, ◌==◌, sym, ap, ◌∙◌, ℕ, ℤ, pos, Bool, false, List, arith}
 use Rattle.std.proofs.lemmas.Bool.Decides.{nat_tests}
 use Rattle.std.specs.Prelude.{cond, IfOk, OnOk, Result, Ok, Err}
-use Rattle.script_text.specs.declared.commands.Act.{Act}
-use Rattle.script_text.specs.declared.commands.Act.TheVariants as A
+use Rattle.edit_script.specs.declared.commands.Act.{Act}
+use Rattle.edit_script.specs.declared.commands.Act.TheVariants as A
 use Rattle.drill.specs.Draws.{next, draw, after}
 use Rattle.drill.specs.Acts.{Drawn, act, act_of, moving, shift, track}
 

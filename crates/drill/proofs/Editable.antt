@@ -17,7 +17,7 @@ use Rattle.otio_model.proofs.Views.{items-listed}
 use Rattle.coord.specs.Soundness.{AreCalm, IsSound}
 use Rattle.coord.proofs.Members.{one_counts}
 use Rattle.coord.proofs.SpareLemmas.{sound_bare}
-use Rattle.cuts.specs.Finest.{rate_24}
+use Rattle.edits.specs.Finest.{rate_24}
 use Rattle.edit_script.specs.Keeping.{IsEditable}
 use Rattle.drill.specs.Starting.{IsStart, start_clips, timeline_with, track_with}
 use Rattle.drill.proofs.PlainClips.{IsPlain}

@@ -25,7 +25,7 @@ use Rattle.edl_list.specs.Speeds.{side_speed}
 use Rattle.media_rows.specs.declared.row.MediaRow.{MediaRow}
 use Rattle.media_rows.specs.Rows.{MediaRows, row_of}
 use Rattle.edl_frames.specs.Conformed.{HasSpan, effects_at, IsClip, IsGap, IsReelItem, IsItem, IsTransition, still, warp}
-use Rattle.edl_frames_law.proofs.ItemLooks.{ticks, speed_back}
+use Rattle.edl_law.proofs.ItemLooks.{ticks, speed_back}
 
 -- ---- an item without a fault
 

@@ -27,8 +27,8 @@ use Rattle.edl_list.proofs.DayLemmas.{IsPacedDay, timed}
 use Rattle.edl_list.proofs.SpeedLemmas.{speed_small}
 use Rattle.media_rows.specs.Rows.{MediaRows}
 use Rattle.edl_frames.specs.Conformed.{Pair, pair_of, pair_as, wipe_type, IsItemOf, AreItems, end, gap, cut, pair, pair_with_side}
-use Rattle.edl_frames_law.proofs.FrameQuotients.{floor, sum-times}
-use Rattle.edl_frames_law.proofs.ItemLooks.{ticks}
+use Rattle.edl_law.proofs.FrameQuotients.{floor, sum-times}
+use Rattle.edl_law.proofs.ItemLooks.{ticks}
 use Rattle.drill.proofs.SourceOuts.{EndsInSource, ShowsOut}
 use Rattle.drill.proofs.FaultlessItems.{Ends, IsPart, gap_part, item_part, no_fault, plain_end, transition_part}
 

@@ -10,13 +10,13 @@ use Rattle.edl_frames.specs.Channels.{own_key}
 use Rattle.edl_frames.specs.Conformed.{IsTimelineOf}
 use Rattle.edl_frames.specs.Counted.{item_count}
 use Rattle.edl_frames.specs.Carried.{not_carried, IsListOf}
-use Rattle.edl_frames_law.specs.Premises.{IsFine}
-use Rattle.edl_frames_law.proofs.FewItems.{few_items}
-use Rattle.edl_frames_law.proofs.ItemCounts.{timeline_count}
-use Rattle.edl_frames_law.proofs.ListDays.{list_is_fine}
-use Rattle.edl_frames_law.proofs.ListShows.{list_shows_timeline}
-use Rattle.edl_frames_law.proofs.SideLooks.{knows_listed}
-use Rattle.edl_frames_law.proofs.TimelineShows.{timeline_shows_list}
+use Rattle.edl_law.specs.Premises.{IsFine}
+use Rattle.edl_law.proofs.FewItems.{few_items}
+use Rattle.edl_law.proofs.ItemCounts.{timeline_count}
+use Rattle.edl_law.proofs.ListDays.{list_is_fine}
+use Rattle.edl_law.proofs.ListShows.{list_shows_timeline}
+use Rattle.edl_law.proofs.SideLooks.{knows_listed}
+use Rattle.edl_law.proofs.TimelineShows.{timeline_shows_list}
 use Rattle.drill.specs.Lists.{Conforms, Shows}
 use Rattle.drill.proofs.SoundTimelines.{conformed_sound}
 

@@ -12,12 +12,12 @@ use Rattle.text_lines.proofs.ReelLemmas.{reel_name_is}
 use Rattle.std.proofs.lemmas.Str.{IsUtf8-from_ascii}
 use Rattle.tick_time.specs.Numerals.{IsTooLong, Numeral, Spells, absent, fraction}
 use Rattle.tick_time.specs.Rates.{GivesRate, spelled}
-use Rattle.rate_words.specs.RateWords.{IsRateWord}
-use Rattle.schema_law.proofs.Spellings.{fraction_once, long_same, parts_once}
+use Rattle.smpte_tc.specs.RateWords.{IsRateWord}
+use Rattle.object_law.proofs.Spellings.{fraction_once, long_same, parts_once}
 use Rattle.media_rows.specs.declared.row.MediaRow.{MediaRow}
 use Rattle.media_list.specs.Lines.{Fields, IsRow, field_list, is_comment, tab_fields}
 use Rattle.media_list.specs.Words.{IsNumber}
-use Rattle.cuts.specs.Finest.{rate_24}
+use Rattle.edits.specs.Finest.{rate_24}
 
 -- ---- the rate
 

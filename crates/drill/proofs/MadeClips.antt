@@ -7,7 +7,7 @@ use Rattle.otio_model.specs.declared.compositions.Listed.{Listed}
 use Rattle.otio_model.specs.declared.compositions.StackOf.{StackOf}
 use Rattle.otio_model.specs.declared.timelines.Timeline.{Timeline}
 use Rattle.tick_time.specs.declared.times.Time.{Time}
-use Rattle.cuts.specs.Finest.{rate_24}
+use Rattle.edits.specs.Finest.{rate_24}
 use Rattle.edit_script.specs.Items.{IsItem}
 use Rattle.tick_time.specs.Frames.{IsFrames}
 use Rattle.drill.specs.Acts.{clip_at, clips}

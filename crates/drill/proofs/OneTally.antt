@@ -4,12 +4,12 @@ use Rattle.otio_model.specs.declared.timelines.Timeline.{Timeline}
 use Rattle.otio_model.specs.Timelines.{bare}
 use Rattle.undo_log.specs.States.{State}
 use Rattle.media_rows.specs.Rows.{MediaRows}
-use Rattle.edit_script.proofs.Once.{kept_on, one_result}
+use Rattle.edit_script.proofs.OnceRun.{kept_on, one_result}
 use Rattle.edl_list.specs.declared.list.EventList.{EventList}
 use Rattle.edl_frames.specs.Conformed.{IsTimelineOf}
 use Rattle.edl_frames.specs.declared.reasons.Why.{Why}
-use Rattle.edl_frames_law.proofs.OneList.{one_list}
-use Rattle.edl_frames_law.proofs.OneTimeline.{one_timeline}
+use Rattle.edl_law.proofs.OneList.{one_list}
+use Rattle.edl_law.proofs.OneTimeline.{one_timeline}
 use Rattle.drill.specs.Media.{rows}
 use Rattle.drill.specs.Starting.{IsStart, behind_start}
 use Rattle.drill.specs.Rounds.{Drills, Goes, Round, accepted, refused, drawn}

@@ -4,7 +4,7 @@ use Rattle.std.specs.Prelude.{IfOk, Result, Ok, Err}
 use Rattle.undo_log.specs.Histories.{History}
 use Rattle.undo_log.specs.States.{state_of}
 use Rattle.otio_model.specs.declared.timelines.Timeline.{Timeline}
-use Rattle.script_text.specs.declared.commands.Act.{Act}
+use Rattle.edit_script.specs.declared.commands.Act.{Act}
 use Rattle.edit_script.specs.Keeping.{HoldsEdits}
 use Rattle.edit_script.specs.Steps.{IsReady}
 use Rattle.media_rows.specs.Rows.{MediaRows}

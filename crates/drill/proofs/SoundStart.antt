@@ -16,7 +16,7 @@ use Rattle.media_rows.specs.Rows.{by_reel}
 use Rattle.coord.specs.Soundness.{AreFaultless, IsFaultlessItem, available_ticks, fault_of, is_long, ranged_fault}
 use Rattle.coord.specs.declared.faults.ItemFault.TheVariants.{Long, NoLength}
 use Rattle.coord.proofs.JudgingLemmas.{sound_all, sound_alone, sound_with}
-use Rattle.cuts.specs.Finest.{rate_24}
+use Rattle.edits.specs.Finest.{rate_24}
 use Rattle.edit_script.specs.Items.{IsItem}
 use Rattle.drill.specs.Draws.{after, draw, next}
 use Rattle.drill.specs.Acts.{clip_at, clips, name_at, reel}

@@ -30,10 +30,10 @@ use Rattle.edl_frames.specs.Seats.{is_there}
 use Rattle.edl_frames.specs.declared.reasons.Why.{Why}
 use Rattle.edl_frames.specs.declared.reasons.Why.TheVariants as W
 use Rattle.edl_frames.specs.Carried.{not_carried, IsListOf}
-use Rattle.edl_frames_law.specs.Premises.{AreListed}
-use Rattle.edl_frames_law.proofs.CalmTracks.{timeline_calm}
-use Rattle.edl_frames_law.proofs.ListDays.{day_holds, list_is_fine}
-use Rattle.edl_frames_law.proofs.ListShows.{carried_all}
+use Rattle.edl_law.specs.Premises.{AreListed}
+use Rattle.edl_law.proofs.CalmTracks.{timeline_calm}
+use Rattle.edl_law.proofs.ListDays.{day_holds, list_is_fine}
+use Rattle.edl_law.proofs.ListShows.{carried_all}
 use Rattle.drill.proofs.SourceOuts.{list_comes_out}
 use Rattle.drill.proofs.FaultlessTracks.{IsKnown, items_placed, track_faultless}
 

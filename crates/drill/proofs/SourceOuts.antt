@@ -15,10 +15,10 @@ use Rattle.edl_list.specs.Speeds.{side_speed}
 use Rattle.media_rows.specs.Rows.{MediaRows}
 use Rattle.edl_frames.specs.Sides.{source_at, speed_in}
 use Rattle.edl_frames.specs.Carried.{not_carried, IsListOf}
-use Rattle.edl_frames_law.proofs.SideLooks.{job, speed_kept}
-use Rattle.edl_frames_law.proofs.EventsFormed.{SidesHold}
-use Rattle.edl_frames_law.proofs.EventsAccepted.{all_hold}
-use Rattle.edl_frames_law.proofs.ChannelEvents.{channels_hold}
+use Rattle.edl_law.proofs.SideLooks.{job, speed_kept}
+use Rattle.edl_law.proofs.EventsFormed.{SidesHold}
+use Rattle.edl_law.proofs.EventsAccepted.{all_hold}
+use Rattle.edl_law.proofs.ChannelEvents.{channels_hold}
 
 -- the side ends in its source where its speed has brought it over so many frames of the record
 abbrev pub EndsInSource : Rate → Side → ℤ → Type 0

@@ -5,9 +5,9 @@ use Rattle.otio_model.specs.declared.compositions.ItemOf.{ItemOf}
 use Rattle.otio_model.specs.declared.compositions.Listed.{Listed}
 use Rattle.otio_model.specs.declared.timelines.Timeline.{Timeline}
 use Rattle.otio_model.specs.Timelines.{bare}
-use Rattle.cuts.specs.Finest.{rate_24}
-use Rattle.script_text.specs.declared.commands.Put.{Put}
-use Rattle.edit_script.proofs.Once.{one_item, one_time}
+use Rattle.edits.specs.Finest.{rate_24}
+use Rattle.edit_script.specs.declared.commands.Put.{Put}
+use Rattle.edit_script.proofs.OnceRun.{one_item, one_time}
 use Rattle.drill.specs.Media.{rows}
 use Rattle.drill.specs.Starting.{AreItems, IsStart, first_frame, start_clips, timeline_with}
 

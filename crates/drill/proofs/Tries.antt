@@ -5,9 +5,9 @@ use Rattle.undo_log.specs.States.{State, back}
 use Rattle.undo_log.specs.Histories.{History}
 use Rattle.undo_log.specs.States.{state_of}
 use Rattle.otio_model.specs.declared.timelines.Timeline.{Timeline}
-use Rattle.script_text.specs.declared.commands.Act.{Act}
-use Rattle.script_text.specs.declared.commands.Act.TheVariants as A
-use Rattle.script_text.specs.declared.commands.Command.{Command}
+use Rattle.edit_script.specs.declared.commands.Act.{Act}
+use Rattle.edit_script.specs.declared.commands.Act.TheVariants as A
+use Rattle.edit_script.specs.declared.commands.Command.{Command}
 use Rattle.edit_script.specs.declared.faults.CommandFault.{CommandFault}
 use Rattle.edit_script.specs.declared.faults.CommandFault.TheVariants as F
 use Rattle.media_rows.specs.Rows.{MediaRows}

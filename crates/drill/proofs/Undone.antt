@@ -3,7 +3,7 @@ use Rattle.std.proofs.Common.{◌≡◌, refl, sym, ap, subst, ◌∙◌, ℕ, z
 use Rattle.otio_model.specs.declared.timelines.Timeline.{Timeline}
 use Rattle.otio_model.specs.Timelines.{bare}
 use Rattle.undo_log.specs.States.{State, back, forth, moved, turned, turned_some}
-use Rattle.script_text.specs.declared.commands.Act.{Act}
+use Rattle.edit_script.specs.declared.commands.Act.{Act}
 use Rattle.media_rows.specs.Rows.{MediaRows}
 use Rattle.edit_script.specs.Runs.{Takes, edits, undoes, redoes}
 use Rattle.script_law.specs.Shown.{undone}

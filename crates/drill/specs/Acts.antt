@@ -1,10 +1,10 @@
 -- The clips and the edits that are drawn.
 use Rattle.std.specs.Prelude.{ℕ, zero, suc, ◌+◌, ◌%◌, ◌==◌, ℤ, pos, ◌-ℤ◌, cond, List, [], ◌∷◌, ◌++◌, codes, decimal}
 use Rattle.otio_model.specs.declared.editing.RemoveMode.TheVariants as R
-use Rattle.script_text.specs.declared.commands.Act.{Act}
-use Rattle.script_text.specs.declared.commands.Act.TheVariants as A
-use Rattle.script_text.specs.declared.commands.Put.{Put}
-use Rattle.script_text.specs.declared.commands.Put.TheVariants as P
+use Rattle.edit_script.specs.declared.commands.Act.{Act}
+use Rattle.edit_script.specs.declared.commands.Act.TheVariants as A
+use Rattle.edit_script.specs.declared.commands.Put.{Put}
+use Rattle.edit_script.specs.declared.commands.Put.TheVariants as P
 use Rattle.drill.specs.Draws.{next, draw, after}
 
 -- the reel of a number

@@ -1,7 +1,7 @@
 -- The edits of a drill, one after another.
 use Rattle.std.specs.Prelude.{◌≡◌, ℕ, zero, suc, ◌+◌}
 use Rattle.undo_log.specs.States.{State}
-use Rattle.script_text.specs.declared.commands.Act.{Act}
+use Rattle.edit_script.specs.declared.commands.Act.{Act}
 use Rattle.edit_script.specs.declared.faults.CommandFault.{CommandFault}
 use Rattle.media_rows.specs.Rows.{MediaRows}
 use Rattle.edit_script.specs.Runs.{IsHalted, Takes}

@@ -8,8 +8,8 @@ use Rattle.otio_model.specs.declared.compositions.Listed.{Listed}
 use Rattle.otio_model.specs.declared.timelines.Timeline.{Timeline}
 use Rattle.otio_model.specs.Timelines.{bare}
 use Rattle.otio_model.specs.Trees.{listed}
-use Rattle.cuts.specs.Finest.{rate_24}
-use Rattle.script_text.specs.declared.commands.Put.{Put}
+use Rattle.edits.specs.Finest.{rate_24}
+use Rattle.edit_script.specs.declared.commands.Put.{Put}
 use Rattle.edit_script.specs.Items.{IsItem}
 use Rattle.tick_time.specs.Frames.{IsFrames}
 use Rattle.drill.specs.Acts.{clips}

@@ -3,7 +3,7 @@ use Rattle.std.specs.Prelude.{◌≡◌, ◌≤◌, ℕ, ◌+◌, Bool, true, fa
 use Rattle.otio_model.specs.declared.timelines.Timeline.{Timeline}
 use Rattle.undo_log.specs.Histories.{History}
 use Rattle.undo_log.specs.States.{State, back, state_of}
-use Rattle.script_text.specs.declared.commands.Act.{Act}
+use Rattle.edit_script.specs.declared.commands.Act.{Act}
 use Rattle.media_rows.specs.Rows.{MediaRows}
 use Rattle.edit_script.specs.Keeping.{HoldsEdits}
 use Rattle.edit_script.specs.Runs.{Takes}

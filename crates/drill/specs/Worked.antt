@@ -1,8 +1,8 @@
 -- The first draws of seed 0, reckoned.
 use Rattle.std.specs.Prelude.{◌≡◌, ℕ, ◌+◌, ◌-◌, ◌*◌, ◌/◌, pos, ◌-ℤ◌, unsigned_abs, List, [], ◌∷◌}
-use Rattle.script_text.specs.declared.commands.Act.TheVariants as A
-use Rattle.script_text.specs.declared.commands.Put.{Put}
-use Rattle.script_text.specs.declared.commands.Put.TheVariants as P
+use Rattle.edit_script.specs.declared.commands.Act.TheVariants as A
+use Rattle.edit_script.specs.declared.commands.Put.{Put}
+use Rattle.edit_script.specs.declared.commands.Put.TheVariants as P
 use Rattle.drill.specs.Draws.{draw, after}
 use Rattle.drill.specs.Acts.{act, clip_at, clips, name_at, reel, track}
 

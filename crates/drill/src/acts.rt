@@ -5,9 +5,9 @@ ghost use Rattle.drill.specs.Acts as acts;
 ghost use Rattle.drill.specs.Draws as draws;
 
 use crate::generator::Generator;
+use edit_script::{Act, Put};
 use itoa::Buffer;
 use otio_model::{Place, RemoveMode};
-use script_text::{Act, Put};
 use sequences::Text;
 use std::alloc::{AllocError, Global};
 

@@ -1,7 +1,7 @@
 //! The clips of the timeline.
 
 ghost use Rattle.std.specs.Prelude.{◌≡◌, ◌∷◌, [], Some, IfOk, OnOk};
-ghost use Rattle.cuts.specs.Finest as finest;
+ghost use Rattle.edits.specs.Finest as finest;
 ghost use Rattle.drill.specs.Acts as acts;
 ghost use Rattle.drill.specs.Draws.{after};
 ghost use Rattle.drill.specs.Media.{rows};

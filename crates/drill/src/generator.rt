@@ -5,7 +5,7 @@ ghost use Rattle.drill.specs.Draws as draws;
 
 /// A generator of numbers, each made from the one before (a linear congruential generator modulo
 /// 2^64, of which the upper 31 bits are used).
-#[derive(Clone, Copy, Debug)]
+#[derive(Clone, Copy)]
 pub struct Generator {
     /// The number that it stands at: the seed at first.
     pub state: u64,

@@ -10,7 +10,7 @@ ghost use Rattle.drill.specs.Reasons as reasons;
 
 use crate::conforming::conform_held;
 use crate::listed::Listed;
-use edl_events::events;
+use edl_conform::events;
 use edl_frames::{NotCarried, Why};
 use edl_list::EventList;
 use media_list::MediaList;

@@ -6,10 +6,9 @@ ghost use Rattle.edit_script.specs.Keeping.{HoldsEdits};
 ghost use Rattle.edit_script.specs.Steps.{IsReady};
 ghost use Rattle.drill.specs.Turns.{WasTried, WentBack};
 
-use edit_script::{CommandFault, apply_script};
+use edit_script::{Act, Command, CommandFault, apply_script};
 use media_list::MediaList;
 use otio_model::Timeline;
-use script_text::{Act, Command};
 use std::alloc::{AllocError, Global};
 use undo_log::Log;
 

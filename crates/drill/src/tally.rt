@@ -3,7 +3,7 @@
 use edl_frames::Why;
 
 /// What a drill tells of the list of its timeline.
-#[derive(Clone, Copy, Debug)]
+#[derive(Clone, Copy)]
 pub enum Carried {
     /// The list was made and conformed.
     List {
@@ -19,7 +19,7 @@ pub enum Carried {
 }
 
 /// What a drill tells.
-#[derive(Clone, Copy, Debug)]
+#[derive(Clone, Copy)]
 pub struct Tally {
     /// How many edits were accepted.
     pub edits: u32,

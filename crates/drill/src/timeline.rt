@@ -1,7 +1,7 @@
 //! The timeline.
 
 ghost use Rattle.std.specs.Prelude.{◌≡◌, IfOk, OnOk, codes};
-ghost use Rattle.cuts.specs.Finest as finest;
+ghost use Rattle.edits.specs.Finest as finest;
 ghost use Rattle.drill.specs.Media.{rows};
 ghost use Rattle.tick_time.specs.Frames.{IsFrames};
 ghost use Rattle.edit_script.specs.Keeping.{IsEditable};

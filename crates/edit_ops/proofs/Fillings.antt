@@ -9,7 +9,7 @@ use Rattle.otio_model.specs.declared.editing.EditFault.TheVariants as F
 use Rattle.otio_model.specs.declared.editing.FillMode.{FillMode}
 use Rattle.otio_model.specs.declared.editing.RemoveMode.{RemoveMode}
 use Rattle.otio_model.specs.declared.editing.RemoveMode.TheVariants as R
-use Rattle.cuts.specs.Children.{all_made, is_far, made, new_gap, with_first}
+use Rattle.edits.specs.Children.{all_made, is_far, made, new_gap, with_first}
 use Rattle.edits.specs.Edits.{filling}
 use Rattle.edits.specs.Refusals.{cuts_filling}
 use Rattle.edit_plans.specs.Filled.{IsFilling, IsMisfit, is_wrong}

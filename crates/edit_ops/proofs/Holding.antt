@@ -5,7 +5,7 @@ use Rattle.std.proofs.lemmas.Int.{ints}
 use Rattle.limits.specs.Limits.{most_ticks}
 use Rattle.otio_model.specs.declared.compositions.ItemOf.{ItemOf}
 use Rattle.otio_model.specs.declared.compositions.Listed.{Listed}
-use Rattle.cuts.specs.Children.{ticks}
+use Rattle.edits.specs.Children.{ticks}
 use Rattle.edits.specs.Edges.{held_at, is_gap}
 use Rattle.edits_law.proofs.Accepted.{found}
 use Rattle.edits_law.proofs.Parted.{added_low}

@@ -10,8 +10,8 @@ use Rattle.otio_model.specs.declared.compositions.ItemOf.TheVariants.{Clip, Gap,
 use Rattle.otio_model.specs.declared.compositions.Listed.{Listed}
 use Rattle.otio_model.specs.Lengths.{Range, range_of, from_zero, clip_range, length_of, or_zero}
 use Rattle.otio_model.proofs.LengthBounds.{span_small}
-use Rattle.cuts.specs.Children.{ticks, is_far, new_gap, plain_gap}
-use Rattle.depths.specs.Editable.{IsEditItem}
+use Rattle.edits.specs.Children.{ticks, is_far, new_gap, plain_gap}
+use Rattle.edits_law.specs.Editable.{IsEditItem}
 use Rattle.pieces.specs.Short.{IsShort}
 use Rattle.pieces.proofs.Grown.{ticks_are}
 use Rattle.edit_plans.proofs.FillLemmas.{not_far}

@@ -1,3 +1,4 @@
+-- Lemmas on the plans of edits.
 pub mod Tests
 pub mod Beginning
 pub mod Totals
@@ -10,3 +11,20 @@ pub mod Kept
 pub mod Maps
 pub mod Listed
 pub mod Fillings
+pub mod KeptEdges
+pub mod Whole
+pub mod Longs
+pub mod Bounded
+pub mod MotionLemmas
+pub mod TrimLemmas
+pub mod Made
+pub mod PutEdges
+pub mod Seated
+pub mod Walks
+pub mod Reshaping
+pub mod Copying
+pub mod Seeking
+pub mod Neighbours
+pub mod Early
+pub mod Asking
+pub mod Planning

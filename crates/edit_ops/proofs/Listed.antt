@@ -9,7 +9,7 @@ use Rattle.otio_model.specs.declared.editing.EditFault.{EditFault}
 use Rattle.otio_model.specs.declared.editing.EditFault.TheVariants as F
 use Rattle.otio_model.specs.Patches.{applied}
 use Rattle.coord.specs.Soundness.{IsSound}
-use Rattle.depths.specs.Editable.{HasEditItem}
+use Rattle.edits_law.specs.Editable.{HasEditItem}
 use Rattle.edits.specs.Refusals.{IsRefused}
 use Rattle.edit_plans.specs.Planned.{IsPlan, ShowsThrough}
 use Rattle.edit_plans.proofs.Shown.{shows_through}

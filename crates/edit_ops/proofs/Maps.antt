@@ -10,7 +10,7 @@ use Rattle.otio_model.specs.declared.patches.Patch.{Patch}
 use Rattle.otio_model.specs.declared.editing.Edit.{Edit}
 use Rattle.otio_model.specs.declared.editing.EditFault.{EditFault}
 use Rattle.otio_model.specs.declared.editing.EditFault.TheVariants as F
-use Rattle.cuts.specs.Children.{Child}
+use Rattle.edits.specs.Children.{Child}
 use Rattle.edits.specs.After.{list_of}
 use Rattle.edits.specs.Refusals.{IsRefused, pin_fault}
 use Rattle.edit_plans.specs.Planned.{IsMiddle, IsPlan}

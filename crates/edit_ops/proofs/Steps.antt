@@ -13,9 +13,9 @@ use Rattle.otio_model.specs.declared.editing.EditFault.TheVariants as F
 use Rattle.otio_model.specs.declared.editing.FillMode.{FillMode}
 use Rattle.otio_model.specs.declared.editing.RemoveMode.{RemoveMode}
 use Rattle.otio_model.specs.declared.editing.RemoveMode.TheVariants as R
-use Rattle.cuts.specs.Children.{Child, Old, all_made, child_ticks, ticks}
-use Rattle.cuts.specs.Cuts.{olds, put_between, strip}
-use Rattle.depths.specs.Editable.{IsEditItem}
+use Rattle.edits.specs.Children.{Child, Old, all_made, child_ticks, ticks}
+use Rattle.edits.specs.Cuts.{olds, put_between, strip}
+use Rattle.edits_law.specs.Editable.{IsEditItem}
 use Rattle.edits.specs.After.{frame_of, list_of, rate_of}
 use Rattle.edits.specs.Edges.{Held, Zone, held_at, end, is_zero, item_zone, start}
 use Rattle.edits.specs.Edits.{at_held, edited, filled, filling, removed}

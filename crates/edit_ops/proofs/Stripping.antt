@@ -6,9 +6,9 @@ use Rattle.otio_model.specs.declared.compositions.ItemOf.{ItemOf}
 use Rattle.otio_model.specs.declared.compositions.ItemOf.TheVariants.{Clip, Gap, Transition, Stack, Track}
 use Rattle.otio_model.specs.declared.compositions.Listed.{Listed}
 use Rattle.coord.specs.Sights.{overlap_of}
-use Rattle.cuts.specs.Splices.{is_stripped}
-use Rattle.cuts.specs.Children.{ticks}
-use Rattle.cuts.specs.Cuts.{cuts_whole, is_whole_at, strip}
+use Rattle.edits.specs.Splices.{is_stripped}
+use Rattle.edits.specs.Children.{ticks}
+use Rattle.edits.specs.Cuts.{cuts_whole, is_whole_at, strip}
 use Rattle.edits.specs.Refusals.{cuts_ends}
 
 start_whole : (l : List (ItemOf Listed)) (t : ℤ) → int_lt (pos 0) t ≡ false → cuts_whole l t ≡ true

@@ -11,7 +11,7 @@ use Rattle.otio_model.specs.declared.editing.EditFault.{EditFault}
 use Rattle.otio_model.specs.declared.editing.EditFault.TheVariants as F
 use Rattle.otio_model.specs.declared.editing.FillMode.{FillMode}
 use Rattle.otio_model.specs.declared.editing.FillMode.TheVariants as M
-use Rattle.cuts.specs.Children.{ticks, child_ticks}
+use Rattle.edits.specs.Children.{ticks, child_ticks}
 use Rattle.edits.specs.After.{at_of, frame_of, list_of, place_of}
 use Rattle.edits.specs.Edges.{Held, held_at, is_gap, is_zero, start}
 use Rattle.edits.specs.Edits.{filling}

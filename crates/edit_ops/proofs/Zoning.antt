@@ -11,8 +11,8 @@ use Rattle.otio_model.specs.declared.editing.Edit.{Edit}
 use Rattle.otio_model.specs.declared.editing.EditFault.{EditFault}
 use Rattle.otio_model.specs.declared.editing.EditFault.TheVariants as F
 use Rattle.otio_model.specs.Edits.{replaced}
-use Rattle.cuts.specs.Children.{Child, all_made, has_far}
-use Rattle.cuts.specs.Cuts.{put_between, strip}
+use Rattle.edits.specs.Children.{Child, all_made, has_far}
+use Rattle.edits.specs.Cuts.{put_between, strip}
 use Rattle.edits.specs.After.{frame_of, list_of, place_of, rate_of}
 use Rattle.edits.specs.Edges.{added, is_zero}
 use Rattle.edits.specs.Edits.{edited}

@@ -5,7 +5,7 @@ use Rattle.tick_time.specs.declared.rates.Rate.{Rate}
 use Rattle.otio_model.specs.declared.compositions.ItemOf.{ItemOf}
 use Rattle.otio_model.specs.declared.compositions.Listed.{Listed}
 use Rattle.otio_model.specs.declared.timelines.Timeline.{Timeline}
-use Rattle.cuts.specs.Children.{ticks}
+use Rattle.edits.specs.Children.{ticks}
 use Rattle.edits.specs.After.{frame_of, rate_of}
 use Rattle.edits.specs.Edges.{Held, held_at, is_gap, start}
 use Rattle.edits.specs.Refusals.{place_fault}

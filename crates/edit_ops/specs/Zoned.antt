@@ -10,9 +10,9 @@ use Rattle.otio_model.specs.declared.editing.EditFault.TheVariants as F
 use Rattle.otio_model.specs.declared.editing.RemoveMode.{RemoveMode}
 use Rattle.otio_model.specs.declared.editing.RemoveMode.TheVariants as R
 use Rattle.otio_model.specs.declared.editing.FillMode.{FillMode}
-use Rattle.cuts.specs.Children.{Child, all_made, new_gap}
-use Rattle.cuts.specs.Cuts.{put_between, strip}
-use Rattle.depths.specs.Editable.{HasEditItem}
+use Rattle.edits.specs.Children.{Child, all_made, new_gap}
+use Rattle.edits.specs.Cuts.{put_between, strip}
+use Rattle.edits_law.specs.Editable.{HasEditItem}
 use Rattle.edits.specs.After.{frame_of, list_of, place_of, rate_of}
 use Rattle.edits.specs.Edges.{is_zero}
 use Rattle.edits.specs.Edits.{edited}

@@ -4,7 +4,7 @@ ghost use Rattle.std.specs.Prelude.{◌≡◌, ◌≢◌, ◌<◌, ◌^◌, IfEr
 ghost use Rattle.otio_model.specs.Counts.{count};
 ghost use Rattle.otio_model.specs.Patches.{applied};
 ghost use Rattle.coord.specs.Soundness.{IsSound};
-ghost use Rattle.depths.specs.Editable.{HasEditItem};
+ghost use Rattle.edits_law.specs.Editable.{HasEditItem};
 ghost use Rattle.edits.specs.Refusals.{IsRefused};
 ghost use Rattle.edit_plans.specs.Planned.{is_list_edit, IsPlan, ShowsThrough};
 

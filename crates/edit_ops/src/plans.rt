@@ -4,7 +4,7 @@ ghost use Rattle.std.specs.Prelude.{◌≡◌, ◌≢◌, ◌<◌, ◌^◌, ℤ,
 ghost use Rattle.otio_model.specs.declared.editing.EditFault.TheVariants.{Memory};
 ghost use Rattle.otio_model.specs.Counts.{count};
 ghost use Rattle.coord.specs.Soundness.{IsSound};
-ghost use Rattle.depths.specs.Editable.{IsEditItem};
+ghost use Rattle.edits_law.specs.Editable.{IsEditItem};
 ghost use Rattle.edits.specs.After.{list_of};
 ghost use Rattle.edits.specs.Refusals.{IsRefused};
 ghost use Rattle.edit_ops.specs.Begun.{IsBegun, IsHolding};

@@ -4,9 +4,9 @@ ghost use Rattle.std.specs.Prelude.{◌≡◌, ◌≢◌, ◌<◌, ◌^◌, ◌�
 ghost use Rattle.std.specs.Prelude.{[], ◌∷◌, length, IfErr, IfOk, Some};
 ghost use Rattle.limits.specs.Limits.{most_ticks};
 ghost use Rattle.otio_model.specs.declared.editing.EditFault.TheVariants.{Memory};
-ghost use Rattle.cuts.specs.Children as children;
-ghost use Rattle.cuts.specs.Children.{all_made};
-ghost use Rattle.depths.specs.Editable.{IsEditItem};
+ghost use Rattle.edits.specs.Children as children;
+ghost use Rattle.edits.specs.Children.{all_made};
+ghost use Rattle.edits_law.specs.Editable.{IsEditItem};
 ghost use Rattle.edits.specs.Edges as edges;
 ghost use Rattle.edits.specs.Edits as edits;
 ghost use Rattle.edits.specs.Refusals.{cuts_filling};

@@ -17,8 +17,8 @@ use Rattle.otio_model.specs.Trees.{items_of}
 use Rattle.otio_model.specs.declared.seeks.Seat.{Seat}
 use Rattle.otio_model.proofs.KeptLemmas.{taken_all}
 use Rattle.coord.specs.Sights.{overlap_of}
-use Rattle.cuts.specs.Children.{ticks}
-use Rattle.cuts.specs.Splices.{is_stripped}
+use Rattle.edits.specs.Children.{ticks}
+use Rattle.edits.specs.Splices.{is_stripped}
 use Rattle.edits.specs.Edges.{added}
 use Rattle.edits.specs.Narrow.{is_met, any_met, ahead}
 use Rattle.edits_law.proofs.Parted.{added_low}

@@ -14,13 +14,13 @@ use Rattle.otio_model.specs.declared.editing.RemoveMode.{RemoveMode}
 use Rattle.otio_model.specs.declared.editing.RemoveMode.TheVariants as R
 use Rattle.otio_model.specs.Trees.{is_transition}
 use Rattle.coord.specs.Sights.{overlap_of}
-use Rattle.cuts.specs.Splices.{is_stripped}
-use Rattle.cuts.specs.Children.{Child, Old, Ranged, ticks, with_range, plain_gap, made, with_first}
-use Rattle.cuts.specs.Children.{all_made, start_rate, length_rate, is_far, has_far}
-use Rattle.cuts.specs.Finest.{in_range}
-use Rattle.cuts.specs.Nears.{near, near_by, is_whole, span_of}
+use Rattle.edits.specs.Splices.{is_stripped}
+use Rattle.edits.specs.Children.{Child, Old, Ranged, ticks, with_range, plain_gap, made, with_first}
+use Rattle.edits.specs.Children.{all_made, start_rate, length_rate, is_far, has_far}
+use Rattle.edits.specs.Finest.{in_range}
+use Rattle.edits.specs.Nears.{near, near_by, is_whole, span_of}
 use Rattle.tick_time.specs.declared.times.Time.{Time}
-use Rattle.cuts.specs.Cuts.{strip, olds, front, back, put_between}
+use Rattle.edits.specs.Cuts.{strip, olds, front, back, put_between}
 use Rattle.edits.specs.Edges.{Held, held_at, first_changed, last_changed, last_item, first_item}
 use Rattle.edits.specs.Edges.{moved, slipped_item, grown, gap_of, is_zero, is_gap, is_gap_at}
 use Rattle.edits.specs.Edges.{trimmed_before, trimmed_behind, left_before, left_behind, moves_zone}
@@ -30,8 +30,8 @@ use Rattle.edits.specs.Edits.{edited, at_held, beside, filling, in_ticks, in_pla
 use Rattle.tick_time.specs.declared.rates.Rate.{Rate}
 use Rattle.tick_time.specs.declared.spans.Span.{Span}
 use Rattle.otio_model.specs.declared.warps.Effect.{Effect}
-use Rattle.cuts_law.proofs.Splice.{cases}
-use Rattle.cuts_law.proofs.Sorts.{point, thing, sort}
+use Rattle.edits_law.proofs.Splice.{cases}
+use Rattle.edits_law.proofs.Sorts.{point, thing, sort}
 use Rattle.edits_law.proofs.Accepted.{found}
 
 -- what holds of an item holds of it with another range or one effect more, and of a new gap

@@ -29,21 +29,21 @@ use Rattle.otio_model.proofs.Views.{items-listed}
 use Rattle.coord.specs.declared.faults.ItemFault.{ItemFault}
 use Rattle.coord.specs.declared.faults.ItemFault.TheVariants.{NoLength, Speed, Long}
 use Rattle.coord.specs.Soundness.{IsSound, fault_of}
-use Rattle.cuts.specs.Children.{all_made, has_far, with_range}
-use Rattle.depths.specs.Editable.{HasEditItem, IsEditItem}
+use Rattle.edits.specs.Children.{all_made, has_far, with_range}
+use Rattle.edits_law.specs.Editable.{HasEditItem, IsEditItem}
 use Rattle.edits.specs.After.{after, frame_of, list_of, place_of, rate_of, with_items}
 use Rattle.edits.specs.Edits.{edited, with_effect}
 use Rattle.edits.specs.Everywhere.{Everywhere}
 use Rattle.edits.specs.Refusals.{HasMany, IsAfter, IsTooLong, early_fault}
 use Rattle.edits.specs.Refusals.{first_fault, place_fault}
 use Rattle.edits_law.proofs.Anywhere.{everywhere}
-use Rattle.edits_sound.proofs.SoundEdits.{stays_sound}
+use Rattle.edits_law.proofs.SoundEdits.{stays_sound}
 use Rattle.edit_plans.specs.Amounts.{AreFew, ticks_in}
 use Rattle.edit_plans.specs.Planned.{IsMiddle, IsPlan}
 use Rattle.edit_plans.specs.Ways.{has_long, is_long_fault, is_way_long}
 use Rattle.edit_plans.proofs.EachMade.{All, Keeps, OfItem, each_made, list_near}
 use Rattle.edit_plans.proofs.TrackLemmas.{OnTrack, child_at, list_is, list_sound, on_track}
-use Rattle.depths.proofs.Premises.{fine_length}
+use Rattle.edits_law.proofs.Premises.{fine_length}
 use Rattle.edit_plans.proofs.WayMeaning.{LongIn, NotLong, Tested, all_known, tested}
 
 -- ---- what each item of the edited list is

@@ -9,8 +9,8 @@ use Rattle.tick_time.specs.declared.rates.Rate.{Rate}
 use Rattle.otio_model.specs.declared.editing.FillMode.{FillMode}
 use Rattle.otio_model.specs.declared.editing.FillMode.TheVariants as M
 use Rattle.otio_model.specs.Lengths.{trimmed_start}
-use Rattle.cuts.specs.Children.{Ranged, child_ticks, is_far, made, ticks}
-use Rattle.cuts.specs.Cuts.{is_whole_at}
+use Rattle.edits.specs.Children.{Ranged, child_ticks, is_far, made, ticks}
+use Rattle.edits.specs.Cuts.{is_whole_at}
 use Rattle.edits.specs.Edits.{filling, fitted}
 use Rattle.edits.specs.Refusals.{is_wrong_fit}
 use Rattle.pieces.proofs.Tests.{lt_no, lt_yes}

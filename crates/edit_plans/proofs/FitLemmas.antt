@@ -14,8 +14,8 @@ use Rattle.coord.specs.declared.faults.ItemFault.{ItemFault}
 use Rattle.coord.specs.declared.faults.ItemFault.TheVariants.{NoLength, Speed, Long}
 use Rattle.coord.specs.Soundness.{is_long}
 use Rattle.coord.proofs.SpeedProducts.{kept_is}
-use Rattle.depths.specs.Editable.{IsEditItem}
-use Rattle.cuts.specs.Children.{ticks}
+use Rattle.edits_law.specs.Editable.{IsEditItem}
+use Rattle.edits.specs.Children.{ticks}
 use Rattle.edits.specs.Edges.{is_zero}
 use Rattle.edits.specs.Edits.{fit_speed, fitted, warp, with_effect}
 use Rattle.edits.specs.Refusals.{is_wrong_fit}

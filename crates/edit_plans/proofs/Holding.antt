@@ -16,8 +16,8 @@ use Rattle.otio_model.specs.Seeks.{lens, total}
 use Rattle.otio_model.specs.Trees.{items_of}
 use Rattle.otio_model.proofs.SeekLemmas.{start-total, all-total}
 use Rattle.coord.specs.Speeds.{speed_of}
-use Rattle.cuts.specs.Children.{ticks}
-use Rattle.cuts.specs.Cuts.{cuts_whole, is_whole_at}
+use Rattle.edits.specs.Children.{ticks}
+use Rattle.edits.specs.Cuts.{cuts_whole, is_whole_at}
 use Rattle.edits.specs.Edges.{added, Held, held_at, held_behind, start, end}
 use Rattle.edits_law.proofs.Parted.{added_low}
 use Rattle.pieces.proofs.Grown.{ticks_are}

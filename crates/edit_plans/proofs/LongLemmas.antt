@@ -5,8 +5,8 @@ use Rattle.std.specs.Int.{int_max}
 use Rattle.std.proofs.lemmas.Int.{ints, by_lt_z}
 use Rattle.otio_model.specs.declared.compositions.ItemOf.{ItemOf}
 use Rattle.otio_model.specs.declared.compositions.Listed.{Listed}
-use Rattle.cuts.specs.Children.{Child, ticks, child_ticks}
-use Rattle.cuts.specs.Cuts.{back, front, olds, put_between, strip}
+use Rattle.edits.specs.Children.{Child, ticks, child_ticks}
+use Rattle.edits.specs.Cuts.{back, front, olds, put_between, strip}
 use Rattle.edits.specs.Edges.{added}
 use Rattle.edits.specs.Refusals.{long}
 use Rattle.edits_law.proofs.Parted.{added_low, added_strip}

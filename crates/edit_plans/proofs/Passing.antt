@@ -8,7 +8,7 @@ use Rattle.std.proofs.lemmas.Int.{ints}
 use Rattle.otio_model.specs.declared.compositions.ItemOf.{ItemOf}
 use Rattle.otio_model.specs.declared.compositions.Listed.{Listed}
 use Rattle.otio_model.specs.Kept.{reach_in}
-use Rattle.cuts.specs.Children.{ticks}
+use Rattle.edits.specs.Children.{ticks}
 use Rattle.edits.specs.Narrow.{is_met, any_met, ahead, onward, up_to_met, touched}
 use Rattle.edits.specs.Edges.{added}
 use Rattle.edits_law.proofs.Parted.{added_low}

@@ -17,7 +17,7 @@ use Rattle.coord.specs.Soundness.{IsFaultlessItem}
 use Rattle.coord.proofs.JudgingLemmas.{children_sound, sound_child}
 use Rattle.coord.proofs.Members.{next}
 use Rattle.coord.proofs.SightLemmas.{length_seen}
-use Rattle.depths.specs.Down.{down_from, down_in, inner, where_so}
+use Rattle.edits_law.specs.Down.{down_from, down_in, inner, where_so}
 use Rattle.edit_plans.specs.Way.{child_of, is_open, reached_in}
 
 abbrev through : List ℕ → ℕ → List ℕ → ItemOf Listed → ℤ → Option ℤ

@@ -22,8 +22,8 @@ use Rattle.coord.specs.Looks.{total}
 use Rattle.coord.specs.Sights.{View, looks}
 use Rattle.coord.proofs.Members.{none_left}
 use Rattle.coord.proofs.LookSteps.{is_within, missed_before, missed_behind}
-use Rattle.depths.specs.Down.{is_here, is_next, is_side, is_holder, where_so}
-use Rattle.depths.specs.Down.{reached, reached_above}
+use Rattle.edits_law.specs.Down.{is_here, is_next, is_side, is_holder, where_so}
+use Rattle.edits_law.specs.Down.{reached, reached_above}
 use Rattle.edit_plans.specs.Way.{further, is_last, is_index, IsBefore, IsBehind, IsNear}
 use Rattle.edit_plans.proofs.Sides.{ticks, here_is, last_more, next_less, holds_at, holds_is}
 use Rattle.edit_plans.proofs.Sides.{side_found, side_none, holder_is, total_taken, total_all}

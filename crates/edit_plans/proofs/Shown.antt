@@ -3,9 +3,9 @@ use Rattle.otio_model.specs.declared.timelines.Timeline.{Timeline}
 use Rattle.otio_model.specs.declared.editing.Edit.{Edit}
 use Rattle.coord.specs.Soundness.{IsSound}
 use Rattle.edits.specs.Refusals.{IsAfter}
-use Rattle.depths.specs.Editable.{HasEditItem}
-use Rattle.depths.proofs.AnyDepth.{all_agree, steady_equal}
-use Rattle.depths.proofs.Kept.{edit_unreached, edit_others}
+use Rattle.edits_law.specs.Editable.{HasEditItem}
+use Rattle.edits_law.proofs.AnyDepth.{all_agree, steady_equal}
+use Rattle.edits_law.proofs.Kept.{edit_unreached, edit_others}
 use Rattle.edit_plans.specs.Planned.{ShowsThrough}
 
 pub shows_through : (t : Timeline) (e : Edit) (new : Timeline) → IsSound t → HasEditItem e

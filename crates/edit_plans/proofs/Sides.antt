@@ -17,7 +17,7 @@ use Rattle.coord.specs.Sights.{View, sight, seen, looks}
 use Rattle.coord.proofs.Members.{next}
 use Rattle.coord.proofs.SightLemmas.{look_length}
 use Rattle.coord.proofs.LookSteps.{is_within, missed_behind}
-use Rattle.depths.specs.Down.{passed, is_here, is_next, is_side, is_holder, is_above}
+use Rattle.edits_law.specs.Down.{passed, is_here, is_next, is_side, is_holder, is_above}
 use Rattle.edit_plans.specs.Way.{further, is_last}
 
 abbrev pub ticks : ItemOf Listed → ℕ

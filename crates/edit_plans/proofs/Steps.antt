@@ -3,7 +3,7 @@ use Rattle.std.proofs.Common.{◌≡◌, refl, sym, ap, ap₂, ◌∙◌, ℤ, p
 use Rattle.std.specs.Prelude.{option_map}
 use Rattle.otio_model.specs.declared.compositions.ItemOf.{ItemOf}
 use Rattle.otio_model.specs.declared.compositions.Listed.{Listed}
-use Rattle.cuts.specs.Children.{ticks}
+use Rattle.edits.specs.Children.{ticks}
 use Rattle.edits.specs.Edges.{Held, Moves, Room, clamped, first_item, gap_ticks, head_room, is_zero}
 use Rattle.edits.specs.Edges.{last_item, lesser, media_room, room_in, ripple_by, roll_head}
 use Rattle.edits.specs.Edges.{roll_tail, slip_by, tail_room, trim_by, whole_frames, whole_limit}

@@ -21,7 +21,7 @@ use Rattle.coord.specs.Soundness.{IsSound}
 use Rattle.edits.specs.After.{list_of, place_of}
 use Rattle.edits.specs.Refusals.{is_track, place_fault}
 use Rattle.edits_law.proofs.Anywhere.{count_at}
-use Rattle.depths.proofs.Premises.{step}
+use Rattle.edits_law.proofs.Premises.{step}
 use Rattle.pieces.specs.Short.{AreCuttable}
 
 -- a place without a fault leads to a track

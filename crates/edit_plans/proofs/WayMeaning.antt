@@ -29,7 +29,7 @@ use Rattle.coord.specs.Soundness.{AreFaultless, IsFaultlessItem, fault_of, is_lo
 use Rattle.coord.specs.Soundness.{media_end, most_end, ranged_fault}
 use Rattle.coord.specs.Speeds.{effects_of}
 use Rattle.edits.specs.Everywhere.{OnTheWay}
-use Rattle.depths.proofs.Premises.{fine_length}
+use Rattle.edits_law.proofs.Premises.{fine_length}
 use Rattle.edit_plans.specs.Ways.{available_with, is_long_with, is_way_long, short_ticks}
 use Rattle.edit_plans.specs.Ways.{ticks_with, way_ticks, with_ticks}
 use Rattle.edit_plans.proofs.WayLemmas.{lengths_map}

@@ -10,13 +10,13 @@ use Rattle.otio_model.specs.declared.compositions.ItemOf.{ItemOf}
 use Rattle.otio_model.specs.declared.compositions.Listed.{Listed}
 use Rattle.otio_model.specs.Edits.{replaced}
 use Rattle.coord.specs.Sights.{overlap_of}
-use Rattle.cuts.specs.Splices.{is_stripped}
-use Rattle.cuts.specs.Children.{Child, ticks, made, all_made, with_first}
-use Rattle.cuts.specs.Cuts.{front, back, strip, olds, put_between}
+use Rattle.edits.specs.Splices.{is_stripped}
+use Rattle.edits.specs.Children.{Child, ticks, made, all_made, with_first}
+use Rattle.edits.specs.Cuts.{front, back, strip, olds, put_between}
 use Rattle.edits.specs.Edges.{added}
 use Rattle.edits.specs.Narrow.{ahead, touched, beyond}
-use Rattle.cuts.specs.Children.{has_far}
-use Rattle.cuts.specs.Children.{is_far}
+use Rattle.edits.specs.Children.{has_far}
+use Rattle.edits.specs.Children.{is_far}
 use Rattle.edits_law.proofs.Parted.{narrow_between, made_narrow, replaced_middle, between_few}
 use Rattle.edits_law.proofs.Touched.{apart, in_parts, ahead_early}
 use Rattle.pieces.specs.Short.{AreCuttable, IsCuttable, AreShort}

@@ -7,7 +7,7 @@ use Rattle.otio_model.specs.declared.editing.FillMode.{FillMode}
 use Rattle.otio_model.specs.declared.editing.FillMode.TheVariants as M
 use Rattle.otio_model.specs.Speeds.{kept_speed}
 use Rattle.coord.specs.Speeds.{effects_of}
-use Rattle.cuts.specs.Children.{made}
+use Rattle.edits.specs.Children.{made}
 use Rattle.edits.specs.Edges.{is_zero}
 use Rattle.edits.specs.Edits.{filling}
 use Rattle.edits.specs.Refusals.{cuts_filling, is_wrong_fit}

@@ -12,16 +12,16 @@ use Rattle.otio_model.specs.Patches.{IsFit, applied}
 use Rattle.coord.specs.Agreement.{Agree}
 use Rattle.coord.specs.Programs.{at}
 use Rattle.coord.specs.Soundness.{IsSound}
-use Rattle.cuts.specs.Children.{all_made}
+use Rattle.edits.specs.Children.{all_made}
 use Rattle.edits.specs.After.{frame_of, list_of, place_of, rate_of}
 use Rattle.edits.specs.Edits.{edited}
 use Rattle.edits.specs.Refusals.{IsAfter, early_fault}
 use Rattle.edits.specs.Steady.{are_steady}
 use Rattle.edits.specs.Zones.{touches}
-use Rattle.depths.specs.Down.{down}
-use Rattle.depths.specs.Editable.{HasEditItem}
-use Rattle.depths.specs.Kept.{KeepsLength}
-use Rattle.depths.specs.Through.{through}
+use Rattle.edits_law.specs.Down.{down}
+use Rattle.edits_law.specs.Editable.{HasEditItem}
+use Rattle.edits_law.specs.Kept.{KeepsLength}
+use Rattle.edits_law.specs.Through.{through}
 
 -- the five edits of lists, and not those of edges
 abbrev pub is_list_edit : Edit → Bool

@@ -11,7 +11,7 @@ use Rattle.otio_model.specs.declared.compositions.Listed.{Listed}
 use Rattle.otio_model.specs.Lengths.{start_of}
 use Rattle.otio_model.specs.Trees.{children_of, is_transition, items_of}
 use Rattle.coord.specs.Sights.{View, looks}
-use Rattle.depths.specs.Down.{passed, is_here, is_next, reached, reached_above}
+use Rattle.edits_law.specs.Down.{passed, is_here, is_next, reached, reached_above}
 
 -- whether the item's children are seen where tracks of the kind are
 abbrev pub is_open : List ℕ → ItemOf Listed → Bool

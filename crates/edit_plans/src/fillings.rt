@@ -3,9 +3,9 @@
 ghost use Rattle.std.specs.Prelude.{◌≡◌, ◌==◌, true, false, pos, ◌≤ℤ◌, ◌<ℤ◌, ◌-ℤ◌};
 ghost use Rattle.std.specs.Prelude.{IfErr, IfOk, Some};
 ghost use Rattle.limits.specs.Limits.{most_ticks};
-ghost use Rattle.cuts.specs.Children as children;
-ghost use Rattle.cuts.specs.Cuts as cuts;
-ghost use Rattle.depths.specs.Editable.{IsEditItem};
+ghost use Rattle.edits.specs.Children as children;
+ghost use Rattle.edits.specs.Cuts as cuts;
+ghost use Rattle.edits_law.specs.Editable.{IsEditItem};
 ghost use Rattle.edits.specs.Edits as edits;
 ghost use Rattle.edits.specs.Refusals.{is_wrong_fit};
 ghost use Rattle.pieces.specs.Short.{IsShort};
@@ -24,7 +24,7 @@ use tick_time::Rate;
 const MOST_SPEED: u128 = 1_000_000_000;
 
 /// Why an item doesn't fill a gap.
-#[derive(Clone, Copy, Debug, PartialEq, Eq)]
+#[derive(Clone, Copy, PartialEq, Eq)]
 pub enum FillFault {
     /// Its speed would be 0 or pass 1000 times, or that of the change of speed would.
     Speed,

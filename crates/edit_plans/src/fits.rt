@@ -4,7 +4,7 @@ ghost use Rattle.std.specs.Prelude.{◌≡◌, ◌≤◌, ◌<◌, ◌*◌, ℤ,
 ghost use Rattle.limits.specs.Limits.{most_ticks};
 ghost use Rattle.tick_time.specs.Times.{IsSpeed};
 ghost use Rattle.coord.specs.Speeds as speeds;
-ghost use Rattle.depths.specs.Editable.{IsEditItem};
+ghost use Rattle.edits_law.specs.Editable.{IsEditItem};
 ghost use Rattle.edits.specs.Edits as edits;
 
 use coord::item_speed;

@@ -5,7 +5,7 @@ ghost use Rattle.otio_model.specs.Counts.{count, count_of};
 ghost use Rattle.coord.specs.Programs as programs;
 ghost use Rattle.coord.specs.Sights.{exact};
 ghost use Rattle.coord.specs.Soundness.{IsFaultless, IsFaultlessItem};
-ghost use Rattle.depths.specs.Down as depths;
+ghost use Rattle.edits_law.specs.Down as depths;
 ghost use Rattle.edit_plans.specs.Way.{IsNear};
 
 use crate::items::{child_of, in_child, inner, is_open};

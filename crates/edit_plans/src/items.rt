@@ -11,7 +11,7 @@ ghost use Rattle.otio_model.specs.Lengths as ranges;
 ghost use Rattle.coord.specs.Sights.{View};
 ghost use Rattle.coord.specs.Soundness.{IsFaultlessItem, fault_of};
 ghost use Rattle.coord.specs.Speeds.{speed_of};
-ghost use Rattle.depths.specs.Down as down;
+ghost use Rattle.edits_law.specs.Down as down;
 ghost use Rattle.edit_plans.specs.Way as way;
 ghost use Rattle.edit_plans.specs.Way.{IsNear};
 

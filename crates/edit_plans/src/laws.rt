@@ -3,7 +3,7 @@
 ghost use Rattle.otio_model.specs.declared.editing.Edit.{Edit};
 ghost use Rattle.otio_model.specs.declared.timelines.Timeline.{Timeline};
 ghost use Rattle.coord.specs.Soundness.{IsSound};
-ghost use Rattle.depths.specs.Editable.{HasEditItem};
+ghost use Rattle.edits_law.specs.Editable.{HasEditItem};
 ghost use Rattle.edits.specs.Refusals.{IsAfter};
 ghost use Rattle.edit_plans.specs.Planned.{ShowsThrough};
 

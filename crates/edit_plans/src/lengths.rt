@@ -4,8 +4,8 @@ ghost use Rattle.std.specs.Prelude.{◌≡◌, ◌++◌, ℤ, List, pos, ◌+ℤ
 ghost use Rattle.std.specs.Int.{int_max};
 ghost use Rattle.otio_model.specs.declared.compositions.ItemOf.{ItemOf};
 ghost use Rattle.otio_model.specs.declared.compositions.Listed.{Listed};
-ghost use Rattle.cuts.specs.Children.{Child};
-ghost use Rattle.cuts.specs.Cuts.{back, front, olds, put_between, strip};
+ghost use Rattle.edits.specs.Children.{Child};
+ghost use Rattle.edits.specs.Cuts.{back, front, olds, put_between, strip};
 ghost use Rattle.edits.specs.Edges.{added};
 ghost use Rattle.edits.specs.Refusals.{long};
 

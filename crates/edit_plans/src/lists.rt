@@ -10,7 +10,7 @@ ghost use Rattle.otio_model.specs.Trees as trees;
 ghost use Rattle.otio_model.specs.Trees.{items_of};
 ghost use Rattle.coord.specs.Sights.{View, looks};
 ghost use Rattle.coord.specs.Soundness.{AreFaultless, fault_of};
-ghost use Rattle.depths.specs.Down.{reached, reached_above};
+ghost use Rattle.edits_law.specs.Down.{reached, reached_above};
 ghost use Rattle.edit_plans.specs.Way as way;
 ghost use Rattle.edit_plans.specs.Way.{AreShort, IsBefore, IsBehind, IsNear};
 

@@ -5,8 +5,8 @@ ghost use Rattle.std.specs.Prelude.{List, length, take, drop, pos, ◌≤ℤ◌,
 ghost use Rattle.otio_model.specs.Counts.{count};
 ghost use Rattle.otio_model.specs.Edits.{replaced};
 ghost use Rattle.otio_model.specs.Trees.{items_of};
-ghost use Rattle.cuts.specs.Children.{Child, all_made, has_far};
-ghost use Rattle.cuts.specs.Cuts as cuts;
+ghost use Rattle.edits.specs.Children.{Child, all_made, has_far};
+ghost use Rattle.edits.specs.Cuts as cuts;
 ghost use Rattle.edits.specs.Narrow as narrow;
 ghost use Rattle.pieces.specs.Short.{AreCuttable};
 
@@ -17,7 +17,7 @@ use std::alloc::{AllocError, Global};
 use tick_time::Rate;
 
 /// Children that go, by the index of the first and their number, and what comes in their place.
-#[derive(Debug, Drop)]
+#[derive(Drop)]
 pub struct Middle {
     /// The index of the first that goes.
     pub at: usize,

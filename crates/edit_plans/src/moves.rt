@@ -3,7 +3,7 @@
 ghost use Rattle.limits.specs.Limits.{most_ticks};
 ghost use Rattle.std.specs.Prelude.{◌≡◌, IfSome, None, Some, option_copied, option_map, pos, ◌≤ℤ◌};
 ghost use Rattle.std.specs.Prelude.{◌-ℤ◌};
-ghost use Rattle.cuts.specs.Children.{ticks};
+ghost use Rattle.edits.specs.Children.{ticks};
 ghost use Rattle.edits.specs.Edges as edges;
 ghost use Rattle.edits.specs.Edges.{Held, first_item, last_item};
 ghost use Rattle.pieces.specs.Short.{IsCuttable};
@@ -16,7 +16,7 @@ use otio_model::{Item, ItemOf};
 use pieces::sound_ticks;
 
 /// How far the head and the tail of an item move, in ticks; a positive number is later.
-#[derive(Clone, Copy, Debug, PartialEq, Eq)]
+#[derive(Clone, Copy, PartialEq, Eq)]
 pub struct Moves {
     /// How far the head moves, in ticks.
     pub head: i128,

@@ -3,7 +3,7 @@
 ghost use Rattle.std.specs.Prelude.{◌≡◌, ◌<◌, ◌^◌, pos, ◌≤ℤ◌};
 ghost use Rattle.otio_model.specs.Counts.{count};
 ghost use Rattle.otio_model.specs.Trees.{items_of};
-ghost use Rattle.cuts.specs.Cuts as cuts;
+ghost use Rattle.edits.specs.Cuts as cuts;
 ghost use Rattle.pieces.specs.Short.{AreCuttable};
 
 use crate::seeking::{child, held};

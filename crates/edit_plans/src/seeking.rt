@@ -26,7 +26,7 @@ pub fn child(children: &Children, index: usize) -> &Item
 }
 
 /// The first children of a list.
-#[derive(Clone, Copy, Debug, PartialEq, Eq)]
+#[derive(Clone, Copy, PartialEq, Eq)]
 pub struct Passed {
     /// How many there are.
     pub count: usize,

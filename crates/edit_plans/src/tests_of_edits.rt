@@ -1,7 +1,7 @@
 //! Tests of edits.
 
 ghost use Rattle.std.specs.Prelude.{◌≡◌};
-ghost use Rattle.cuts.specs.Children as children;
+ghost use Rattle.edits.specs.Children as children;
 ghost use Rattle.edits.specs.Edges as edges;
 ghost use Rattle.edits.specs.Refusals as refusals;
 ghost use Rattle.pieces.specs.Short.{IsShort};

@@ -11,7 +11,7 @@ use Rattle.limits.specs.Limits.{most_items}
 use Rattle.otio_model.specs.Counts.{count}
 use Rattle.otio_model.specs.Patches.{applied, target, with_list}
 use Rattle.otio_model.specs.Timelines.{bare}
-use Rattle.cuts.specs.Children.{all_made}
+use Rattle.edits.specs.Children.{all_made}
 use Rattle.edits.specs.Edits.{edited}
 use Rattle.edits.specs.After.{after, at_of, frame_of, list_of, place_of, rate_of, with_items}
 use Rattle.otio_model.specs.declared.editing.EditFault.TheVariants as F

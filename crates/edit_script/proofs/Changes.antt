@@ -18,8 +18,8 @@ use Rattle.undo_log.specs.Histories.{History, unspared}
 use Rattle.undo_log.specs.States.{AreFit, CrossesOver, IsKept, State, back, committed, forth, moved, run, state_of, turned, turned_some}
 use Rattle.undo_log.proofs.Moves.{fit_bare, kept_on, state_on}
 use Rattle.edit_plans.specs.Planned.{IsPlan}
-use Rattle.script_text.specs.declared.commands.Act.{Act}
-use Rattle.script_text.specs.declared.commands.Act.TheVariants as A
+use Rattle.edit_script.specs.declared.commands.Act.{Act}
+use Rattle.edit_script.specs.declared.commands.Act.TheVariants as A
 use Rattle.media_rows.specs.Rows.{MediaRows}
 use Rattle.edit_script.specs.Keeping.{AreEditable, AreRedoing, AreUndoing, HoldsEdits, IsEditable, IsEditableState, IsNarrow}
 use Rattle.edit_script.specs.Plans.{IsPlanOf}

@@ -5,7 +5,7 @@ use Rattle.std.proofs.lemmas.Option.{slice_get-get_or}
 use Rattle.otio_model.specs.declared.timelines.Timeline.{Timeline}
 use Rattle.undo_log.specs.Histories.{History}
 use Rattle.undo_log.specs.States.{state_of}
-use Rattle.script_text.specs.declared.commands.Command.{Command}
+use Rattle.edit_script.specs.declared.commands.Command.{Command}
 use Rattle.edit_script.specs.declared.faults.CommandFault.{CommandFault}
 use Rattle.media_rows.specs.Rows.{MediaRows}
 use Rattle.edit_script.specs.Runs.{Halts, IsHalted, Runs, Takes}

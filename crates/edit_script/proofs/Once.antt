@@ -1,253 +1,113 @@
--- A command has one result at most, or one fault, and never both.
-use Rattle.std.proofs.Common.{◌≡◌, sym, ap, subst, ◌∙◌, ℕ, ℤ, Bool, true, false, List, Option, Some, None}
-use Rattle.tick_time.specs.declared.rates.Rate.{Rate}
-use Rattle.tick_time.specs.declared.spans.Span.{Span}
-use Rattle.tick_time.specs.declared.times.Time.{Time}
-use Rattle.tick_time.proofs.SameValues.{same_time}
-use Rattle.pieces.proofs.SameTimes.{same_span}
-use Rattle.media_rows.specs.declared.row.MediaRow.{MediaRow}
-use Rattle.otio_model.specs.declared.compositions.ItemOf.{ItemOf}
-use Rattle.otio_model.specs.declared.compositions.Listed.{Listed}
-use Rattle.otio_model.specs.declared.editing.Edit.{Edit}
-use Rattle.otio_model.specs.declared.editing.EditFault.{EditFault}
-use Rattle.otio_model.specs.declared.timelines.Timeline.{Timeline}
-use Rattle.undo_log.specs.States.{State, back, forth}
-use Rattle.edits.specs.After.{after, rate_of}
-use Rattle.edits.specs.Refusals.{IsAfter, IsRefused, early_fault, at_once, too_long, too_many}
-use Rattle.undo_log.specs.declared.faults.UndoFault.TheVariants.{NothingDone, NothingUndone}
-use Rattle.script_text.specs.declared.commands.Act.{Act}
-use Rattle.script_text.specs.declared.commands.Act.TheVariants as A
-use Rattle.script_text.specs.declared.commands.Command.{Command}
-use Rattle.script_text.specs.declared.commands.Put.{Put}
-use Rattle.script_text.specs.declared.commands.Put.TheVariants as P
-use Rattle.edit_script.specs.declared.faults.CommandFault.{CommandFault}
-use Rattle.edit_script.specs.declared.faults.CommandFault.TheVariants as F
-use Rattle.edit_script.specs.Items.{IsClip, IsItem, IsSpan, clip_with, media_at}
-use Rattle.tick_time.specs.Frames.{IsFrames}
-use Rattle.media_rows.specs.Rows.{MediaRows, row_of}
-use Rattle.edit_script.specs.Acts.{IsEditOf, Puts, is_beyond, is_unlisted}
-use Rattle.edit_script.specs.Runs.{AsksFor, IsHalted, Takes, moved_on}
-use Rattle.edit_script.specs.Runs.{edits, undoes, redoes, unlisted, far, refused, nothing_done, nothing_undone}
+-- Bytes are one script at most, or have one fault at most, and never both.
+use Rattle.std.proofs.Common.{◌≡◌, refl, sym, ap, ap₂, subst, ◌∙◌, ℕ, ◌+◌, List, [], ◌∷◌, ◌++◌, Option, Some, None, length, arith}
+use Rattle.text_lines.specs.Lines.{lines_of}
+use Rattle.edit_script.specs.declared.commands.Command.{Command}
+use Rattle.edit_script.specs.declared.commands.ScriptFault.{ScriptFault}
+use Rattle.edit_script.specs.declared.commands.ScriptFault.TheVariants as F
+use Rattle.edit_script.specs.Scripts.{says, Say, IsScript, IsFirstWrong, IsFault}
 
-one_some : {X : Type 0} (o : Option X) (x y : X) → o ≡ Some x → o ≡ Some y → x ≡ y
-one_some o x y e f = let g : Some x ≡ Some y = sym e ∙ f in cc g
+same_some : {A : Type 0} (x y : A) → Some x ≡ Some y → x ≡ y
+same_some x y e = cc e
 
-some_or_none : {X : Type 0} (o : Option X) (x : X) → o ≡ Some x → o ≡ None → ⊥
-some_or_none o x e f = let g : Some x ≡ None = sym e ∙ f in cc g
+-- lines say one list of commands at most
+say_once : (n : ℕ) (lines : List (List ℕ)) (a b : List Command) → Say n lines a → Say n lines b
+    → a ≡ b
+say_once n [] a b s t = s ∙ sym t
+say_once n (line ∷ lines) a b s t =
+    let here = same_some s.0 t.0 (sym s.3 ∙ t.3) in
+    s.2 ∙ ap₂ (λ x y. x ++ y) here (say_once (n + 1) lines s.1 t.1 s.4 t.4) ∙ sym t.2
 
-both_ways : (b : Bool) → b ≡ true → b ≡ false → ⊥
-both_ways b e f = let g : true ≡ false = sym e ∙ f in cc g
+pub script_once : (bytes : List ℕ) (a b : List Command) → IsScript bytes a → IsScript bytes b
+    → a ≡ b
+script_once bytes a b s t = say_once 1 (lines_of bytes) a b s.say t.say
 
--- ---- edits
+-- a line that says nothing among lines that say something
+wrong_among : (n : ℕ) (before : List (List ℕ)) (line : List ℕ) (behind : List (List ℕ))
+    (a : List Command) → Say n (before ++ line ∷ behind) a → says (n + length before) line ≡ None
+    → ⊥
+wrong_among n [] line behind a s e =
+    let z : n ≡ n + 0 = omega arith in
+    cc (sym (ap (λ k. says k line) z ∙ e) ∙ s.3)
+wrong_among n (x ∷ before) line behind a s e =
+    let z : n + 1 + length before ≡ n + length (x ∷ before) = omega arith in
+    wrong_among (n + 1) before line behind s.1 s.4 (ap (λ k. says k line) z ∙ e)
 
-pub one_time : (r : Rate) (n : ℤ) (t u : Time) → IsFrames r n t → IsFrames r n u → t ≡ u
-one_time r n t u i j = same_time t u (i.ticks ∙ sym j.ticks) (i.kept ∙ sym j.kept)
+-- the first wrong line is one: the lists before two of them are as long
+record Wrong (lines : List (List ℕ)) (n k : ℕ) : Type 0 where
+  before : List (List ℕ)
+  line : List ℕ
+  behind : List (List ℕ)
+  split : lines ≡ before ++ line ∷ behind
+  commands : List Command
+  say : Say n before commands
+  number : k ≡ n + length before
+  wrong : says k line ≡ None
 
-one_span : (r : Rate) (m : ℤ) (q : Rate) (n : ℤ) (s t : Span) → IsSpan r m q n s → IsSpan r m q n t
-    → s ≡ t
-one_span r m q n s t i j = same_span s t (one_time r m s.start t.start i.from j.from)
-    (one_time q n s.len t.len i.long j.long)
+some_none : {A : Type 0} (o : Option A) (x : A) → o ≡ Some x → o ≡ None → ⊥
+some_none o x e f = cc (sym e ∙ f)
 
-one_clip : (r : Rate) (row : MediaRow) (name : List ℕ) (m n : ℤ) (x y : ItemOf Listed)
-    → IsClip r row name m n x → IsClip r row name m n y → x ≡ y
-one_clip r row name m n x y i j =
-    i.is
-    ∙ ap (λ s. clip_with name s (media_at row.url i.available))
-    (one_span row.rate m r n i.shown j.shown i.shows j.shows)
-    ∙ ap (λ s. clip_with name j.shown (media_at row.url s))
-    (one_span row.rate row.start row.rate row.count i.available j.available i.listed j.listed)
-    ∙ sym j.is
+first_of_lists : (x y : List ℕ) (l m : List (List ℕ)) → Path (List (List ℕ)) (x ∷ l) (y ∷ m) → x ≡ y
+first_of_lists x y l m e = cc e
 
-pub one_item : (r : Rate) (media : MediaRows) (put : Put) (x y : ItemOf Listed)
-    → IsItem r media put x → IsItem r media put y → x ≡ y
-one_item r media (P.Gap n) x y i j = one_some _ x y i j
-one_item r media (P.Clip name reel m n) x y i j =
-    one_clip r i.0 name m n x y i.2
-    (subst (λ row. IsClip r row name m n y) (one_some (row_of media reel) j.0 i.0 j.1 i.1) j.2)
+rest_of_lists : (x y : List ℕ) (l m : List (List ℕ)) → Path (List (List ℕ)) (x ∷ l) (y ∷ m) → l ≡ m
+rest_of_lists x y l m e = cc e
 
-one_put : (r : Rate) (media : MediaRows) (put : Put) (f : ItemOf Listed → Edit) (d e : Edit)
-    → Puts r media put f d → Puts r media put f e → d ≡ e
-one_put r media put f d e i j = i.2 ∙ ap f (one_item r media put i.0 j.0 i.1 j.1) ∙ sym j.2
+wrong_once : (n j k : ℕ) (b c : List (List ℕ)) (x y : List ℕ) (d e : List (List ℕ))
+    (p q : List Command) → b ++ x ∷ d ≡ c ++ y ∷ e → Say n b p → Say n c q
+    → j ≡ n + length b → k ≡ n + length c → says j x ≡ None → says k y ≡ None → j ≡ k
+wrong_once n j k [] [] x y d e p q s t u v w f g = omega (arith, v, w)
+wrong_once n j k [] (z ∷ c) x y d e p q s t u v w f g =
+    let same = first_of_lists x z d (c ++ y ∷ e) s in
+    let at : j ≡ n = omega (arith, v) in
+    absurd (some_none (says n z) u.0 u.3 (sym (ap₂ (λ i l. says i l) at same) ∙ f))
+wrong_once n j k (z ∷ b) [] x y d e p q s t u v w f g =
+    let same = first_of_lists z y (b ++ x ∷ d) e s in
+    let at : k ≡ n = omega (arith, w) in
+    absurd (some_none (says n z) t.0 t.3 (sym (ap₂ (λ i l. says i l) at (sym same)) ∙ g))
+wrong_once n j k (z ∷ b) (z2 ∷ c) x y d e p q s t u v w f g =
+    wrong_once (n + 1) j k b c x y d e t.1 u.1 (rest_of_lists z z2 (b ++ x ∷ d) (c ++ y ∷ e) s) t.4
+    u.4
+    (omega (arith, v)) (omega (arith, w)) f g
 
-one_edit : (r : Rate) (media : MediaRows) (act : Act) (d e : Edit) → IsEditOf r media act d
-    → IsEditOf r media act e → d ≡ e
-one_edit r media (A.Overwrite place at put) d e i j = one_put r media put _ d e i j
-one_edit r media (A.Insert place at put) d e i j = one_put r media put _ d e i j
-one_edit r media (A.Slice place at) d e i j = i ∙ sym j
-one_edit r media (A.Fill place at mode put) d e i j = one_put r media put _ d e i j
-one_edit r media (A.Remove place at mode) d e i j = i ∙ sym j
-one_edit r media (A.Trim place at head tail) d e i j = i ∙ sym j
-one_edit r media (A.Slip place at by) d e i j = i ∙ sym j
-one_edit r media (A.Slide place at by) d e i j = i ∙ sym j
-one_edit r media (A.Ripple place at head tail) d e i j = i ∙ sym j
-one_edit r media (A.Roll place at head tail) d e i j = i ∙ sym j
-one_edit r media A.Undo d e i j = absurd i
-one_edit r media A.Redo d e i j = absurd i
+first_once : (lines : List (List ℕ)) (j k : ℕ) → IsFirstWrong lines j → IsFirstWrong lines k → j ≡ k
+first_once lines j k a b =
+    let m = a.number in let o = b.number in
+    wrong_once 1 j k a.before b.before a.line b.line a.behind b.behind a.commands b.commands
+    (sym a.split ∙ b.split) a.say b.say
+    (omega (arith, m)) (omega (arith, o)) a.wrong b.wrong
 
-asked : (media : MediaRows) (act : Act) (t : Timeline) (d e : Edit) → AsksFor media act t d
-    → AsksFor media act t e → d ≡ e
-asked media act t d e i j = one_edit (rate_of t) media act d e i.edit j.edit
+said_right : (lines : List (List ℕ)) (k : ℕ) (c : List Command) → IsFirstWrong lines k
+    → Say 1 lines c → ⊥
+said_right lines k c a s =
+    let m = a.number in
+    let at : k ≡ 1 + length a.before = omega (arith, m) in
+    wrong_among 1 a.before a.line a.behind c (subst (λ (l : List (List ℕ)). Say 1 l c) a.split s)
+    (ap (λ i. says i a.line) (sym at) ∙ a.wrong)
 
--- ---- an edit is accepted, with one result, or refused, for one fault
+pub fault_once : (bytes : List ℕ) (f g : ScriptFault) → IsFault bytes f → IsFault bytes g → f ≡ g
+fault_once bytes F.Large F.Large a b = refl
+fault_once bytes F.Large (F.Line n) a b = absurd (let k = b.0 in omega (arith, a, k))
+fault_once bytes F.Large F.Many a b = absurd (let k = b.0 in omega (arith, a, k))
+fault_once bytes F.Large F.Memory a b = absurd b
+fault_once bytes (F.Line n) F.Large a b = absurd (let k = a.0 in omega (arith, b, k))
+fault_once bytes (F.Line n) (F.Line m) a b = ap F.Line (first_once (lines_of bytes) n m a.1 b.1)
+fault_once bytes (F.Line n) F.Many a b = absurd (said_right (lines_of bytes) n b.1.commands a.1
+    b.1.say)
+fault_once bytes (F.Line n) F.Memory a b = absurd b
+fault_once bytes F.Many F.Large a b = absurd (let k = a.0 in omega (arith, b, k))
+fault_once bytes F.Many (F.Line n) a b = absurd (said_right (lines_of bytes) n a.1.commands b.1
+    a.1.say)
+fault_once bytes F.Many F.Many a b = refl
+fault_once bytes F.Many F.Memory a b = absurd b
+fault_once bytes F.Memory g a b = absurd a
 
-one_refusal : (t : Timeline) (e : Edit) (f g : EditFault) → IsRefused t e f → IsRefused t e g
-    → f ≡ g
-one_refusal t e f g (at_once i) (at_once j) = one_some (early_fault t e) f g i j
-one_refusal t e f g (at_once i) (too_long n l s) = absurd (some_or_none (early_fault t e) f i n)
-one_refusal t e f g (at_once i) (too_many n l m s) = absurd (some_or_none (early_fault t e) f i n)
-one_refusal t e f g (too_long n l s) (at_once j) = absurd (some_or_none (early_fault t e) g j n)
-one_refusal t e f g (too_long n l s) (too_long _ _ z) = s ∙ sym z
-one_refusal t e f g (too_long n l s) (too_many _ h m z) = absurd (h l)
-one_refusal t e f g (too_many n h m s) (at_once j) = absurd (some_or_none (early_fault t e) g j n)
-one_refusal t e f g (too_many n h m s) (too_long _ l z) = absurd (h l)
-one_refusal t e f g (too_many n h m s) (too_many _ _ _ z) = s ∙ sym z
-
-not_both : (t : Timeline) (e : Edit) (s : Timeline) (f : EditFault) → IsAfter t e s
-    → IsRefused t e f → ⊥
-not_both t e s f a (at_once i) = some_or_none (early_fault t e) f i a.early
-not_both t e s f a (too_long n l z) = a.short l
-not_both t e s f a (too_many n h m z) = a.few m
-
--- ---- what an act does
-
-no_edit : (media : MediaRows) (act : Act) (t : Timeline) (e : Edit) → AsksFor media act t e
-    → act ≡ A.Undo → ⊥
-no_edit media act t e i f = subst (λ a. IsEditOf (rate_of t) media a e) f i.edit
-
-no_edit_back : (media : MediaRows) (act : Act) (t : Timeline) (e : Edit) → AsksFor media act t e
-    → act ≡ A.Redo → ⊥
-no_edit_back media act t e i f = subst (λ a. IsEditOf (rate_of t) media a e) f i.edit
-
-not_undo_redo : (act : Act) → act ≡ A.Undo → act ≡ A.Redo → ⊥
-not_undo_redo act e f = let g : A.Undo ≡ A.Redo = sym e ∙ f in cc g
-
-pub one_result : (media : MediaRows) (act : Act) (s q r : State) → Takes media act s q
-    → Takes media act s r → q ≡ r
-one_result media act s q r (edits d t i a m) (edits e u j b n) =
-    m ∙ ap (λ x. moved_on x s) (one_some (after s.now e) t u
-    (subst (λ x. after s.now x ≡ Some t) (asked media act s.now d e i j) a.made) b.made) ∙ sym n
-one_result media act s q r (edits d t i a m) (undoes f h) = absurd (no_edit media act s.now d i f)
-one_result media act s q r (edits d t i a m) (redoes f h) =
-    absurd (no_edit_back media act s.now d i f)
-one_result media act s q r (undoes f h) (edits d t i a m) = absurd (no_edit media act s.now d i f)
-one_result media act s q r (undoes f h) (undoes g k) = one_some (back s) q r h k
-one_result media act s q r (undoes f h) (redoes g k) = absurd (not_undo_redo act f g)
-one_result media act s q r (redoes f h) (edits d t i a m) =
-    absurd (no_edit_back media act s.now d i f)
-one_result media act s q r (redoes f h) (undoes g k) = absurd (not_undo_redo act g f)
-one_result media act s q r (redoes f h) (redoes g k) = one_some (forth s) q r h k
-
--- ---- why a command is refused
-
--- a clip's reel isn't listed
-only_reel : (media : MediaRows) (c : Command) (s : State) (f : CommandFault)
-    → is_unlisted media c.act ≡ true → IsHalted media c s f → f ≡ F.NoReel c.line
-only_reel media c s f h (unlisted a e) = e
-only_reel media c s f h (far a b e) = absurd (both_ways (is_unlisted media c.act) h a)
-only_reel media c s f h (refused d w i r e) =
-    absurd (both_ways (is_unlisted media c.act) h i.listed)
-only_reel media c s f h (nothing_done a b e) =
-    absurd (both_ways (is_unlisted media c.act) h (ap (is_unlisted media) a))
-only_reel media c s f h (nothing_undone a b e) =
-    absurd (both_ways (is_unlisted media c.act) h (ap (is_unlisted media) a))
-
--- a time is out of range
-only_far : (media : MediaRows) (c : Command) (s : State) (f : CommandFault)
-    → is_unlisted media c.act ≡ false → is_beyond (rate_of s.now) media c.act ≡ true
-    → IsHalted media c s f → f ≡ F.Line c.line
-only_far media c s f g h (unlisted a e) = absurd (both_ways (is_unlisted media c.act) a g)
-only_far media c s f g h (far a b e) = e
-only_far media c s f g h (refused d w i r e) =
-    absurd (both_ways (is_beyond (rate_of s.now) media c.act) h i.near)
-only_far media c s f g h (nothing_done a b e) =
-    absurd (both_ways (is_beyond (rate_of s.now) media c.act) h
-    (ap (is_beyond (rate_of s.now) media) a))
-only_far media c s f g h (nothing_undone a b e) =
-    absurd (both_ways (is_beyond (rate_of s.now) media c.act) h
-    (ap (is_beyond (rate_of s.now) media) a))
-
--- its edit is refused
-only_edit : (media : MediaRows) (c : Command) (s : State) (f : CommandFault) (d : Edit)
-    (why : EditFault) → AsksFor media c.act s.now d → IsRefused s.now d why → IsHalted media c s f
-    → f ≡ F.Edit c.line why
-only_edit media c s f d why i r (unlisted a e) =
-    absurd (both_ways (is_unlisted media c.act) a i.listed)
-only_edit media c s f d why i r (far a b e) =
-    absurd (both_ways (is_beyond (rate_of s.now) media c.act) b i.near)
-only_edit media c s f d why i r (refused g w j q e) =
-    e ∙ ap (F.Edit c.line) (one_refusal s.now d w why
-    (subst (λ x. IsRefused s.now x w) (asked media c.act s.now g d j i) q) r)
-only_edit media c s f d why i r (nothing_done a b e) =
-    absurd (no_edit media c.act s.now d i a)
-only_edit media c s f d why i r (nothing_undone a b e) =
-    absurd (no_edit_back media c.act s.now d i a)
-
--- nothing is to be undone, or to be redone
-only_undo : (media : MediaRows) (c : Command) (s : State) (f : CommandFault) → c.act ≡ A.Undo
-    → IsHalted media c s f → f ≡ F.Undo c.line NothingDone
-only_undo media c s f h (unlisted a e) =
-    absurd (both_ways (is_unlisted media c.act) a (ap (is_unlisted media) h))
-only_undo media c s f h (far a b e) =
-    absurd (both_ways (is_beyond (rate_of s.now) media c.act) b
-    (ap (is_beyond (rate_of s.now) media) h))
-only_undo media c s f h (refused d w i r e) = absurd (no_edit media c.act s.now d i h)
-only_undo media c s f h (nothing_done a b e) = e
-only_undo media c s f h (nothing_undone a b e) = absurd (not_undo_redo c.act h a)
-
-only_redo : (media : MediaRows) (c : Command) (s : State) (f : CommandFault) → c.act ≡ A.Redo
-    → IsHalted media c s f → f ≡ F.Undo c.line NothingUndone
-only_redo media c s f h (unlisted a e) =
-    absurd (both_ways (is_unlisted media c.act) a (ap (is_unlisted media) h))
-only_redo media c s f h (far a b e) =
-    absurd (both_ways (is_beyond (rate_of s.now) media c.act) b
-    (ap (is_beyond (rate_of s.now) media) h))
-only_redo media c s f h (refused d w i r e) = absurd (no_edit_back media c.act s.now d i h)
-only_redo media c s f h (nothing_done a b e) = absurd (not_undo_redo c.act a h)
-only_redo media c s f h (nothing_undone a b e) = e
-
-pub one_fault : (media : MediaRows) (c : Command) (s : State) (f g : CommandFault)
-    → IsHalted media c s f → IsHalted media c s g → f ≡ g
-one_fault media c s f g (unlisted a e) h = e ∙ sym (only_reel media c s g a h)
-one_fault media c s f g (far a b e) h = e ∙ sym (only_far media c s g a b h)
-one_fault media c s f g (refused d w i r e) h = e ∙ sym (only_edit media c s g d w i r h)
-one_fault media c s f g (nothing_done a b e) h = e ∙ sym (only_undo media c s g a h)
-one_fault media c s f g (nothing_undone a b e) h = e ∙ sym (only_redo media c s g a h)
-
--- a command that has a result isn't refused
-
-kept_edit : (media : MediaRows) (c : Command) (s : State) (f : CommandFault) (d : Edit)
-    (t : Timeline) → AsksFor media c.act s.now d → IsAfter s.now d t → IsHalted media c s f → ⊥
-kept_edit media c s f d t i h (unlisted a e) = both_ways (is_unlisted media c.act) a i.listed
-kept_edit media c s f d t i h (far a b e) =
-    both_ways (is_beyond (rate_of s.now) media c.act) b i.near
-kept_edit media c s f d t i h (refused g w j r e) =
-    not_both s.now d t w h
-    (subst (λ x. IsRefused s.now x w) (asked media c.act s.now g d j i) r)
-kept_edit media c s f d t i h (nothing_done a b e) = no_edit media c.act s.now d i a
-kept_edit media c s f d t i h (nothing_undone a b e) = no_edit_back media c.act s.now d i a
-
-kept_undo : (media : MediaRows) (c : Command) (s r : State) (f : CommandFault) → c.act ≡ A.Undo
-    → back s ≡ Some r → IsHalted media c s f → ⊥
-kept_undo media c s r f h g (unlisted a e) =
-    both_ways (is_unlisted media c.act) a (ap (is_unlisted media) h)
-kept_undo media c s r f h g (far a b e) =
-    both_ways (is_beyond (rate_of s.now) media c.act) b (ap (is_beyond (rate_of s.now) media) h)
-kept_undo media c s r f h g (refused d w i q e) = no_edit media c.act s.now d i h
-kept_undo media c s r f h g (nothing_done a b e) = some_or_none (back s) r g b
-kept_undo media c s r f h g (nothing_undone a b e) = not_undo_redo c.act h a
-
-kept_redo : (media : MediaRows) (c : Command) (s r : State) (f : CommandFault) → c.act ≡ A.Redo
-    → forth s ≡ Some r → IsHalted media c s f → ⊥
-kept_redo media c s r f h g (unlisted a e) =
-    both_ways (is_unlisted media c.act) a (ap (is_unlisted media) h)
-kept_redo media c s r f h g (far a b e) =
-    both_ways (is_beyond (rate_of s.now) media c.act) b (ap (is_beyond (rate_of s.now) media) h)
-kept_redo media c s r f h g (refused d w i q e) = no_edit_back media c.act s.now d i h
-kept_redo media c s r f h g (nothing_done a b e) = not_undo_redo c.act a h
-kept_redo media c s r f h g (nothing_undone a b e) = some_or_none (forth s) r g b
-
-pub kept_on : (media : MediaRows) (c : Command) (s r : State) (f : CommandFault)
-    → Takes media c.act s r → IsHalted media c s f → ⊥
-kept_on media c s r f (edits d t i a m) h = kept_edit media c s f d t i a h
-kept_on media c s r f (undoes e g) h = kept_undo media c s r f e g h
-kept_on media c s r f (redoes e g) h = kept_redo media c s r f e g h
+pub never_both : (bytes : List ℕ) (c : List Command) (f : ScriptFault) → IsScript bytes c
+    → IsFault bytes f → ⊥
+never_both bytes c F.Large s a = let k = s.small in omega (arith, a, k)
+never_both bytes c (F.Line n) s a = said_right (lines_of bytes) n c a.1 s.say
+never_both bytes c F.Many s a =
+    let k = s.few in let m = a.1.many in
+    let e = ap (λ (l : List Command). length l) (say_once 1 (lines_of bytes) c a.1.commands s.say
+    a.1.say) in
+    omega (arith, k, m, e)
+never_both bytes c F.Memory s a = a

@@ -4,11 +4,11 @@ use Rattle.std.specs.Prelude.{IsSomeAnd}
 use Rattle.std.proofs.Math.Nat.{eq-or-lt_of_le}
 use Rattle.std.proofs.lemmas.Option.{slice_get_within}
 use Rattle.undo_log.specs.States.{State}
-use Rattle.script_text.specs.declared.commands.Command.{Command}
+use Rattle.edit_script.specs.declared.commands.Command.{Command}
 use Rattle.edit_script.specs.declared.faults.CommandFault.{CommandFault}
 use Rattle.media_rows.specs.Rows.{MediaRows}
 use Rattle.edit_script.specs.Runs.{Halts, IsHalted, Runs, Takes}
-use Rattle.edit_script.proofs.Once.{kept_on, one_fault, one_result}
+use Rattle.edit_script.proofs.OnceRun.{kept_on, one_fault, one_result}
 
 -- what is known of a member of a list, where there is one
 record At (media : MediaRows) (o : Option Command) (q r : State) : Type 0 where

@@ -20,11 +20,11 @@ use Rattle.otio_model.specs.declared.compositions.Listed.{Listed}
 use Rattle.coord.specs.declared.faults.ItemFault.{ItemFault}
 use Rattle.coord.specs.declared.faults.ItemFault.TheVariants.{Long}
 use Rattle.coord.specs.Soundness.{fault_of, is_long}
-use Rattle.cuts.specs.Nears.{near, span_of}
-use Rattle.cuts.specs.Children.{made, new_gap, plain_gap, with_range}
-use Rattle.depths.specs.Editable.{IsEditItem}
-use Rattle.script_text.specs.declared.commands.Put.{Put}
-use Rattle.script_text.specs.declared.commands.Put.TheVariants as P
+use Rattle.edits.specs.Nears.{near, span_of}
+use Rattle.edits.specs.Children.{made, new_gap, plain_gap, with_range}
+use Rattle.edits_law.specs.Editable.{IsEditItem}
+use Rattle.edit_script.specs.declared.commands.Put.{Put}
+use Rattle.edit_script.specs.declared.commands.Put.TheVariants as P
 use Rattle.edit_script.specs.Items.{IsClip, IsItem, clip_with, is_far, is_wrong, media_at}
 use Rattle.tick_time.specs.Frames.{IsFrames, in_ticks}
 use Rattle.media_rows.specs.Rows.{MediaRows, row_of}

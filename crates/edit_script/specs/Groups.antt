@@ -1,7 +1,7 @@
 -- Acts by how they are carried out.
 use Rattle.std.specs.Prelude.{Bool, true, false}
-use Rattle.script_text.specs.declared.commands.Act.{Act}
-use Rattle.script_text.specs.declared.commands.Act.TheVariants as A
+use Rattle.edit_script.specs.declared.commands.Act.{Act}
+use Rattle.edit_script.specs.declared.commands.Act.TheVariants as A
 
 -- what carries an act out: an edit of a list or of edges, or a step in the log
 pub data Group : Type 0 where

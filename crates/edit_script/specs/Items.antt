@@ -10,10 +10,10 @@ use Rattle.otio_model.specs.declared.sources.Media.TheVariants.{External}
 use Rattle.otio_model.specs.declared.compositions.ItemOf.{ItemOf}
 use Rattle.otio_model.specs.declared.compositions.ItemOf.TheVariants.{Clip}
 use Rattle.otio_model.specs.declared.compositions.Listed.{Listed}
-use Rattle.cuts.specs.Finest.{in_range}
-use Rattle.cuts.specs.Children.{made, new_gap}
-use Rattle.script_text.specs.declared.commands.Put.{Put}
-use Rattle.script_text.specs.declared.commands.Put.TheVariants as P
+use Rattle.edits.specs.Finest.{in_range}
+use Rattle.edits.specs.Children.{made, new_gap}
+use Rattle.edit_script.specs.declared.commands.Put.{Put}
+use Rattle.edit_script.specs.declared.commands.Put.TheVariants as P
 
 -- ---- times
 

@@ -5,7 +5,7 @@ use Rattle.otio_model.specs.declared.editing.Edit.{Edit}
 use Rattle.otio_model.specs.declared.editing.EditFault.{EditFault}
 use Rattle.edits.specs.Refusals.{IsRefused}
 use Rattle.edit_plans.specs.Planned.{IsPlan}
-use Rattle.script_text.specs.declared.commands.Act.{Act}
+use Rattle.edit_script.specs.declared.commands.Act.{Act}
 use Rattle.media_rows.specs.Rows.{MediaRows}
 use Rattle.edit_script.specs.Runs.{AsksFor}
 

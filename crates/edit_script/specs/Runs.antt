@@ -7,13 +7,13 @@ use Rattle.undo_log.specs.declared.faults.UndoFault.TheVariants.{NothingDone, No
 use Rattle.undo_log.specs.States.{State, back, forth}
 use Rattle.edits.specs.After.{rate_of}
 use Rattle.edits.specs.Refusals.{IsAfter, IsRefused}
-use Rattle.script_text.specs.declared.commands.Act.{Act}
-use Rattle.script_text.specs.declared.commands.Act.TheVariants as A
-use Rattle.script_text.specs.declared.commands.Command.{Command}
+use Rattle.edit_script.specs.declared.commands.Act.{Act}
+use Rattle.edit_script.specs.declared.commands.Act.TheVariants as A
+use Rattle.edit_script.specs.declared.commands.Command.{Command}
 use Rattle.edit_script.specs.declared.faults.CommandFault.{CommandFault}
 use Rattle.edit_script.specs.declared.faults.CommandFault.TheVariants as F
 use Rattle.media_rows.specs.Rows.{MediaRows}
-use Rattle.edit_script.specs.Acts.{IsEditOf, is_unlisted, is_beyond}
+use Rattle.edit_script.specs.RunActs.{IsEditOf, is_unlisted, is_beyond}
 
 -- an edit drops the timelines behind the position, adds the one that it gives and moves on to it
 abbrev pub moved_on : Timeline → State → State

@@ -3,8 +3,8 @@ use Rattle.std.specs.Prelude.{◌≡◌, ℕ, List}
 use Rattle.otio_model.specs.declared.timelines.Timeline.{Timeline}
 use Rattle.undo_log.specs.Histories.{History}
 use Rattle.undo_log.specs.States.{IsKept, state_of}
-use Rattle.script_text.specs.declared.commands.Act.{Act}
-use Rattle.script_text.specs.declared.commands.Command.{Command}
+use Rattle.edit_script.specs.declared.commands.Act.{Act}
+use Rattle.edit_script.specs.declared.commands.Command.{Command}
 use Rattle.media_rows.specs.Rows.{MediaRows}
 use Rattle.edit_script.specs.Runs.{Runs, Takes}
 use Rattle.edit_script.specs.Keeping.{HoldsEdits, IsEditableState}

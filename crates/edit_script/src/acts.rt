@@ -1,194 +1,365 @@
-//! The edits that commands ask for.
+//! What the words of a line say.
 
-ghost use Rattle.std.specs.Prelude.{◌≡◌, ◌||◌, true, false, IfOk};
-ghost use Rattle.std.specs.Option.{option_copied};
-ghost use Rattle.depths.specs.Editable.{HasEditItem};
-ghost use Rattle.edit_plans.specs.Planned.{is_list_edit};
+ghost use Rattle.std.specs.Prelude.{◌≡◌, ◌∷◌, ℕ, ℤ, List, Option, Some, None, IfOk, MatchOption, option_map, option_and_then, []};
+ghost use Rattle.edit_script.specs.Words.{words_of};
 ghost use Rattle.edit_script.specs.Acts as acts;
-ghost use Rattle.edit_script.specs.Acts.{IsEditOf};
-ghost use Rattle.tick_time.specs.declared.rates.Rate.{Rate as AnyRate};
-ghost use Rattle.edit_script.specs.Items as items;
-ghost use Rattle.media_rows.specs.Rows.{MediaRows};
-ghost use Rattle.edit_script.specs.Groups.{group, moves_cuts, OfEdges, OfLists};
+ghost use Rattle.edit_script.specs.Numbers as numbers;
 
-use crate::items::{is_far, is_unlisted as is_unlisted_put, is_wrong_put, item_of};
-use media_list::MediaList;
-use otio_model::{Edit, copy_place};
-use script_text::{Act, Put};
+use crate::commands::{Act, Put};
+use crate::numbers::{count, place_of, whole};
+use crate::verbs::{Verb, fill_of, is_word, remove_of, verb_of};
+use crate::words::{has_ended, next_word};
+use otio_model::{FillMode, Place, RemoveMode};
+use sequences::Text;
 use std::alloc::{AllocError, Global};
-use tick_time::Rate;
 
-/// Whether an act puts in a clip of a reel that isn't listed.
-pub(crate) fn is_unlisted(media: Option<&MediaList>, act: &Act) -> bool
-    ensures { result ≡ acts.is_unlisted (option_copied media.entry) act.now }
+/// The word that is a line's only one.
+#[tactic(auto, using(crate::proofs::ActLemmas::only_words))]
+fn only_word(line: &[u8]) -> Option<&[u8]>
+    ensures { MatchOption result
+        ((word : List ℕ) → words_of line.now ≡ Some (word ∷ []) → ⊥)
+        (λ word. words_of line.now ≡ Some (word.now ∷ [])) }
 {
-    match act {
-        Act::Overwrite { put, .. } | Act::Insert { put, .. } | Act::Fill { put, .. } => {
-            is_unlisted_put(media, put)
-        }
-        Act::Slice { .. }
-        | Act::Remove { .. }
-        | Act::Trim { .. }
-        | Act::Slip { .. }
-        | Act::Slide { .. }
-        | Act::Ripple { .. }
-        | Act::Roll { .. }
-        | Act::Undo
-        | Act::Redo => false,
+    let (word, rest) = next_word(line)?;
+    if has_ended(rest) { Some(word) } else { None }
+}
+
+/// The bytes as a text, where they are UTF-8.
+fn text_of(alloc: Global, bytes: &[u8]) -> Result<Option<Text>, AllocError>
+    ensures { IfOk result (λ text. text ≡ acts.text bytes.now) }
+{
+    match std::str::from_utf8(bytes) {
+        Ok(text) => Ok(Some(Text::of(alloc, text)?)),
+        Err(_) => Ok(None),
     }
 }
 
-/// Whether one of three numbers of record frames is out of range.
-fn are_far(rate: Rate, at: i64, head: i64, tail: i64) -> bool
-    ensures { result ≡ acts.are_far rate at head tail }
+/// The last two words of a line as whole numbers.
+#[tactic(auto, using(crate::proofs::ActLemmas::edges))]
+fn edges_of(line: &[u8]) -> Option<(i64, i64)>
+    ensures { result ≡ option_and_then acts.edges_of (words_of line.now) }
 {
-    is_far(rate, at) || (is_far(rate, head) || is_far(rate, tail))
+    let (head, rest) = next_word(line)?;
+    let tail = only_word(rest)?;
+    Some((whole(head)?, whole(tail)?))
 }
 
-/// Whether one of two numbers of record frames is out of range.
-fn is_either_far(rate: Rate, at: i64, by: i64) -> bool
-    ensures { result ≡ (items.is_far rate at || items.is_far rate by) }
+/// The only word of a line as a whole number.
+#[tactic(auto, using(crate::proofs::ActLemmas::by_none))]
+fn by_of(line: &[u8]) -> Option<i64>
+    ensures { result ≡ option_and_then acts.by_of (words_of line.now) }
 {
-    is_far(rate, at) || is_far(rate, by)
+    whole(only_word(line)?)
 }
 
-/// Whether an item can't be put in at an instant, since one of the times is out of range.
-fn is_far_put(rate: Rate, media: Option<&MediaList>, at: i64, put: &Put) -> bool
-    ensures { result ≡ (items.is_far rate at
-        || items.is_wrong_put rate (option_copied media.entry) put.now) }
+/// The only word of a line as what comes in place of an item.
+#[tactic(auto, using(crate::proofs::ActLemmas::mode_none))]
+fn mode_of(line: &[u8]) -> Option<RemoveMode>
+    ensures { result ≡ option_and_then acts.mode_of (words_of line.now) }
 {
-    is_far(rate, at) || is_wrong_put(rate, media, put)
+    remove_of(only_word(line)?)
 }
 
-/// Whether one of the times of an act is out of range, or a length or a start is negative.
-pub(crate) fn is_beyond(rate: Rate, media: Option<&MediaList>, act: &Act) -> bool
-    ensures { result ≡ acts.is_beyond rate (option_copied media.entry) act.now }
+/// The clip that the words of a line behind `clip` say.
+#[tactic(auto, using(crate::proofs::ActLemmas::clips))]
+fn clip_of(alloc: Global, line: &[u8]) -> Result<Option<Put>, AllocError>
+    ensures { IfOk result (λ put. put ≡ option_and_then acts.clip_words (words_of line.now)) }
 {
-    match act {
-        Act::Overwrite { at, put, .. } | Act::Insert { at, put, .. } | Act::Fill { at, put, .. } =>
-            is_far_put(rate, media, *at, put),
-        Act::Slice { at, .. } | Act::Remove { at, .. } => is_far(rate, *at),
-        Act::Slip { at, by, .. } | Act::Slide { at, by, .. } => is_either_far(rate, *at, *by),
-        Act::Trim { at, head, tail, .. } => are_far(rate, *at, *head, *tail),
-        Act::Ripple { at, head, tail, .. } => are_far(rate, *at, *head, *tail),
-        Act::Roll { at, head, tail, .. } => are_far(rate, *at, *head, *tail),
-        Act::Undo | Act::Redo => false,
+    let Some((name, rest)) = next_word(line) else {
+        return Ok(None);
+    };
+    let Some((reel, rest)) = next_word(rest) else {
+        return Ok(None);
+    };
+    let Some((first, rest)) = next_word(rest) else {
+        return Ok(None);
+    };
+    let Some(last) = only_word(rest) else {
+        return Ok(None);
+    };
+    let Some(start) = count(first) else {
+        return Ok(None);
+    };
+    let Some(length) = count(last) else {
+        return Ok(None);
+    };
+    let Some(name) = text_of(alloc, name)? else {
+        return Ok(None);
+    };
+    let Some(reel) = text_of(alloc, reel)? else {
+        return Ok(None);
+    };
+    Ok(Some(Put::Clip {
+        name,
+        reel,
+        start,
+        length,
+    }))
+}
+
+/// The gap that the words of a line behind `gap` say.
+#[tactic(auto, using(crate::proofs::ActLemmas::gaps))]
+fn gap_of(line: &[u8]) -> Option<Put>
+    ensures { result ≡ option_map Put.Gap (option_and_then acts.gap_words (words_of line.now)) }
+{
+    let Some(word) = only_word(line) else {
+        return None;
+    };
+    match count(word) {
+        Some(length) => Some(Put::Gap(length)),
+        None => None,
     }
 }
 
-/// The edit of a list that an act asks for.
-pub(crate) fn list_edit_of(
+/// What the words of a line put in.
+#[tactic(auto, using(crate::proofs::ActLemmas::puts))]
+fn put_of(alloc: Global, line: &[u8]) -> Result<Option<Put>, AllocError>
+    ensures { IfOk result (λ put. put ≡ option_and_then acts.put_of (words_of line.now)) }
+{
+    let Some((word, rest)) = next_word(line) else {
+        return Ok(None);
+    };
+    if is_word(word, b"gap") {
+        return Ok(gap_of(rest));
+    }
+    if is_word(word, b"clip") {
+        return clip_of(alloc, rest);
+    }
+    Ok(None)
+}
+
+/// The fill and the item that the words of a line say.
+#[tactic(auto, using(crate::proofs::ActLemmas::fillings))]
+fn filling_of(alloc: Global, line: &[u8]) -> Result<Option<(FillMode, Put)>, AllocError>
+    ensures { IfOk result
+        (λ filling. filling ≡ option_and_then acts.filling_of (words_of line.now)) }
+{
+    let Some((word, rest)) = next_word(line) else {
+        return Ok(None);
+    };
+    let Some(mode) = fill_of(word) else {
+        return Ok(None);
+    };
+    match put_of(alloc, rest)? {
+        Some(put) => Ok(Some((mode, put))),
+        None => Ok(None),
+    }
+}
+
+/// The words of a line behind `overwrite PLACE AT`.
+fn overwrite_of(
     alloc: Global,
-    rate: Rate,
-    media: Option<&MediaList>,
-    act: &Act,
-) -> Result<Edit, AllocError>
-    requires group { group act.now ≡ OfLists }
-    requires listed { acts.is_unlisted (option_copied media) act.now ≡ false }
-    requires near { acts.is_beyond rate (option_copied media) act.now ≡ false }
-    ensures edit { IfOk result (IsEditOf rate (option_copied media.entry) act.now) }
-    ensures item { IfOk result HasEditItem }
-    ensures group { IfOk result (λ edit. is_list_edit edit ≡ true) }
+    place: Place,
+    at: i64,
+    line: &[u8],
+) -> Result<Option<Act>, AllocError>
+    ensures { IfOk result
+        (λ act. act ≡ option_and_then (acts.edit_of Verb.Overwrite place at) (words_of line.now)) }
 {
-    match act {
-        Act::Overwrite { place, at, put } => Ok(Edit::Overwrite {
-            place: copy_place(alloc, place)?,
-            at: *at,
-            item: item_of(alloc, rate, media, put)?,
-        }),
-        Act::Insert { place, at, put } => Ok(Edit::Insert {
-            place: copy_place(alloc, place)?,
-            at: *at,
-            item: item_of(alloc, rate, media, put)?,
-        }),
-        Act::Slice { place, at } => Ok(Edit::Slice {
-            place: copy_place(alloc, place)?,
-            at: *at,
-        }),
-        Act::Fill {
+    match put_of(alloc, line)? {
+        Some(put) => Ok(Some(Act::Overwrite { place, at, put })),
+        None => Ok(None),
+    }
+}
+
+/// The words of a line behind `insert PLACE AT`.
+fn insert_of(alloc: Global, place: Place, at: i64, line: &[u8]) -> Result<Option<Act>, AllocError>
+    ensures { IfOk result
+        (λ act. act ≡ option_and_then (acts.edit_of Verb.Insert place at) (words_of line.now)) }
+{
+    match put_of(alloc, line)? {
+        Some(put) => Ok(Some(Act::Insert { place, at, put })),
+        None => Ok(None),
+    }
+}
+
+/// The words of a line behind `slice PLACE AT`.
+fn slice_of(place: Place, at: i64, line: &[u8]) -> Option<Act>
+    ensures { result ≡ option_and_then (acts.edit_of Verb.Slice place at) (words_of line.now) }
+{
+    if has_ended(line) {
+        Some(Act::Slice { place, at })
+    } else {
+        None
+    }
+}
+
+/// The words of a line behind `fill PLACE AT`.
+fn fill_edit_of(
+    alloc: Global,
+    place: Place,
+    at: i64,
+    line: &[u8],
+) -> Result<Option<Act>, AllocError>
+    ensures { IfOk result
+        (λ act. act ≡ option_and_then (acts.edit_of Verb.Fill place at) (words_of line.now)) }
+{
+    match filling_of(alloc, line)? {
+        Some((mode, put)) => Ok(Some(Act::Fill {
             place,
             at,
             mode,
             put,
-        } => Ok(Edit::Fill {
-            place: copy_place(alloc, place)?,
-            at: *at,
-            mode: *mode,
-            item: item_of(alloc, rate, media, put)?,
-        }),
-        Act::Remove { place, at, mode } => Ok(Edit::Remove {
-            place: copy_place(alloc, place)?,
-            at: *at,
-            mode: *mode,
-        }),
-        _ => unreachable!(),
+        })),
+        None => Ok(None),
     }
 }
 
-/// The edit that moves cuts, as an act asks for.
-fn cut_edit_of(alloc: Global, act: &Act) -> Result<Edit, AllocError>
-    requires { moves_cuts act.now ≡ true }
-    ensures edit { IfOk result (λ edit. (rate : AnyRate) (media : MediaRows)
-        → IsEditOf rate media act.now edit) }
-    ensures group { IfOk result (λ edit. is_list_edit edit ≡ false) }
+/// The words of a line behind `remove PLACE AT`.
+fn removal_of(place: Place, at: i64, line: &[u8]) -> Option<Act>
+    ensures { result ≡ option_and_then (acts.edit_of Verb.Remove place at) (words_of line.now) }
 {
-    match act {
-        Act::Ripple {
-            place,
-            at,
-            head,
-            tail,
-        } => Ok(Edit::Ripple {
-            place: copy_place(alloc, place)?,
-            at: *at,
-            head: *head,
-            tail: *tail,
-        }),
-        Act::Roll {
-            place,
-            at,
-            head,
-            tail,
-        } => Ok(Edit::Roll {
-            place: copy_place(alloc, place)?,
-            at: *at,
-            head: *head,
-            tail: *tail,
-        }),
-        _ => unreachable!(),
+    match mode_of(line) {
+        Some(mode) => Some(Act::Remove { place, at, mode }),
+        None => None,
     }
 }
 
-/// The edit of edges that an act asks for.
-pub(crate) fn edge_edit_of(alloc: Global, act: &Act) -> Result<Edit, AllocError>
-    requires { group act.now ≡ OfEdges }
-    ensures edit { IfOk result (λ edit. (rate : AnyRate) (media : MediaRows)
-        → IsEditOf rate media act.now edit) }
-    ensures group { IfOk result (λ edit. is_list_edit edit ≡ false) }
+/// The words of a line behind `trim PLACE AT`.
+fn trim_of(place: Place, at: i64, line: &[u8]) -> Option<Act>
+    ensures { result ≡ option_and_then (acts.edit_of Verb.Trim place at) (words_of line.now) }
 {
-    match act {
-        Act::Trim {
+    match edges_of(line) {
+        Some((head, tail)) => Some(Act::Trim {
             place,
             at,
             head,
             tail,
-        } => Ok(Edit::Trim {
-            place: copy_place(alloc, place)?,
-            at: *at,
-            head: *head,
-            tail: *tail,
         }),
-        Act::Slip { place, at, by } => Ok(Edit::Slip {
-            place: copy_place(alloc, place)?,
-            at: *at,
-            by: *by,
+        None => None,
+    }
+}
+
+/// The words of a line behind `ripple PLACE AT`.
+fn ripple_of(place: Place, at: i64, line: &[u8]) -> Option<Act>
+    ensures { result ≡ option_and_then (acts.edit_of Verb.Ripple place at) (words_of line.now) }
+{
+    match edges_of(line) {
+        Some((head, tail)) => Some(Act::Ripple {
+            place,
+            at,
+            head,
+            tail,
         }),
-        Act::Slide { place, at, by } => Ok(Edit::Slide {
-            place: copy_place(alloc, place)?,
-            at: *at,
-            by: *by,
+        None => None,
+    }
+}
+
+/// The words of a line behind `roll PLACE AT`.
+fn roll_of(place: Place, at: i64, line: &[u8]) -> Option<Act>
+    ensures { result ≡ option_and_then (acts.edit_of Verb.Roll place at) (words_of line.now) }
+{
+    match edges_of(line) {
+        Some((head, tail)) => Some(Act::Roll {
+            place,
+            at,
+            head,
+            tail,
         }),
-        Act::Ripple { .. } | Act::Roll { .. } => cut_edit_of(alloc, act),
-        _ => unreachable!(),
+        None => None,
+    }
+}
+
+/// The words of a line behind `slip PLACE AT`.
+fn slip_of(place: Place, at: i64, line: &[u8]) -> Option<Act>
+    ensures { result ≡ option_and_then (acts.edit_of Verb.Slip place at) (words_of line.now) }
+{
+    match by_of(line) {
+        Some(by) => Some(Act::Slip { place, at, by }),
+        None => None,
+    }
+}
+
+/// The words of a line behind `slide PLACE AT`.
+fn slide_of(place: Place, at: i64, line: &[u8]) -> Option<Act>
+    ensures { result ≡ option_and_then (acts.edit_of Verb.Slide place at) (words_of line.now) }
+{
+    match by_of(line) {
+        Some(by) => Some(Act::Slide { place, at, by }),
+        None => None,
+    }
+}
+
+/// The edit of a word at a place, by the words of a line that follow.
+fn edit_of(
+    alloc: Global,
+    verb: Verb,
+    place: Place,
+    at: i64,
+    line: &[u8],
+) -> Result<Option<Act>, AllocError>
+    ensures { IfOk result
+        (λ act. act ≡ option_and_then (acts.edit_of verb place at) (words_of line.now)) }
+{
+    match verb {
+        Verb::Overwrite => overwrite_of(alloc, place, at, line),
+        Verb::Insert => insert_of(alloc, place, at, line),
+        Verb::Slice => Ok(slice_of(place, at, line)),
+        Verb::Fill => fill_edit_of(alloc, place, at, line),
+        Verb::Remove => Ok(removal_of(place, at, line)),
+        Verb::Trim => Ok(trim_of(place, at, line)),
+        Verb::Slip => Ok(slip_of(place, at, line)),
+        Verb::Slide => Ok(slide_of(place, at, line)),
+        Verb::Ripple => Ok(ripple_of(place, at, line)),
+        Verb::Roll => Ok(roll_of(place, at, line)),
+    }
+}
+
+/// The edit of a word, by the words of a line that follow it.
+#[tactic(auto, using(crate::proofs::ActLemmas::placings))]
+fn placed_of(alloc: Global, verb: Verb, line: &[u8]) -> Result<Option<Act>, AllocError>
+    ensures { IfOk result
+        (λ act. act ≡ option_and_then (acts.placed_of verb) (words_of line.now)) }
+{
+    let Some((first, rest)) = next_word(line) else {
+        return Ok(None);
+    };
+    let Some((second, rest)) = next_word(rest) else {
+        return Ok(None);
+    };
+    let Some(at) = whole(second) else {
+        return Ok(None);
+    };
+    match place_of(alloc, first)? {
+        Some(place) => edit_of(alloc, verb, place, at, rest),
+        None => Ok(None),
+    }
+}
+
+/// The step of that word.
+fn step_word(word: &[u8]) -> Option<Act>
+    ensures { result ≡ acts.meaning word.now acts.step_words }
+{
+    if is_word(word, b"undo") {
+        return Some(Act::Undo);
+    }
+    if is_word(word, b"redo") {
+        return Some(Act::Redo);
+    }
+    None
+}
+
+/// The step of a word that is a line's only one.
+fn step_of(word: &[u8], line: &[u8]) -> Option<Act>
+    ensures { result ≡ option_and_then (acts.step_of word.now) (words_of line.now) }
+{
+    if has_ended(line) {
+        step_word(word)
+    } else {
+        None
+    }
+}
+
+/// What a line says.
+#[tactic(auto, using(crate::proofs::ActLemmas::sayings))]
+pub(crate) fn said_by(alloc: Global, line: &[u8]) -> Result<Option<Act>, AllocError>
+    ensures { IfOk result (λ act. act ≡ acts.said_by line.now) }
+{
+    let Some((word, rest)) = next_word(line) else {
+        return Ok(None);
+    };
+    match verb_of(word) {
+        Some(verb) => placed_of(alloc, verb, rest),
+        None => Ok(step_of(word, rest)),
     }
 }

@@ -4,7 +4,7 @@ use otio_model::EditFault;
 use undo_log::UndoFault;
 
 /// Why a script stops at a command, by the line that it stands on.
-#[derive(Debug, Drop)]
+#[derive(Drop)]
 pub enum CommandFault {
     /// P2: the clip that it puts in is of a reel that isn't listed, or no media list was given.
     NoReel(u32),

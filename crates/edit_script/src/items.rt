@@ -2,8 +2,8 @@
 
 ghost use Rattle.std.specs.Prelude.{◌≡◌, ◌∷◌, [], false, IfOk, Some, IfSome, codes};
 ghost use Rattle.std.specs.Option.{option_copied};
-ghost use Rattle.cuts.specs.Children.{made, new_gap as new_gap_of};
-ghost use Rattle.depths.specs.Editable.{IsEditItem};
+ghost use Rattle.edits.specs.Children.{made, new_gap as new_gap_of};
+ghost use Rattle.edits_law.specs.Editable.{IsEditItem};
 ghost use Rattle.media_rows.specs.Rows as rows;
 ghost use Rattle.media_rows.specs.Rows.{IsRowInRange};
 ghost use Rattle.tick_time.specs.declared.spans.Span.{Span as AnySpan};
@@ -11,11 +11,11 @@ ghost use Rattle.edit_script.specs.Items as items;
 ghost use Rattle.edit_script.specs.Items.{IsClip, IsItem, IsSpan};
 ghost use Rattle.tick_time.specs.Frames.{IsFrames, in_ticks};
 
+use crate::commands::Put;
 use media_list::MediaList;
 use media_rows::MediaRow;
 use otio_model::{Clip, Effects, External, Item, ItemOf, Markers, Media, MediaMap};
 use pieces::{RangedFault, new_gap};
-use script_text::Put;
 use sequences::{NamedValues, Text};
 use std::alloc::{AllocError, Global};
 use tick_time::{Rate, Span, Time};

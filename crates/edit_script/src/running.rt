@@ -3,17 +3,17 @@
 ghost use Rattle.std.specs.Prelude.{◌≡◌, ◌≢◌, ℕ, List, IfErr, OnErr, OnOk, length};
 ghost use Rattle.std.specs.Option.{option_copied};
 ghost use Rattle.undo_log.specs.States.{IsKept, State, state_of};
-ghost use Rattle.script_text.specs.declared.commands.Command.{Command as AnyCommand};
+ghost use Rattle.edit_script.specs.declared.commands.Command.{Command as AnyCommand};
 ghost use Rattle.edit_script.specs.declared.faults.CommandFault.{CommandFault as AnyFault};
 ghost use Rattle.media_rows.specs.Rows.{MediaRows};
 ghost use Rattle.edit_script.specs.Runs.{Halts, Runs};
 ghost use Rattle.edit_script.specs.Keeping.{HoldsEdits, IsEditableState};
 
+use crate::commands::Command;
 use crate::faults::CommandFault;
 use crate::steps::apply_command;
 use media_list::MediaList;
 use otio_model::{EditFault, Timeline};
-use script_text::Command;
 use std::alloc::Global;
 use undo_log::Log;
 

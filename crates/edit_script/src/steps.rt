@@ -7,24 +7,23 @@ ghost use Rattle.coord.specs.Soundness.{IsSound};
 ghost use Rattle.otio_model.specs.Patches.{IsFit};
 ghost use Rattle.otio_model.specs.Timelines.{bare};
 ghost use Rattle.edits.specs.After.{rate_of};
-ghost use Rattle.script_text.specs.declared.commands.Act.{Act as AnyAct};
+ghost use Rattle.edit_script.specs.declared.commands.Act.{Act as AnyAct};
 ghost use Rattle.undo_log.specs.declared.faults.UndoFault.TheVariants.{NothingDone, NothingUndone};
 ghost use Rattle.undo_log.specs.States.{State, back, forth, state_of};
 ghost use Rattle.media_rows.specs.Rows.{MediaRows};
-ghost use Rattle.edit_script.specs.Acts as acts;
+ghost use Rattle.edit_script.specs.RunActs as acts;
 ghost use Rattle.edit_script.specs.Groups.{group, Back, Forth, OfEdges, OfLists};
 ghost use Rattle.edit_script.specs.Plans.{IsPlanOf, IsRefusalOf};
 ghost use Rattle.edit_script.specs.Runs.{IsHalted};
 ghost use Rattle.edit_script.specs.Steps.{IsDone, IsReady, IsSame};
 
-use crate::acts::{edge_edit_of, is_beyond, is_unlisted, list_edit_of};
+use crate::commands::{Act, Command};
 use crate::faults::CommandFault;
-use edit_ops::plan_list;
+use crate::run_acts::{edge_edit_of, is_beyond, is_unlisted, list_edit_of};
+use edit_ops::{plan_list, plan_trim};
 use edit_plans::edit_rate;
-use edit_trim::plan_trim;
 use media_list::MediaList;
 use otio_model::{EditFault, Patch, Timeline};
-use script_text::{Act, Command};
 use std::alloc::Global;
 use undo_log::Log;
 
@@ -233,7 +232,7 @@ fn redo(timeline: &mut Timeline, log: &mut Log, line: u32) -> Result<(), Command
 }
 
 /// Carries a command out, or says why it is refused; timeline and log are then as they were.
-#[tactic(auto, using(crate::proofs::Commands::done_by_undo, crate::proofs::Commands::done_by_redo))]
+#[tactic(auto, using(crate::proofs::CommandLemmas::done_by_undo, crate::proofs::CommandLemmas::done_by_redo))]
 pub(crate) fn apply_command(
     alloc: Global,
     timeline: &mut Timeline,

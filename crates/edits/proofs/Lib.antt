@@ -1,3 +1,4 @@
+-- Lemmas on cuts and edits.
 pub mod NextStarts
 pub mod RecordRates
 pub mod FairItems

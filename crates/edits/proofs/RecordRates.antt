@@ -10,7 +10,7 @@ use Rattle.otio_model.specs.Lengths.{clip_range}
 use Rattle.coord.specs.Keys.{frame_rate}
 use Rattle.coord.specs.Programs as programs
 use Rattle.coord.specs.Programs.{first_clip, frame_ticks, record_rate}
-use Rattle.cuts.specs.Finest.{rate_24}
+use Rattle.edits.specs.Finest.{rate_24}
 use Rattle.edits.specs.After.{clip_rate, rate_of, frame_of}
 
 span_rate : (o : Option Span) → frame_rate (unwrap_or (option_map (λ (s : Span). s.start.rate) o) rate_24) ≡ unwrap_or (option_map (λ (s : Span). frame_rate s.start.rate) o) programs.rate_24

@@ -14,8 +14,8 @@ use Rattle.otio_model.specs.Lengths.{clip_range}
 use Rattle.otio_model.specs.Trees.{listed, items_of}
 use Rattle.otio_model.specs.Edits.{list_at, with_at}
 use Rattle.coord.specs.Programs.{first_clip}
-use Rattle.cuts.specs.Finest.{rate_24}
-use Rattle.cuts.specs.Children.{all_made}
+use Rattle.edits.specs.Finest.{rate_24}
+use Rattle.edits.specs.Children.{all_made}
 use Rattle.edits.specs.Edits.{edited}
 
 -- the rate of a clip's media: of their available range, else of its source_range

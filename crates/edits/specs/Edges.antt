@@ -11,8 +11,8 @@ use Rattle.otio_model.specs.Overlaps.{within}
 use Rattle.otio_model.specs.Trees.{is_transition}
 use Rattle.coord.specs.Speeds.{speed_of, media_at}
 use Rattle.otio_model.specs.Lengths.{trimmed_start}
-use Rattle.cuts.specs.Children.{Child, Old, Ranged, ticks, new_gap}
-use Rattle.cuts.specs.Cuts.{strip, olds}
+use Rattle.edits.specs.Children.{Child, Old, Ranged, ticks, new_gap}
+use Rattle.edits.specs.Cuts.{strip, olds}
 
 -- an item of a list, with what stands before and behind it
 pub record Held : Type 0 where

@@ -12,8 +12,8 @@ use Rattle.otio_model.specs.declared.editing.FillMode.TheVariants as M
 use Rattle.otio_model.specs.declared.editing.RemoveMode.{RemoveMode}
 use Rattle.otio_model.specs.declared.editing.RemoveMode.TheVariants as R
 use Rattle.otio_model.specs.Lengths.{trimmed_start}
-use Rattle.cuts.specs.Children.{Child, Old, Ranged, ticks, child_ticks, new_gap}
-use Rattle.cuts.specs.Cuts.{left_piece, strip, olds, put_between}
+use Rattle.edits.specs.Children.{Child, Old, Ranged, ticks, child_ticks, new_gap}
+use Rattle.edits.specs.Cuts.{left_piece, strip, olds, put_between}
 use Rattle.edits.specs.Edges.{Held, held_at, start, end, Moves, slipped, slide_by, slid, last_item, ripple_by, rippled, trim_by, trimmed, roll_by, rolled}
 
 -- ---- the five edits of lists

@@ -6,8 +6,8 @@ use Rattle.otio_model.specs.declared.editing.Edit.{Edit}
 use Rattle.otio_model.specs.declared.editing.Edit.TheVariants as A
 use Rattle.coord.specs.Looks.{Overlap}
 use Rattle.coord.specs.Sights.{overlap_of}
-use Rattle.cuts.specs.Children.{Child, Old, Ranged, ticks, child_ticks}
-use Rattle.cuts.specs.Cuts.{is_whole_at}
+use Rattle.edits.specs.Children.{Child, Old, Ranged, ticks, child_ticks}
+use Rattle.edits.specs.Cuts.{is_whole_at}
 use Rattle.edits.specs.Edges.{Held, Moves, gap_ticks}
 
 -- a transition's offsets aren't negative

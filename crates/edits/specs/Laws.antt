@@ -10,8 +10,8 @@ use Rattle.otio_model.specs.declared.editing.RemoveMode.TheVariants as R
 use Rattle.coord.specs.Looks.{Show, Blank, list_shows}
 use Rattle.otio_model.specs.Overlaps.{within}
 use Rattle.coord.specs.Sights.{View, sight, looks}
-use Rattle.cuts.specs.Children.{Child, Old, ticks, child_ticks, seen_child}
-use Rattle.cuts.specs.Cuts.{strip}
+use Rattle.edits.specs.Children.{Child, Old, ticks, child_ticks, seen_child}
+use Rattle.edits.specs.Cuts.{strip}
 use Rattle.edits.specs.Edges.{Held, held_at, start, end, Zone, Moves, slip_by, slipped_item, slide_by, slide_zone, ripple_by, item_zone, trim_by, roll_by, moves_zone, last_item, first_item}
 use Rattle.edits.specs.Edits.{filling, in_ticks}
 

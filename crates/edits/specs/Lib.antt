@@ -1,4 +1,12 @@
--- The ten edits of a track.
+-- Cuts of items and of lists of items, and the ten edits of a track.
+pub mod Finest
+pub mod Nears
+pub mod Children
+pub mod Splices
+pub mod Cuts
+pub mod Outside
+pub mod WorkedItems
+pub mod WorkedCuts
 pub mod Edges
 pub mod Edits
 pub mod After

@@ -3,8 +3,8 @@ use Rattle.std.specs.Prelude.{ℤ, pos, ◌-ℤ◌, int_lt, int_le, Bool, ◌&&�
 use Rattle.otio_model.specs.declared.compositions.ItemOf.{ItemOf}
 use Rattle.otio_model.specs.declared.compositions.Listed.{Listed}
 use Rattle.coord.specs.Sights.{overlap_of}
-use Rattle.cuts.specs.Splices.{is_stripped}
-use Rattle.cuts.specs.Children.{ticks}
+use Rattle.edits.specs.Splices.{is_stripped}
+use Rattle.edits.specs.Children.{ticks}
 use Rattle.edits.specs.Edges.{added}
 
 -- a child that begins at 0 is stripped for the zone from a to b, or meets it, ends included

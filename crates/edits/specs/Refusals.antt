@@ -18,8 +18,8 @@ use Rattle.coord.specs.declared.faults.ItemFault.TheVariants.{Long}
 use Rattle.coord.specs.Soundness.{fault_of}
 use Rattle.coord.specs.Speeds.{speed_of}
 use Rattle.tick_time.specs.Times.{is_speed}
-use Rattle.cuts.specs.Children.{Child, ticks, child_ticks, has_far}
-use Rattle.cuts.specs.Cuts.{strip, cuts_whole, is_whole_at}
+use Rattle.edits.specs.Children.{Child, ticks, child_ticks, has_far}
+use Rattle.edits.specs.Cuts.{strip, cuts_whole, is_whole_at}
 use Rattle.edits.specs.Edges.{Held, held_at, start, is_gap, is_zero, last_item, first_item, added}
 use Rattle.edits.specs.Edits.{edited, filling, fitted, fit_speed}
 use Rattle.edits.specs.After.{place_of, at_of, frame_of, list_of, after}

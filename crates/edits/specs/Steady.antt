@@ -11,8 +11,8 @@ use Rattle.coord.specs.Looks.{FrameRate}
 use Rattle.otio_model.specs.declared.editing.Edit.{Edit}
 use Rattle.otio_model.specs.declared.editing.Edit.TheVariants as A
 use Rattle.coord.specs.Sights.{View, overlap_of}
-use Rattle.cuts.specs.Nears.{is_whole}
-use Rattle.cuts.specs.Children.{Child, Old, Ranged}
+use Rattle.edits.specs.Nears.{is_whole}
+use Rattle.edits.specs.Children.{Child, Old, Ranged}
 
 -- a new start of a clip whose media have no range is whole units of the old start's rate
 abbrev pub steady_start : Option Span → Option Span → ℤ → Bool

@@ -9,9 +9,9 @@ use Rattle.otio_model.specs.declared.compositions.Listed.{Listed}
 use Rattle.coord.specs.Looks.{Url, Show, Blank, Frame}
 use Rattle.coord.specs.Keys.{frame_rate}
 use Rattle.coord.specs.Sights.{exact}
-use Rattle.cuts.specs.Finest.{rate_24}
-use Rattle.cuts.specs.Children.{Child, Old, Ranged, new_gap}
-use Rattle.cuts.specs.WorkedItems.{frames, at_speed, shot, gap, dissolve, first, second, joined, put, sped, late}
+use Rattle.edits.specs.Finest.{rate_24}
+use Rattle.edits.specs.Children.{Child, Old, Ranged, new_gap}
+use Rattle.edits.specs.WorkedItems.{frames, at_speed, shot, gap, dissolve, first, second, joined, put, sped, late}
 use Rattle.edits.specs.Edges.{held_at}
 use Rattle.edits.specs.Edits.{edited}
 use Rattle.edits.specs.Laws.{law}

@@ -4,7 +4,7 @@ use Rattle.otio_model.specs.declared.compositions.ItemOf.{ItemOf}
 use Rattle.otio_model.specs.declared.compositions.Listed.{Listed}
 use Rattle.otio_model.specs.declared.editing.Edit.{Edit}
 use Rattle.otio_model.specs.declared.editing.Edit.TheVariants as A
-use Rattle.cuts.specs.Children.{ticks, child_ticks}
+use Rattle.edits.specs.Children.{ticks, child_ticks}
 use Rattle.edits.specs.Edges.{Held, Zone, held_at, start, item_zone, slide_zone, moves_zone, slide_by, trim_by, roll_by, last_item}
 use Rattle.edits.specs.Edits.{filling, in_ticks}
 use Rattle.edits.specs.Narrow.{touched}

@@ -9,8 +9,8 @@ use Rattle.otio_model.specs.declared.editing.Edit.{Edit}
 use Rattle.otio_model.specs.declared.editing.EditFault.{EditFault}
 use Rattle.otio_model.specs.Overlaps.{within}
 use Rattle.coord.specs.Sights.{overlap_of}
-use Rattle.cuts.specs.Children.{Old, ticks}
-use Rattle.cuts.specs.Cuts.{strip, cuts_whole}
+use Rattle.edits.specs.Children.{Old, ticks}
+use Rattle.edits.specs.Cuts.{strip, cuts_whole}
 use Rattle.edits.specs.Edges.{Held, held_at, held_behind, start, end, added}
 use Rattle.edits.specs.Good.{AreFair, IsPut, IsHeld}
 use Rattle.edits.specs.After.{at_of}
@@ -18,7 +18,7 @@ use Rattle.otio_model.specs.declared.editing.EditFault.TheVariants as F
 use Rattle.edits.specs.Refusals.{first_fault, test, list_fault, pin_fault, asks_item, has_no_neighbour, is_filled_item, is_empty, is_wrong_speed, is_phased}
 use Rattle.edits_law.proofs.Parted.{added_low, added_strip, lt_yes, le_yes}
 use Rattle.edits_law.proofs.Beside.{strip_append}
-use Rattle.cuts_law.proofs.Sorts.{point, thing, sort, strip_thing}
+use Rattle.edits_law.proofs.Sorts.{point, thing, sort, strip_thing}
 
 -- ---- the held item
 

@@ -13,15 +13,15 @@ use Rattle.otio_model.specs.declared.editing.FillMode.{FillMode}
 use Rattle.otio_model.specs.declared.editing.FillMode.TheVariants as M
 use Rattle.coord.specs.Looks.{Show, list_shows}
 use Rattle.coord.specs.Sights.{View, overlap_of}
-use Rattle.cuts.specs.Children.{Child, Old, ticks, child_looks}
-use Rattle.cuts.specs.Cuts.{is_whole_at}
+use Rattle.edits.specs.Children.{Child, Old, ticks, child_looks}
+use Rattle.edits.specs.Cuts.{is_whole_at}
 use Rattle.edits.specs.Edges.{Held, held_at, start, Moves, clamped, whole_frames, whole_limit, lesser, head_room, tail_room, slide_by, slid, ripple_by, trim_by, roll_head, roll_tail, gap_before, gap_behind, gap_ticks, is_gap, last_item, first_item, is_zero}
 use Rattle.edits.specs.Edits.{edited, at_held, beside, filling, in_ticks, with_effect}
 use Rattle.edits.specs.Laws.{law, law_held, law_beside, slide_law}
 use Rattle.edits.specs.Good.{AreFair, IsPut, IsHeld, IsMoved, IsBefore, IsBehind, IsTrimmedBefore, IsTrimmedBehind, Suits}
 use Rattle.edits.specs.After.{at_of}
 use Rattle.edits.specs.Refusals.{cuts_fill, of_held}
-use Rattle.cuts_law.proofs.Splice.{cases}
+use Rattle.edits_law.proofs.Splice.{cases}
 use Rattle.edits_law.proofs.Parted.{added_low}
 use Rattle.edits_law.proofs.ListLaws.{overwrite_shows, insert_shows, slice_shows, remove_shows}
 use Rattle.edits_law.proofs.EdgeLaws.{ripple_shows}

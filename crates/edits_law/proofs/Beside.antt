@@ -8,12 +8,12 @@ use Rattle.otio_model.specs.declared.compositions.Listed.{Listed}
 use Rattle.coord.specs.Looks.{Overlap, total}
 use Rattle.otio_model.specs.Trees.{is_transition}
 use Rattle.coord.specs.Sights.{View, looks, overlap_of}
-use Rattle.cuts.specs.Splices.{is_stripped}
-use Rattle.cuts.specs.Children.{Child, Old, ticks}
-use Rattle.cuts.specs.Cuts.{strip, olds}
+use Rattle.edits.specs.Splices.{is_stripped}
+use Rattle.edits.specs.Children.{Child, Old, ticks}
+use Rattle.edits.specs.Cuts.{strip, olds}
 use Rattle.edits.specs.Edges.{added, first_item, last_item, first_changed, last_changed}
-use Rattle.cuts_law.proofs.Splice.{cases}
-use Rattle.cuts_law.proofs.Sorts.{point, thing, sort, strip_thing}
+use Rattle.edits_law.proofs.Splice.{cases}
+use Rattle.edits_law.proofs.Sorts.{point, thing, sort, strip_thing}
 
 -- a transition whose cut lies in the zone is stripped
 stripped_at : (a b : ℤ) (o : Overlap) → a ≤ℤ pos 0 → pos 0 ≤ℤ b → is_stripped a b (Some o) ≡ true

@@ -7,9 +7,9 @@ use Rattle.std.proofs.Math.Nat.{mul-mod_left, div-mul-le_self, div-add-mod}
 use Rattle.otio_model.specs.declared.compositions.ItemOf.{ItemOf}
 use Rattle.otio_model.specs.declared.compositions.Listed.{Listed}
 use Rattle.coord.specs.Speeds.{speed_of}
-use Rattle.cuts.specs.Cuts.{is_whole_at}
+use Rattle.edits.specs.Cuts.{is_whole_at}
 use Rattle.edits.specs.Edges.{whole_frames, whole_limit, lesser, at_least, at_most, clamped}
-use Rattle.cuts_law.proofs.Splice.{cases}
+use Rattle.edits_law.proofs.Splice.{cases}
 
 -- a whole number of frames of n ticks
 abbrev pub Whole : ℕ → ℤ → Type 0

@@ -9,21 +9,21 @@ use Rattle.coord.specs.Looks.{Show, Look, Overlap, list_shows, total}
 use Rattle.coord.specs.Speeds.{speed_of}
 use Rattle.coord.specs.Sights.{View, sight, sights, seen, looks, overlap_of, shows_inside}
 use Rattle.otio_model.specs.Lengths.{trimmed_start}
-use Rattle.cuts.specs.Splices.{AreGood, IsItem}
-use Rattle.cuts.specs.Children.{seen_child, child_looks}
-use Rattle.cuts.specs.Cuts.{strip, olds, is_whole_at}
+use Rattle.edits.specs.Splices.{AreGood, IsItem}
+use Rattle.edits.specs.Children.{seen_child, child_looks}
+use Rattle.edits.specs.Cuts.{strip, olds, is_whole_at}
 use Rattle.edits.specs.Edges.{Held, start, end, Zone, Moves, moved, is_zero, left_before, left_behind, item_zone, rippled}
 use Rattle.edits.specs.Laws.{ripple_law}
 use Rattle.edits.specs.Good.{IsHeld, IsMoved}
 use Rattle.coord.proofs.LookSteps.{item_hit}
-use Rattle.cuts_law.proofs.Splice.{AreClear, good_strip, clear_strip, cases}
-use Rattle.cuts_law.proofs.Seams.{seam_before, seam_behind, items_later, items_show}
-use Rattle.cuts_law.proofs.Pieces.{media_sum, whole_rest, strip_looks, looks_append, append_looks, olds_look}
+use Rattle.edits_law.proofs.Splice.{AreClear, good_strip, clear_strip, cases}
+use Rattle.edits_law.proofs.Seams.{seam_before, seam_behind, items_later, items_show}
+use Rattle.edits_law.proofs.Pieces.{media_sum, whole_rest, strip_looks, looks_append, append_looks, olds_look}
 use Rattle.edits_law.proofs.ListLaws.{good_looks}
 use Rattle.edits_law.proofs.Shaped.{longer, shifted, shifted_item, clear_earlier, later_clear}
 use Rattle.edits_law.proofs.Rolls.{parts_behind}
 use Rattle.edits_law.proofs.Beside.{strip_append, total_strip}
-use Rattle.cuts_law.proofs.Sorts.{strip_thing}
+use Rattle.edits_law.proofs.Sorts.{strip_thing}
 
 -- ---- moved items
 

@@ -10,7 +10,7 @@ use Rattle.otio_model.specs.declared.timelines.Timeline.{Timeline}
 use Rattle.otio_model.specs.declared.editing.Edit.{Edit}
 use Rattle.coord.specs.Looks.{list_shows}
 use Rattle.coord.specs.Sights.{View, looks}
-use Rattle.cuts.specs.Children.{all_made}
+use Rattle.edits.specs.Children.{all_made}
 use Rattle.edits.specs.Edges.{held_at}
 use Rattle.edits.specs.Edits.{edited}
 use Rattle.edits.specs.Laws.{law}

@@ -2,10 +2,10 @@
 use Rattle.std.proofs.Common.{◌≡◌, refl, sym, ap, ◌∙◌, ℤ, pos, ◌+ℤ◌, ◌-ℤ◌, ◌≤ℤ◌, List, [], ◌∷◌, arith}
 use Rattle.std.proofs.lemmas.Int.{ints}
 use Rattle.coord.specs.Looks.{Show, Look, from_end, blank, list_shows, total}
-use Rattle.cuts.specs.Splices.{empty, AreGood, IsItem}
+use Rattle.edits.specs.Splices.{empty, AreGood, IsItem}
 use Rattle.coord.proofs.LookSteps.{item_hit}
-use Rattle.cuts_law.proofs.Splice.{IsLater, AreClear}
-use Rattle.cuts_law.proofs.Seams.{seam_before, items_later, items_good, items_behind}
+use Rattle.edits_law.proofs.Splice.{IsLater, AreClear}
+use Rattle.edits_law.proofs.Seams.{seam_before, items_later, items_good, items_behind}
 use Rattle.edits_law.proofs.Shaped.{longer, longer_item, shifted, shifted_item, same_to, same_from}
 use Rattle.edits_law.proofs.Rolls.{Heads, Tails}
 

@@ -1,3 +1,9 @@
+-- Lemmas on cuts, edits and depths.
+pub mod Outside
+pub mod Pieces
+pub mod Seams
+pub mod Sorts
+pub mod Splice
 pub mod Accepted
 pub mod AllLaws
 pub mod Anywhere
@@ -18,3 +24,20 @@ pub mod SlideLaw
 pub mod Touched
 pub mod TouchedHeld
 pub mod TrimLaw
+pub mod Unreached
+pub mod Nesting
+pub mod Lengths
+pub mod Depth
+pub mod Premises
+pub mod AgreedLaws
+pub mod AnyDepth
+pub mod Kept
+pub mod WorkedRows
+pub mod Apart
+pub mod MadeParts
+pub mod ApartEdits
+pub mod Clean
+pub mod CleanEdits
+pub mod OnWay
+pub mod Places
+pub mod SoundEdits

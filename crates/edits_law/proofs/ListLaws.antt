@@ -9,17 +9,17 @@ use Rattle.otio_model.specs.declared.editing.RemoveMode.{RemoveMode}
 use Rattle.otio_model.specs.declared.editing.RemoveMode.TheVariants as R
 use Rattle.coord.specs.Looks.{Overlap, list_shows, item_shows, total}
 use Rattle.coord.specs.Sights.{View, sight, seen, looks, overlap_of}
-use Rattle.cuts.specs.Children.{Child, Old, Ranged, ticks, child_ticks, seen_child, child_looks, new_gap}
-use Rattle.cuts.specs.Splices as L
-use Rattle.cuts.specs.Splices.{IsGood, AreGood, IsItem, AreItems}
-use Rattle.cuts.specs.Cuts.{strip, cuts_whole, put_between}
+use Rattle.edits.specs.Children.{Child, Old, Ranged, ticks, child_ticks, seen_child, child_looks, new_gap}
+use Rattle.edits.specs.Splices as L
+use Rattle.edits.specs.Splices.{IsGood, AreGood, IsItem, AreItems}
+use Rattle.edits.specs.Cuts.{strip, cuts_whole, put_between}
 use Rattle.edits.specs.Edges.{Held, start, end}
 use Rattle.edits.specs.Edits.{overwritten, inserted, sliced, removed}
 use Rattle.edits.specs.Laws.{child_at, stripped, overwrite_law, insert_law, remove_law}
 use Rattle.edits.specs.Good.{IsFair, AreFair, IsPut, AllPut}
 use Rattle.coord.proofs.LookSteps.{item_hit}
-use Rattle.cuts_law.proofs.Seams.{IsReady, ready, spliced_before, spliced_in, spliced_behind}
-use Rattle.cuts_law.proofs.Pieces.{strip_looks, between_looks}
+use Rattle.edits_law.proofs.Seams.{IsReady, ready, spliced_before, spliced_in, spliced_behind}
+use Rattle.edits_law.proofs.Pieces.{strip_looks, between_looks}
 
 -- ---- good lists
 

@@ -16,9 +16,9 @@ use Rattle.coord.specs.Looks.{Show, Blank, Look, Overlap, Key, Frame}
 use Rattle.coord.specs.Speeds.{speed_of, media_at}
 use Rattle.coord.specs.Keys.{frame_rate, key_of, reel_of}
 use Rattle.coord.specs.Sights.{View, sight, sights, seen, looks, shows_inside, framed}
-use Rattle.cuts.specs.Finest.{in_range}
-use Rattle.cuts.specs.Nears.{is_whole, near_by, near, span_by, span_of}
-use Rattle.cuts.specs.Children.{Child, Old, Ranged, seen_child, child_looks, with_range, start_rate, length_rate, made, all_made, with_first}
+use Rattle.edits.specs.Finest.{in_range}
+use Rattle.edits.specs.Nears.{is_whole, near_by, near, span_by, span_of}
+use Rattle.edits.specs.Children.{Child, Old, Ranged, seen_child, child_looks, with_range, start_rate, length_rate, made, all_made, with_first}
 use Rattle.edits.specs.Steady.{steady_start, is_steady, are_steady, IsBlind, Sees, IsRangedBefore, AreRangedBefore}
 use Rattle.coord.proofs.Members.{same_some}
 

@@ -3,8 +3,8 @@ use Rattle.std.proofs.Common.{◌≡◌, refl, sym, ap, ap₂, ◌∙◌, inl, i
 use Rattle.std.proofs.lemmas.Int.{ints}
 use Rattle.otio_model.specs.declared.compositions.ItemOf.{ItemOf}
 use Rattle.otio_model.specs.declared.compositions.Listed.{Listed}
-use Rattle.cuts.specs.Children.{Child}
-use Rattle.cuts.specs.Cuts.{strip, olds}
+use Rattle.edits.specs.Children.{Child}
+use Rattle.edits.specs.Cuts.{strip, olds}
 use Rattle.edits.specs.Edges.{added, last_changed, first_changed, last_item, first_item}
 use Rattle.edits.specs.Narrow.{ahead, onward, up_to_met, past_met}
 use Rattle.edits_law.proofs.Parted.{added_strip, olds_append}

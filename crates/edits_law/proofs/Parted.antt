@@ -7,14 +7,14 @@ use Rattle.otio_model.specs.declared.compositions.Listed.{Listed}
 use Rattle.otio_model.specs.Edits.{replaced}
 use Rattle.std.proofs.Math.Seq.{take-append_seam, drop-append_seam, drop-append-add}
 use Rattle.tick_time.specs.declared.rates.Rate.{Rate}
-use Rattle.cuts.specs.Children.{Child, Old, ticks, made, all_made, with_first}
-use Rattle.cuts.specs.Cuts.{strip, olds, front, back, put_between, right_piece}
+use Rattle.edits.specs.Children.{Child, Old, ticks, made, all_made, with_first}
+use Rattle.edits.specs.Cuts.{strip, olds, front, back, put_between, right_piece}
 use Rattle.edits.specs.Edges.{added}
-use Rattle.cuts.specs.Splices.{is_stripped}
+use Rattle.edits.specs.Splices.{is_stripped}
 use Rattle.coord.specs.Sights.{overlap_of}
 use Rattle.edits_law.proofs.Beside.{strip_append}
-use Rattle.cuts_law.proofs.Sorts.{point, thing, sort, strip_thing}
-use Rattle.cuts_law.proofs.Splice.{cases}
+use Rattle.edits_law.proofs.Sorts.{point, thing, sort, strip_thing}
+use Rattle.edits_law.proofs.Splice.{cases}
 
 pub lt_yes : (a b : ℤ) → a <ℤ b → int_lt a b ≡ true
 lt_yes a b h = grind (arith, ints)

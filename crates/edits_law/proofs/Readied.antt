@@ -18,16 +18,16 @@ use Rattle.otio_model.specs.Lengths.{clip_range}
 use Rattle.coord.specs.Soundness.{fault_of}
 use Rattle.otio_model.specs.Trees.{is_transition}
 use Rattle.coord.specs.Sights.{overlap_of}
-use Rattle.cuts.specs.Splices.{is_stripped}
-use Rattle.cuts.specs.Children.{Child, Old, ticks}
-use Rattle.cuts.specs.Cuts.{strip, olds, front, back, put_between}
+use Rattle.edits.specs.Splices.{is_stripped}
+use Rattle.edits.specs.Children.{Child, Old, ticks}
+use Rattle.edits.specs.Cuts.{strip, olds, front, back, put_between}
 use Rattle.edits.specs.Edges.{Held, held_at, first_changed, last_changed, last_item, first_item, moved, slipped_item, grown, gap_of, is_zero, is_gap, is_gap_at, trimmed_before, trimmed_behind, left_before, left_behind, moves_zone, one, Moves, slid, slide_by, slide_zone, slipped, slip_by, rippled, ripple_by, rolled, roll_by, trimmed, trim_by, item_zone}
 use Rattle.edits.specs.Edits.{edited, at_held, beside, filling, in_ticks, with_effect, in_place}
 use Rattle.edits.specs.Good.{Suits}
 use Rattle.edits.specs.Steady.{IsRangedBefore, AreRangedBefore, IsReady, AreReady, HasReadyItem}
-use Rattle.cuts_law.proofs.Splice.{cases}
-use Rattle.cuts_law.proofs.Pieces.{no_transition}
-use Rattle.cuts_law.proofs.Sorts.{point, thing, sort}
+use Rattle.edits_law.proofs.Splice.{cases}
+use Rattle.edits_law.proofs.Pieces.{no_transition}
+use Rattle.edits_law.proofs.Sorts.{point, thing, sort}
 use Rattle.edits_law.proofs.Accepted.{found}
 use Rattle.edits_law.proofs.AllLaws.{with_thing}
 

@@ -5,16 +5,16 @@ use Rattle.otio_model.specs.declared.compositions.ItemOf.{ItemOf}
 use Rattle.otio_model.specs.declared.compositions.Listed.{Listed}
 use Rattle.coord.specs.Looks.{Show, Look, list_shows, total}
 use Rattle.coord.specs.Sights.{View, sight, seen, looks}
-use Rattle.cuts.specs.Splices.{AreGood}
-use Rattle.cuts.specs.Children.{Child, child_looks}
-use Rattle.cuts.specs.Cuts.{strip, olds}
+use Rattle.edits.specs.Splices.{AreGood}
+use Rattle.edits.specs.Children.{Child, child_looks}
+use Rattle.edits.specs.Cuts.{strip, olds}
 use Rattle.edits.specs.Edges.{Held, start, end, Moves, moved, left_before, left_behind, moves_zone, last_item, first_item, rolled, one, last_changed, first_changed}
 use Rattle.edits.specs.Laws.{item_at, item_or, ticks_or, zoned, roll_law}
 use Rattle.edits.specs.Good.{IsHeld, IsMoved, IsBefore, IsBehind}
 use Rattle.coord.proofs.LookSteps.{missed_before, missed_behind, is_within}
-use Rattle.cuts_law.proofs.Splice.{AreClear}
-use Rattle.cuts_law.proofs.Seams.{items_clear}
-use Rattle.cuts_law.proofs.Pieces.{looks_append, append_looks, olds_look}
+use Rattle.edits_law.proofs.Splice.{AreClear}
+use Rattle.edits_law.proofs.Seams.{items_clear}
+use Rattle.edits_law.proofs.Pieces.{looks_append, append_looks, olds_look}
 use Rattle.edits_law.proofs.Shaped.{longer, shifted, shifted_item, clear_later, clear_first, good_first, total_join}
 use Rattle.edits_law.proofs.Rolls.{Heads, Tails, Rolls, old_list, new_list, roll_before, roll_head, roll_middle, roll_tail, roll_behind}
 use Rattle.edits_law.proofs.Ends.{head_item, head_none, tail_item, tail_none}

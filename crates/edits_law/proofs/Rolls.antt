@@ -3,10 +3,10 @@ use Rattle.std.proofs.Common.{◌≡◌, sym, ap, ◌∙◌, ℤ, pos, ◌+ℤ�
 use Rattle.std.specs.Int.{int_min, int_max}
 use Rattle.std.proofs.lemmas.Int.{ints, clamps}
 use Rattle.coord.specs.Looks.{Show, Look, item_shows, list_shows, total}
-use Rattle.cuts.specs.Splices.{AreGood, IsItem, AreItems}
+use Rattle.edits.specs.Splices.{AreGood, IsItem, AreItems}
 use Rattle.coord.proofs.LookSteps.{item_past, item_hit}
-use Rattle.cuts_law.proofs.Splice.{IsLater, AreClear}
-use Rattle.cuts_law.proofs.Seams.{total_low, item_append, seam_behind, items_later, items_good, items_clear}
+use Rattle.edits_law.proofs.Splice.{IsLater, AreClear}
+use Rattle.edits_law.proofs.Seams.{total_low, item_append, seam_behind, items_later, items_good, items_clear}
 use Rattle.edits_law.proofs.Shaped.{shifted, shifted_item, total_join, clear_earlier, clear_later, clear_join, good_join, later_clear, zone_shows}
 
 -- what stands before the item, with a head moved by h: n becomes m

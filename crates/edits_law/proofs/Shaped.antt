@@ -4,10 +4,10 @@ use Rattle.std.proofs.Common.{◌≡◌, refl, sym, subst, ap, ◌∙◌, inl, i
 use Rattle.std.proofs.lemmas.Int.{ints, by_lt_z}
 use Rattle.coord.specs.Looks.{Show, Look, item_shows, next_shows, from_end, mix_shows, blank, list_shows, total}
 use Rattle.otio_model.specs.Overlaps.{within}
-use Rattle.cuts.specs.Splices.{AreGood, IsItem}
+use Rattle.edits.specs.Splices.{AreGood, IsItem}
 use Rattle.coord.proofs.LookSteps.{look_kind, item, transition, item_past, item_hit, mix_item, mix_miss, side_item, missed_behind, missed_before}
-use Rattle.cuts_law.proofs.Splice.{IsLater, AreClear, mix_step, side_transition, shows_same, quiet, not_held}
-use Rattle.cuts_law.proofs.Seams.{total_low}
+use Rattle.edits_law.proofs.Splice.{IsLater, AreClear, mix_step, side_transition, shows_same, quiet, not_held}
+use Rattle.edits_law.proofs.Seams.{total_low}
 
 -- ---- what keeps clear of a zone
 

@@ -7,16 +7,16 @@ use Rattle.otio_model.specs.declared.compositions.ItemOf.{ItemOf}
 use Rattle.otio_model.specs.declared.compositions.Listed.{Listed}
 use Rattle.coord.specs.Looks.{Look, list_shows, total}
 use Rattle.coord.specs.Sights.{View, sight, seen, looks, overlap_of}
-use Rattle.cuts.specs.Splices.{AreGood, IsItem}
-use Rattle.cuts.specs.Children.{Old, ticks, seen_child, child_looks}
-use Rattle.cuts.specs.Cuts.{strip, olds}
+use Rattle.edits.specs.Splices.{AreGood, IsItem}
+use Rattle.edits.specs.Children.{Old, ticks, seen_child, child_looks}
+use Rattle.edits.specs.Cuts.{strip, olds}
 use Rattle.edits.specs.Edges.{Held, start, moved, left_before, left_behind, slide_zone, last_item, slid, slipped, slip_by, slipped_item, one, last_changed}
 use Rattle.edits.specs.Laws.{item_at, slide_law, slip_law}
 use Rattle.edits.specs.Good.{IsHeld}
 use Rattle.coord.proofs.LookSteps.{item_hit}
-use Rattle.cuts_law.proofs.Splice.{AreClear}
-use Rattle.cuts_law.proofs.Seams.{items_good, items_clear, item_append}
-use Rattle.cuts_law.proofs.Pieces.{looks_append, append_looks, olds_look}
+use Rattle.edits_law.proofs.Splice.{AreClear}
+use Rattle.edits_law.proofs.Seams.{items_good, items_clear, item_append}
+use Rattle.edits_law.proofs.Pieces.{looks_append, append_looks, olds_look}
 use Rattle.edits_law.proofs.Shaped.{longer, longer_item, same_to, clear_earlier, clear_later, clear_join, clear_first, good_join, good_first, later_clear, zone_shows, total_join}
 use Rattle.edits_law.proofs.Rolls.{parts_behind}
 use Rattle.edits_law.proofs.Beside.{total_strip, Ending, bare, last, ending, last_put}

@@ -5,13 +5,13 @@ use Rattle.std.proofs.lemmas.Int.{ints, by_lt_z}
 use Rattle.otio_model.specs.declared.compositions.ItemOf.{ItemOf}
 use Rattle.otio_model.specs.declared.compositions.Listed.{Listed}
 use Rattle.coord.specs.Sights.{overlap_of}
-use Rattle.cuts.specs.Splices.{is_stripped}
-use Rattle.cuts.specs.Children.{ticks}
-use Rattle.cuts.specs.Cuts.{strip}
+use Rattle.edits.specs.Splices.{is_stripped}
+use Rattle.edits.specs.Children.{ticks}
+use Rattle.edits.specs.Cuts.{strip}
 use Rattle.edits.specs.Edges.{added}
 use Rattle.edits.specs.Narrow.{is_met, any_met, ahead, onward, up_to_met, past_met, touched, beyond}
 use Rattle.edits_law.proofs.Parted.{IsApart, le_yes}
-use Rattle.cuts_law.proofs.Splice.{cases}
+use Rattle.edits_law.proofs.Splice.{cases}
 
 pub or_false : (a b : Bool) → (a || b) ≡ false → (a ≡ false) × (b ≡ false)
 or_false true b e = absurd (cc e)

@@ -6,12 +6,12 @@ use Rattle.otio_model.specs.declared.compositions.ItemOf.{ItemOf}
 use Rattle.otio_model.specs.declared.compositions.Listed.{Listed}
 use Rattle.otio_model.specs.Trees.{is_transition}
 use Rattle.coord.specs.Sights.{overlap_of}
-use Rattle.cuts.specs.Splices.{is_stripped}
-use Rattle.cuts.specs.Children.{Child, ticks}
-use Rattle.cuts.specs.Cuts.{olds}
+use Rattle.edits.specs.Splices.{is_stripped}
+use Rattle.edits.specs.Children.{Child, ticks}
+use Rattle.edits.specs.Cuts.{olds}
 use Rattle.edits.specs.Edges.{added, last_changed, first_changed, last_item}
 use Rattle.edits.specs.Narrow.{is_met, any_met, ahead, onward, up_to_met, touched}
-use Rattle.cuts_law.proofs.Splice.{cases}
+use Rattle.edits_law.proofs.Splice.{cases}
 use Rattle.edits_law.proofs.Parted.{le_yes}
 use Rattle.edits_law.proofs.NarrowEdges.{added_split}
 

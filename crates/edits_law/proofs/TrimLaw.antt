@@ -10,16 +10,16 @@ use Rattle.otio_model.specs.Overlaps.{within}
 use Rattle.coord.specs.Sights.{View, sight, seen, looks, overlap_of}
 use Rattle.otio_model.specs.Lengths.{trimmed_start}
 use Rattle.otio_model.specs.Trees.{is_transition}
-use Rattle.cuts.specs.Splices.{AreGood, empty}
-use Rattle.cuts.specs.Children.{Child, Old, Ranged, ticks, seen_child, child_looks, new_gap}
-use Rattle.cuts.specs.Cuts.{olds}
+use Rattle.edits.specs.Splices.{AreGood, empty}
+use Rattle.edits.specs.Children.{Child, Old, Ranged, ticks, seen_child, child_looks, new_gap}
+use Rattle.edits.specs.Cuts.{olds}
 use Rattle.edits.specs.Edges.{Held, start, end, Moves, left_before, left_behind, moves_zone, last_item, first_item, trimmed, trimmed_before, trimmed_behind, grown, gap_of, gap_ticks, is_gap, is_zero, last_changed, first_changed}
 use Rattle.edits.specs.Laws.{trim_law}
 use Rattle.edits.specs.Good.{IsHeld, IsMoved, IsTrimmedBefore, IsTrimmedBehind}
 use Rattle.coord.proofs.LookSteps.{missed_before, missed_behind, is_within}
-use Rattle.cuts_law.proofs.Splice.{AreClear, cases}
-use Rattle.cuts_law.proofs.Seams.{items_clear}
-use Rattle.cuts_law.proofs.Pieces.{looks_append, append_looks, olds_look}
+use Rattle.edits_law.proofs.Splice.{AreClear, cases}
+use Rattle.edits_law.proofs.Seams.{items_clear}
+use Rattle.edits_law.proofs.Pieces.{looks_append, append_looks, olds_look}
 use Rattle.edits_law.proofs.Shaped.{longer, shifted, clear_earlier, clear_later, clear_first, good_first, total_join, later_clear}
 use Rattle.edits_law.proofs.Rolls.{Heads, Tails}
 use Rattle.edits_law.proofs.Ends.{head_item, head_gone, head_new, head_none, tail_item, tail_gone, tail_new, tail_none, tail_end, empty_item}

@@ -5,7 +5,7 @@ ghost use Rattle.otio_model.specs.declared.compositions.ItemOf.{ItemOf};
 ghost use Rattle.otio_model.specs.declared.compositions.Listed.{Listed};
 ghost use Rattle.coord.specs.Looks.{list_shows};
 ghost use Rattle.coord.specs.Sights.{View};
-ghost use Rattle.cuts.specs.Children.{child_looks, ticks};
+ghost use Rattle.edits.specs.Children.{child_looks, ticks};
 ghost use Rattle.edits.specs.Edges.{Held, Moves, first_item, last_item};
 ghost use Rattle.edits.specs.Edges as edges;
 ghost use Rattle.edits.specs.Good.{IsBefore, IsBehind, IsHeld, IsMoved, IsTrimmedBefore};

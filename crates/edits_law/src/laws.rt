@@ -8,7 +8,7 @@ ghost use Rattle.otio_model.specs.declared.timelines.Timeline.{Timeline};
 ghost use Rattle.coord.specs.Looks.{list_shows};
 ghost use Rattle.coord.specs.Sights.{View, looks};
 ghost use Rattle.coord.specs.Soundness.{fault_of};
-ghost use Rattle.cuts.specs.Children.{all_made};
+ghost use Rattle.edits.specs.Children.{all_made};
 ghost use Rattle.edits.specs.After.{frame_of, list_of, rate_of};
 ghost use Rattle.edits.specs.Edits.{edited};
 ghost use Rattle.edits.specs.Good.{AreFair, Suits};

@@ -2,7 +2,7 @@
 use Rattle.std.proofs.Common.{ℤ, pos, negsuc, ◌*ℤ◌, arith}
 use Rattle.std.proofs.lemmas.Int.{ints}
 use Rattle.std.proofs.lemmas.Nat.{mul-le}
-use Rattle.edl_conform.specs.Ranges.{IsLess, IsSmall}
+use Rattle.edl_conform.specs.ConformedRanges.{IsLess, IsSmall}
 
 pub product_less : (a b : ℤ) → IsSmall a → IsSmall b → IsLess (a *ℤ b)
 product_less (pos a) (pos b) h k =

@@ -1,5 +1,14 @@
--- What the code of conform speaks of. No public contract cites it.
-pub mod Ranges
+-- The list of a timeline and its children, as the code keeps them, and what the code of conform
+-- speaks of.
+pub mod ConformedRanges
 pub mod Uses
 pub mod Fits
 pub mod Steps
+pub mod Stated
+pub mod Seated
+pub mod Starts
+pub mod Ranges
+pub mod Shots
+pub mod Drafts
+pub mod Tenths
+pub mod Walk

@@ -7,7 +7,7 @@ ghost use Rattle.std.specs.Ordering.{int_eq};
 ghost use Rattle.edl_list.specs.Speeds as speeds;
 ghost use Rattle.edl_frames.specs.Conformed as conformed;
 ghost use Rattle.edl_conform.specs.Fits.{FitsBefore, FitsSide};
-ghost use Rattle.edl_conform.specs.Ranges.{IsLess, IsSmall};
+ghost use Rattle.edl_conform.specs.ConformedRanges.{IsLess, IsSmall};
 
 use crate::speeds::speed_of;
 use edl_list::{Event, Reel, Side};

@@ -10,7 +10,7 @@ ghost use Rattle.edl_frames.specs.Refused as refused;
 ghost use Rattle.edl_frames.specs.Refused.{use_of};
 ghost use Rattle.edl_frames.specs.Shown as shown;
 ghost use Rattle.edl_conform.specs.Fits.{FitsEvent, FitsSide};
-ghost use Rattle.edl_conform.specs.Ranges.{IsLess, IsShown, IsSmall};
+ghost use Rattle.edl_conform.specs.ConformedRanges.{IsLess, IsShown, IsSmall};
 ghost use Rattle.edl_conform.specs.Uses as uses;
 ghost use Rattle.edl_conform.specs.Uses.{uses_fault};
 

@@ -12,8 +12,8 @@ ghost use Rattle.edl_conform.specs.Fits.{AreAhead};
 ghost use Rattle.edl_conform.specs.Steps.{AddsTrack, HasAllAhead, HasTrackItems};
 
 use crate::channels::has_events;
+use crate::conformed_tracks::items_on;
 use crate::times::frames;
-use crate::tracks::items_on;
 use edl_list::{Channel, Event, EventList};
 use json_value::Members;
 use media_list::MediaList;

@@ -1,211 +1,181 @@
-//! The items of a channel.
+//! The events of a timeline's tracks.
 
-ghost use Rattle.std.specs.Prelude.{◌≡◌, ◌≤◌, ◌≤ℤ◌, ◌-ℤ◌, ◌*ℤ◌, pos, codes, Some, None, IfOk};
-ghost use Rattle.std.specs.Prelude.{OnOk};
-ghost use Rattle.std.specs.Option.{option_copied};
-ghost use Rattle.tick_time.specs.Rates.{frame};
-ghost use Rattle.tick_time.specs.Times.{IsInRange};
-ghost use Rattle.edl_list.specs.Laws.{IsTimed};
-ghost use Rattle.edl_list.specs.Speeds.{count_of};
-ghost use Rattle.edl_frames.specs.Conformed as conformed;
-ghost use Rattle.edl_frames.specs.Conformed.{pair_as};
-ghost use Rattle.edl_frames.specs.Shown as shown;
-ghost use Rattle.edl_conform.specs.Fits.{AreAhead, FitsAt, FitsBefore, FitsEvent, FitsSide};
-ghost use Rattle.edl_conform.specs.Steps.{AddsEvent, AddsLead, AddsSpace};
+ghost use Rattle.std.specs.Prelude.{◌≡◌, ◌==◌, ◌<◌, ◌^◌, not, ◌&&◌, nat_le, length, [], Some, None, IfErr, IfOk, List, OnOk};
+ghost use Rattle.otio_model.specs.Counts.{count, count_of};
+ghost use Rattle.otio_model.specs.Trees.{items_of};
+ghost use Rattle.otio_model.specs.declared.compositions.ItemOf.{ItemOf as AnyItem};
+ghost use Rattle.otio_model.specs.declared.compositions.ItemOf.TheVariants as items;
+ghost use Rattle.otio_model.specs.declared.compositions.Listed.{Listed};
+ghost use Rattle.coord.specs.Soundness.{AreFaultless, IsFaultlessItem};
+ghost use Rattle.edl_frames.specs.Carried as carried;
+ghost use Rattle.edl_frames.specs.Carried.{examine, examine_all, examine_track, first_said};
+ghost use Rattle.edl_conform.specs.Stated.{stated_job};
+ghost use Rattle.edl_conform.specs.Walk as walk;
+ghost use Rattle.edl_conform.specs.Walk.{AddsRoot, AddsTrack, AreGathered, AreTaken, IsSaid};
 
-use crate::channels::is_on;
-use crate::items::{clip_of, gap_of, transition_of};
-use crate::look_ups::row_of;
-use crate::outgoing::serves;
-use crate::speeds::speed_of;
-use crate::wipes::wipe_type;
-use edl_list::{Channel, Cross, Event, Reel, Side};
-use media_list::MediaList;
-use otio_model::Item;
-use sequences::Text;
-use std::alloc::{AllocError, Global};
-use tick_time::Rate;
+use crate::children::put_children;
+use crate::job::Job;
+use crate::refusing::{at_child, at_track};
+use edl_frames::{NotCarried, Why};
+use edl_list::{Channel, Event};
+use otio_model::{Children, Item, ItemOf, Track};
+use std::alloc::Global;
 
-/// The item of a side, so many frames of the record long: a gap for black, else a clip.
-fn item_of(
-    alloc: Global,
-    rate: Rate,
-    media: Option<&MediaList>,
-    side: &Side,
-    count: i64,
-) -> Result<Item, AllocError>
-    requires timecode { 1 ≤ count_of rate }
-    requires count { pos 0 ≤ℤ count }
-    requires lasts { IsInRange (count *ℤ pos (frame rate.num rate.den)) }
-    requires side { FitsSide rate side.now }
-    ensures { IfOk result
-        (conformed.IsItem rate (option_copied media.entry) side.now count) }
+/// How many Video and how many Audio tracks have a channel.
+#[derive(Clone, Copy)]
+pub(crate) struct Taken {
+    pub(crate) video: u8,
+    pub(crate) audio: u8,
+}
+
+/// The channel of a track behind these.
+fn channel_behind(taken: Taken, track: &Track) -> Option<Channel>
+    ensures { result ≡ walk.channel_behind taken track.now }
 {
-    match &side.reel {
-        Reel::Black => Ok(gap_of(alloc, rate, count)),
-        Reel::Named(reel) => clip_of(
-            alloc,
-            rate,
-            row_of(media, reel),
-            side,
-            reel,
-            speed_of(rate, side),
-            count,
-        ),
+    let kind = track.kind.as_str();
+    if kind == "Video" {
+        return if taken.video == 0 {
+            Some(Channel::V)
+        } else {
+            None
+        };
+    }
+    if kind == "Audio" {
+        return sound_channel(taken);
+    }
+    None
+}
+
+/// The channel of an Audio track behind these.
+fn sound_channel(taken: Taken) -> Option<Channel>
+    ensures { result ≡ walk.sound_behind taken }
+{
+    if taken.audio == 0 {
+        return Some(Channel::A);
+    }
+    if taken.audio == 1 {
+        return Some(Channel::A2);
+    }
+    None
+}
+
+/// These and a track on the channel.
+fn after(channel: Channel, taken: Taken) -> Taken
+    ensures { result ≡ walk.taken_after channel taken }
+{
+    match channel {
+        Channel::V => Taken {
+            video: 1,
+            audio: taken.audio,
+        },
+        Channel::A => Taken {
+            video: taken.video,
+            audio: 1,
+        },
+        Channel::A2 => Taken {
+            video: taken.video,
+            audio: 2,
+        },
     }
 }
 
-/// Puts a gap up to a record frame behind the items, where it lies behind.
-fn put_space(
-    alloc: Global,
-    rate: Rate,
-    at: i64,
-    to: i64,
-    items: &mut Vec<Item>,
-) -> Result<(), AllocError>
-    requires at { IsTimed rate at }
-    requires to { IsTimed rate to }
-    requires later { at ≤ℤ to }
-    requires gap { IsTimed rate (to -ℤ at) }
-    ensures { OnOk result (AddsSpace rate at to items.old.items items.new.items) }
+/// Whether a track has neither a source range nor effects.
+fn is_plain(track: &Track) -> bool
+    ensures { result ≡ carried.is_plain track.now }
 {
-    if at < to {
-        items.push(gap_of(alloc, rate, to - at))?;
-    }
-    Ok(())
+    track.source_range.is_none() && track.effects.as_slice().is_empty()
 }
 
-/// Puts what stands before the item of a pair behind the items: the outgoing side, where nothing
-/// serves as it, and the transition.
-fn put_pair(
+/// Puts the events of a track behind the others; of one that is disabled there are none.
+fn put_track(
     alloc: Global,
-    rate: Rate,
-    media: Option<&MediaList>,
-    before: Option<&Event>,
-    at: i64,
-    kind: Text,
-    count: u16,
-    from: &Side,
-    items: &mut Vec<Item>,
-) -> Result<(), AllocError>
-    requires timecode { 1 ≤ count_of rate }
-    requires before { FitsBefore rate (option_copied before) }
-    requires lasts { IsInRange (pos count *ℤ pos (frame rate.num rate.den)) }
-    requires from { FitsSide rate from.now }
-    ensures { OnOk result (AddsLead rate (option_copied media.entry)
-        (option_copied before.entry) at (Some (pair_as kind count from.now))
-        items.old.items items.new.items) }
+    job: &Job<'_>,
+    channel: Channel,
+    index: u32,
+    track: &Track,
+    events: &mut Vec<Event>,
+) -> Result<(), NotCarried>
+    requires few { count track.now.children < 2 ^ 32 }
+    requires sound { IsFaultlessItem (items.Track track.now) }
+    ensures added { OnOk result (AddsTrack (stated_job job.now) channel index track.now
+        events.old.items events.new.items) }
+    ensures refused { IfErr result (IsSaid
+        (first_said (examine_track (stated_job job.now) index track.now (Some channel)))) }
 {
-    if serves(rate, before, at, from) {
-        items.push(transition_of(alloc, rate, kind, count))?;
+    if !track.enabled {
         return Ok(());
     }
-    let side = item_of(alloc, rate, media, from, 0)?;
-    items.push(side)?;
-    items.push(transition_of(alloc, rate, kind, count))?;
-    Ok(())
-}
-
-/// The type of a dissolve.
-fn dissolve_type(alloc: Global) -> Result<Text, AllocError>
-    ensures { IfOk result (λ kind. kind ≡ codes "SMPTE_Dissolve") }
-{
-    Text::of(alloc, "SMPTE_Dissolve")
-}
-
-/// Puts what stands before an event's item behind the items.
-fn put_lead(
-    alloc: Global,
-    rate: Rate,
-    media: Option<&MediaList>,
-    before: Option<&Event>,
-    event: &Event,
-    items: &mut Vec<Item>,
-) -> Result<(), AllocError>
-    requires timecode { 1 ≤ count_of rate }
-    requires before { FitsBefore rate (option_copied before) }
-    requires event { FitsEvent rate event.now }
-    ensures { OnOk result (AddsLead rate (option_copied media.entry)
-        (option_copied before.entry) event.now.rec_in (conformed.pair_of event.now.cross)
-        items.old.items items.new.items) }
-{
-    let at = event.rec_in;
-    match &event.cross {
-        Cross::Cut => Ok(()),
-        Cross::Dissolve { frames, from } => {
-            let kind = dissolve_type(alloc)?;
-            put_pair(
-                alloc,
-                rate,
-                media,
-                before,
-                at,
-                kind,
-                *frames,
-                from.get(),
-                items,
-            )
-        }
-        Cross::Wipe { code, frames, from } => {
-            let kind = wipe_type(alloc, *code)?;
-            put_pair(
-                alloc,
-                rate,
-                media,
-                before,
-                at,
-                kind,
-                *frames,
-                from.get(),
-                items,
-            )
-        }
+    if !is_plain(track) {
+        return Err(at_track(alloc, index, Why::Nested));
+    }
+    match put_children(alloc, job, channel, &track.children, events) {
+        Ok(None) => Ok(()),
+        Ok(Some(stop)) => Err(at_child(alloc, index, stop.index, stop.why)),
+        Err(_) => Err(NotCarried::Memory),
     }
 }
 
-/// Puts what stands for an event behind the items, where the track has come to a record frame.
-fn put_event(
+/// Puts the events of a root child behind the others, and answers which tracks have a channel then.
+fn put_root(
     alloc: Global,
-    rate: Rate,
-    media: Option<&MediaList>,
-    before: Option<&Event>,
-    at: i64,
-    event: &Event,
-    items: &mut Vec<Item>,
-) -> Result<(), AllocError>
-    requires { FitsAt rate (option_copied before) at event.now }
-    ensures { OnOk result (AddsEvent rate (option_copied media.entry)
-        (option_copied before.entry) at event.now items.old.items items.new.items) }
+    job: &Job<'_>,
+    taken: Taken,
+    index: u32,
+    item: &Item,
+    events: &mut Vec<Event>,
+) -> Result<Taken, NotCarried>
+    requires few { count_of item.now < 2 ^ 32 }
+    requires sound { IsFaultlessItem item.now }
+    ensures added { IfOk result (λ next. (past : List (AnyItem Listed)) → AreTaken past taken
+        → AddsRoot (stated_job job.now) index past item.now next events.old.items
+        events.new.items) }
+    ensures refused { IfErr result (λ fault. (past : List (AnyItem Listed)) → AreTaken past taken
+        → IsSaid (first_said (examine (stated_job job.now) index past item.now)) fault) }
 {
-    put_space(alloc, rate, at, event.rec_in, items)?;
-    put_lead(alloc, rate, media, before, event, items)?;
-    let item = item_of(alloc, rate, media, &event.to, event.rec_out - event.rec_in)?;
-    items.push(item)?;
-    Ok(())
+    match item {
+        ItemOf::Track(track) => match channel_behind(taken, track) {
+            Some(channel) => match put_track(alloc, job, channel, index, track, events) {
+                Ok(()) => Ok(after(channel, taken)),
+                Err(fault) => Err(fault),
+            },
+            None => Err(at_track(alloc, index, Why::Tracks)),
+        },
+        _ => Err(at_track(alloc, index, Why::Tracks)),
+    }
 }
 
-/// The items of a channel's events, from the list's first record frame on.
-pub(crate) fn items_on(
+/// The events of all tracks, one track after another.
+///
+/// # Errors
+/// The first place of which something is said, with the first reason; or want of memory.
+pub(crate) fn gather(
     alloc: Global,
-    rate: Rate,
-    media: Option<&MediaList>,
-    events: &[Event],
-    channel: Channel,
-    first: i64,
-) -> Result<Vec<Item>, AllocError>
-    requires { AreAhead rate None first (shown.on_channel channel events.now) }
-    ensures { IfOk result (λ items. conformed.AreItems rate (option_copied media.entry) None
-        first (shown.on_channel channel events.now) items.items) }
+    job: &Job<'_>,
+    tracks: &Children,
+) -> Result<Vec<Event>, NotCarried>
+    requires few { count tracks.now < 2 ^ 32 }
+    requires sound { AreFaultless tracks.now }
+    ensures gathered { IfOk result
+        (λ events. AreGathered (stated_job job.now) (items_of tracks.now) events.items) }
+    ensures carried { OnOk result
+        (first_said (examine_all (stated_job job.now) 0 [] (items_of tracks.now)) ≡ None) }
+    ensures refused { IfErr result (IsSaid
+        (first_said (examine_all (stated_job job.now) 0 [] (items_of tracks.now)))) }
 {
-    let mut items = Vec::new(alloc);
-    let mut before: Option<&Event> = None;
-    let mut at = first;
-    'events: for event in events {
-        if is_on(channel, event) {
-            put_event(alloc, rate, media, before, at, event, &mut items)?;
-            before = Some(event);
-            at = event.rec_out;
+    let mut events = Vec::new(alloc);
+    let mut taken = Taken { video: 0, audio: 0 };
+    'tracks: for index in 0..tracks.len() {
+        match put_root(
+            alloc,
+            job,
+            taken,
+            index as u32,
+            tracks.child(index),
+            &mut events,
+        ) {
+            Ok(next) => taken = next,
+            Err(fault) => return Err(fault),
         }
     }
-    Ok(items)
+    Ok(events)
 }

@@ -2,16 +2,16 @@
 use Rattle.std.proofs.Common.{◌≡◌, ◌<◌, ◌≤◌, ◌+◌, ◌^◌, ℕ, Bool, List, [], ◌∷◌, ◌++◌, All, length, refl, sym, ap, ◌∙◌, append-nil, append_assoc, arith}
 use Rattle.std.proofs.lemmas.List.Elements.{All-head, All-tail}
 use Rattle.tick_time.specs.declared.rates.Rate.{Rate}
-use Rattle.edl_line.specs.Statements.{Statement}
+use Rattle.edl_text.specs.Statements.{Statement}
 use Rattle.edl_list.specs.declared.list.Event.{Event}
 use Rattle.edl_list.specs.Formed.{IsEvent}
 use Rattle.edl_list.specs.Speeds.{day_of}
 use Rattle.edl_list.specs.Alike.{IsSameEvent, AreSame}
 use Rattle.edl_list.specs.Labelled.{IsLabelled}
 use Rattle.edl_list.specs.declared.layout.Layout.{Layout}
-use Rattle.edl_layout.specs.Columns.{AreWidths}
-use Rattle.edl_layout.specs.Rows.{event_lines}
-use Rattle.edl_layout.specs.Spelling.{lines_from}
+use Rattle.edl_text.specs.Columns.{AreWidths}
+use Rattle.edl_text.specs.Rows.{event_lines}
+use Rattle.edl_text.specs.Spelling.{lines_from}
 use Rattle.edl_text.specs.Past.{mode_in, blocks_in}
 use Rattle.edl_text.specs.Events.{events_of}
 use Rattle.edl_text.specs.Lines.{AreSound}

@@ -2,7 +2,7 @@
 use Rattle.std.proofs.Common.{◌≡◌, ◌<◌, ◌≤◌, ◌==◌, ◌&&◌, ◌||◌, ◌+◌, ◌-◌, ℕ, ℤ, pos, ◌≤ℤ◌, ◌<ℤ◌, ◌+ℤ◌, Bool, true, false, not, is_some, nat_lt, List, [], ◌∷◌, Some, None, Option, map, unwrap_or, unsigned_abs, if◌then◌else◌, refl, ap, ap₂, ◌∙◌, arith}
 use Rattle.std.proofs.lemmas.Int.{ints}
 use Rattle.tick_time.specs.declared.rates.Rate.{Rate}
-use Rattle.edl_line.specs.Statements.{Statement}
+use Rattle.edl_text.specs.Statements.{Statement}
 use Rattle.edl_list.specs.declared.list.Channel.{Channel}
 use Rattle.edl_list.specs.declared.list.Reel.{Reel}
 use Rattle.edl_list.specs.declared.list.Cross.{Cross}
@@ -10,7 +10,7 @@ use Rattle.edl_list.specs.declared.list.Cross.TheVariants.{Cut}
 use Rattle.edl_list.specs.declared.list.Event.{Event}
 use Rattle.edl_list.specs.Speeds.{side_speed}
 use Rattle.edl_list.specs.Alike.{IsSameCross}
-use Rattle.edl_layout.specs.Columns.{label_text}
+use Rattle.edl_text.specs.Columns.{label_text}
 use Rattle.edl_list.specs.Labelled.{IsBelowDay}
 use Rattle.edl_text.specs.declared.faults.EdlFault.TheVariants.{Form, Timecode, Order}
 use Rattle.smpte_tc.specs.Frames.{label_frame}

@@ -2,9 +2,9 @@
 use Rattle.std.proofs.Common.{◌≡◌, ◌<◌, ◌≤◌, ℕ, ℤ, suc, ◌≤ℤ◌, Bool, true, false, cond, nat_lt, List, [], ◌∷◌, ◌++◌, Some, None, Option, length, if◌then◌else◌, refl, sym, ap, ap₂, subst, ◌∙◌, append-nil, arith}
 use Rattle.std.proofs.lemmas.Int.{ints}
 use Rattle.tick_time.specs.declared.rates.Rate.{Rate}
-use Rattle.edl_line.specs.Statements as said
-use Rattle.edl_line.specs.Statements.{Statement, EventLine, Speed}
-use Rattle.edl_line.specs.declared.statement.Kind.TheVariants as kinds
+use Rattle.edl_text.specs.Statements as said
+use Rattle.edl_text.specs.Statements.{Statement, EventLine, Speed}
+use Rattle.edl_text.specs.declared.statement.Kind.TheVariants as kinds
 use Rattle.edl_list.specs.declared.list.Channel.{Channel}
 use Rattle.edl_list.specs.declared.list.Side.{Side}
 use Rattle.edl_list.specs.declared.list.Cross.{Cross}
@@ -13,9 +13,9 @@ use Rattle.edl_list.specs.declared.list.Event.{Event}
 use Rattle.edl_list.specs.Formed.{IsSide, IsEvent, AreFrames}
 use Rattle.edl_list.specs.Speeds.{count_of, day_of, speed_of}
 use Rattle.edl_list.specs.Alike.{IsSameSide, IsSameCross}
-use Rattle.edl_layout.specs.Columns.{label_text, HasSmallNumbers}
+use Rattle.edl_text.specs.Columns.{label_text, HasSmallNumbers}
 use Rattle.edl_list.specs.Labelled.{IsLabelled, IsBelowDay, outgoing}
-use Rattle.edl_layout.specs.Rows.{event_lines, lines_with, name_lines, from_head, to_head, has_speed, needs_line, speed_lines_if, written_tenths}
+use Rattle.edl_text.specs.Rows.{event_lines, lines_with, name_lines, from_head, to_head, has_speed, needs_line, speed_lines_if, written_tenths}
 use Rattle.edl_text.specs.Past.{Block, mode_in, blocks_in}
 use Rattle.edl_text.specs.Sides as sides
 use Rattle.edl_text.specs.Sides.{reel_of, speeds_of, latest, duration, begun, from_side, incoming}

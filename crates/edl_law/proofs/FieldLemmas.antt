@@ -9,8 +9,8 @@ use Rattle.edl_list.specs.declared.list.Cross.{Cross}
 use Rattle.edl_list.specs.declared.list.Cross.TheVariants.{Cut, Dissolve, Wipe}
 use Rattle.edl_list.specs.declared.list.Channel.{Channel}
 use Rattle.edl_list.specs.declared.list.Channel.TheVariants.{V, A, A2}
-use Rattle.edl_layout.specs.Columns.{spaces, column, digits, code_width, kind_column, duration_column, channel_text, channel_width}
-use Rattle.edl_layout.specs.Rows.{event_line}
+use Rattle.edl_text.specs.Columns.{spaces, column, digits, code_width, kind_column, duration_column, channel_text, channel_width}
+use Rattle.edl_text.specs.Rows.{event_line}
 use Rattle.edl_law.proofs.SolidTexts.{solid, solid_blank, solid_digits}
 
 space_blank : is_blank 32 ≡ true

@@ -9,9 +9,9 @@ use Rattle.smpte_tc.specs.Answers.{ReadsAt, WritesAt}
 use Rattle.smpte_tc.proofs.WrittenLabels.{written_eleven, written_plain, read_as}
 use Rattle.smpte_tc.specs.Frames.{label_frame}
 use Rattle.smpte_tc.proofs.FrameLemmas.{frame_read}
-use Rattle.edl_layout.specs.Columns.{label_text}
+use Rattle.edl_text.specs.Columns.{label_text}
 use Rattle.edl_list.specs.Labelled.{IsBelowDay}
-use Rattle.edl_layout.proofs.Days.{text_written}
+use Rattle.edl_text.proofs.Days.{text_written}
 use Rattle.edl_law.proofs.SolidTexts.{solid_where}
 use Rattle.edl_law.proofs.FieldLemmas.{IsField}
 

@@ -7,11 +7,11 @@ use Rattle.text_lines.specs.Lines.{fields_of, trimmed, trimmed_front}
 use Rattle.text_lines.proofs.Places.{blank_is}
 use Rattle.text_lines.proofs.Splitting.{fields_end}
 use Rattle.text_lines.proofs.Trimming.{front_skips, tight_where, tight_back, trimmed_empty}
-use Rattle.edl_line.specs.Statements as said
-use Rattle.edl_line.specs.Saying.{Says, SaysTight, IsMode}
-use Rattle.edl_line.specs.Events.{IsKind, AreChannels}
-use Rattle.edl_line.specs.Numbers.{IsReel as IsReelField}
-use Rattle.edl_line.specs.Notes.{IsBehind, IsName}
+use Rattle.edl_text.specs.Statements as said
+use Rattle.edl_text.specs.Saying.{Says, SaysTight, IsMode}
+use Rattle.edl_text.specs.EventForms.{IsKind, AreChannels}
+use Rattle.edl_text.specs.Numbers.{IsReel as IsReelField}
+use Rattle.edl_text.specs.Notes.{IsBehind, IsName}
 use Rattle.edl_list.specs.declared.layout.Layout.{Layout}
 use Rattle.edl_list.specs.declared.list.Reel.{Reel}
 use Rattle.edl_list.specs.declared.list.Reel.TheVariants.{Black, Named}
@@ -20,9 +20,9 @@ use Rattle.edl_list.specs.declared.list.Channel.TheVariants.{V, A, A2}
 use Rattle.edl_list.specs.declared.list.Cross.{Cross}
 use Rattle.edl_list.specs.declared.list.Cross.TheVariants.{Cut, Dissolve, Wipe}
 use Rattle.edl_list.specs.Formed.{IsReel}
-use Rattle.edl_layout.specs.Columns.{digits, spaces, column, reel_text, channel_text, channel_width, kind_column, duration_column, HasSmallNumbers}
-use Rattle.edl_layout.specs.Rows.{event_line, from_head, to_head}
-use Rattle.edl_layout.specs.Spelling.{mode_line}
+use Rattle.edl_text.specs.Columns.{digits, spaces, column, reel_text, channel_text, channel_width, kind_column, duration_column, HasSmallNumbers}
+use Rattle.edl_text.specs.Rows.{event_line, from_head, to_head}
+use Rattle.edl_text.specs.Spelling.{mode_line}
 use Rattle.edl_law.proofs.SolidTexts.{solid, solid_blank, solid_where, solid_append, solid_digits, line_tight}
 use Rattle.edl_law.proofs.FieldLemmas.{IsField, append_some, labels_text, field_at, field_end, fields_space, fields_spaces, fields_column, kind_fields, fields_event, number_field}
 use Rattle.edl_law.proofs.NumberLemmas.{three_digits, tenths_text, IsNumbered, number_written}

@@ -3,7 +3,7 @@ use Rattle.std.proofs.Common.{◌≡◌, ℕ, true, List, [], ◌∷◌, ◌++�
 use Rattle.text_lines.specs.Lines.{lines_of}
 use Rattle.text_lines.proofs.Splitting.{lines_at, lines_last}
 use Rattle.text_lines.proofs.Returns.{return_none}
-use Rattle.edl_layout.specs.Spelling.{text_of}
+use Rattle.edl_text.specs.Spelling.{text_of}
 use Rattle.edl_law.proofs.SolidTexts.{shown, shown_feed, shown_return}
 
 -- each line is of bytes from the space on

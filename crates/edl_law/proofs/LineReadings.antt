@@ -11,10 +11,10 @@ use Rattle.edl_list.specs.declared.list.Cross.TheVariants.{Cut, Dissolve, Wipe}
 use Rattle.edl_list.specs.declared.list.Event.{Event}
 use Rattle.edl_list.specs.Formed.{IsReel, IsEvent, IsCross}
 use Rattle.edl_list.specs.Speeds.{day_of}
-use Rattle.edl_layout.specs.Columns.{digits, spaces, column, reel_text, channel_text, channel_width, kind_column, duration_column, label_text, cleaned}
-use Rattle.edl_layout.specs.Rows.{event_line, speed_lines, speed_lines_if, needs_line, has_speed, headed, name_lines, from_head, to_head, lines_with, event_lines, written_tenths}
+use Rattle.edl_text.specs.Columns.{digits, spaces, column, reel_text, channel_text, channel_width, kind_column, duration_column, label_text, cleaned}
+use Rattle.edl_text.specs.Rows.{event_line, speed_lines, speed_lines_if, needs_line, has_speed, headed, name_lines, from_head, to_head, lines_with, event_lines, written_tenths}
 use Rattle.edl_list.specs.Labelled.{outgoing, IsLabelled, IsBelowDay}
-use Rattle.edl_layout.specs.Spelling.{title_lines, mode_line, lines_from}
+use Rattle.edl_text.specs.Spelling.{title_lines, mode_line, lines_from}
 use Rattle.edl_law.proofs.SolidTexts.{shown, shown_append, shown_solid, shown_spaces, solid_digits}
 use Rattle.edl_law.proofs.LineLemmas.{AreShown, shown_lines}
 use Rattle.edl_law.proofs.FieldLemmas.{IsField, labels_text, channel_field}

@@ -11,7 +11,7 @@ use Rattle.text_lines.specs.First.{is_blank}
 use Rattle.text_lines.specs.Lines.{trimmed_front, trimmed}
 use Rattle.text_lines.proofs.Places.{blank_is}
 use Rattle.text_lines.proofs.Trimming.{trimmed_tight, all_trimmed}
-use Rattle.edl_layout.specs.Columns.{is_control, written_byte, cleaned}
+use Rattle.edl_text.specs.Columns.{is_control, written_byte, cleaned}
 use Rattle.edl_law.proofs.SolidTexts.{shown, both, first_of, second_of}
 
 high_plain : (b : ℕ) → 128 ≤ b → written_byte b ≡ b

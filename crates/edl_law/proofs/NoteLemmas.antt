@@ -2,12 +2,12 @@
 use Rattle.std.proofs.Common.{◌≡◌, ◌≤◌, ◌==◌, ℕ, suc, Bool, true, false, not, is_none, List, [], ◌∷◌, ◌++◌, Some, None, Option, length, IfSome, IsUtf8, refl, sym, ap, subst, ◌∙◌, arith}
 use Rattle.std.proofs.lemmas.Bool.Decides.{nat_tests}
 use Rattle.tick_time.specs.declared.rates.Rate.{Rate}
-use Rattle.edl_line.specs.Statements as said
-use Rattle.edl_line.specs.Statements.{Statement, EventLine, Event, Speed, FromName, ToName}
-use Rattle.edl_line.specs.Saying.{Says}
+use Rattle.edl_text.specs.Statements as said
+use Rattle.edl_text.specs.Statements.{Statement, EventLine, Event, Speed, FromName, ToName}
+use Rattle.edl_text.specs.Saying.{Says}
 use Rattle.edl_list.specs.declared.list.Reel.{Reel}
-use Rattle.edl_layout.specs.Columns.{cleaned}
-use Rattle.edl_layout.specs.Rows.{headed, name_lines, from_head, to_head}
+use Rattle.edl_text.specs.Columns.{cleaned}
+use Rattle.edl_text.specs.Rows.{headed, name_lines, from_head, to_head}
 use Rattle.edl_text.specs.Past.{Block, line_behind, mode_in, blocks_in, noted}
 use Rattle.edl_text.specs.declared.faults.EdlFault.TheVariants.{Form, Timecode, Reverse}
 use Rattle.smpte_tc.specs.Frames.{label_frame}

@@ -5,11 +5,11 @@ use Rattle.std.specs.Str.Parse.{AllDigits, digits_value}
 use Rattle.std.proofs.lemmas.Grind.{pow_more}
 use Rattle.std.proofs.lemmas.Int.Digits.{digits_push, digits_value_push}
 use Rattle.tick_time.proofs.Places.{digit_is}
-use Rattle.edl_line.specs.Numbers.{IsNumber}
-use Rattle.edl_line.specs.Speeds.{IsTenths}
+use Rattle.edl_text.specs.Numbers.{IsNumber}
+use Rattle.edl_text.specs.Speeds.{IsTenths}
 use Rattle.edl_list.specs.declared.layout.Layout.{Layout}
-use Rattle.edl_layout.specs.Columns.{digits}
-use Rattle.edl_layout.proofs.Widths.{length_digits}
+use Rattle.edl_text.specs.Columns.{digits}
+use Rattle.edl_text.proofs.Widths.{length_digits}
 
 pub one_digit : (n : ℕ) → IsNumber 1 (digits 1 n) (n % 10)
 one_digit n =

@@ -7,9 +7,9 @@ use Rattle.edl_list.specs.declared.list.Event.{Event}
 use Rattle.edl_list.specs.Formed.{AreInOrder, AreApart, rank}
 use Rattle.edl_list.specs.Speeds.{count_of, speed_of}
 use Rattle.edl_list.specs.Alike.{IsEvenEvent}
-use Rattle.edl_order.specs.Overlaps.{IsOverlap}
+use Rattle.edl_text.specs.Overlaps.{IsOverlap}
 use Rattle.edl_text.specs.Late.{IsUnequal, AreFine}
-use Rattle.edl_order.specs.Order.{StandsBefore}
+use Rattle.edl_text.specs.Order.{StandsBefore}
 use Rattle.edl_law.proofs.EventMatches.{Matches}
 use Rattle.edl_law.proofs.EventLists.{AreRising, AreMatched}
 

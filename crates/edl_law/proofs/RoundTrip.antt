@@ -2,21 +2,21 @@
 use Rattle.std.proofs.Common.{◌≡◌, ◌≤◌, ◌+◌, ◌^◌, ℕ, Bool, true, false, List, [], ◌∷◌, ◌++◌, None, IsUtf8, codes, length, unwrap_or, refl, sym, ap, subst, ◌∙◌, arith}
 use Rattle.std.proofs.lemmas.Str.{is_utf8-from_IsUtf8}
 use Rattle.tick_time.specs.declared.rates.Rate.{Rate}
-use Rattle.edl_line.specs.Statements as said
-use Rattle.edl_line.specs.Statements.{Statement}
-use Rattle.edl_line.specs.Saying.{Says}
+use Rattle.edl_text.specs.Statements as said
+use Rattle.edl_text.specs.Statements.{Statement}
+use Rattle.edl_text.specs.Saying.{Says}
 use Rattle.edl_list.specs.declared.list.EventList.{EventList}
 use Rattle.edl_list.specs.Alike.{IsSame}
-use Rattle.edl_layout.specs.Columns.{cleaned}
-use Rattle.edl_layout.specs.Rows.{headed}
-use Rattle.edl_layout.specs.Spelling.{spelling, list_lines, title_lines, mode_line, lines_from}
+use Rattle.edl_text.specs.Columns.{cleaned}
+use Rattle.edl_text.specs.Rows.{headed}
+use Rattle.edl_text.specs.Spelling.{spelling, list_lines, title_lines, mode_line, lines_from}
 use Rattle.edl_text.specs.Past.{Block, blocks_in, noted, title_in, first_mode_in}
 use Rattle.edl_text.specs.Events.{events_of}
 use Rattle.edl_text.specs.Lines.{AreSound, title_fault}
 use Rattle.edl_text.specs.Late.{AreFine}
 use Rattle.edl_text.specs.Lists.{IsList, events_in}
 use Rattle.edl_list.specs.Layouts.{layout_of, most_events}
-use Rattle.edl_layout.proofs.Widths.{widths_of}
+use Rattle.edl_text.proofs.Widths.{widths_of}
 use Rattle.edl_law.specs.Law.{HasText}
 use Rattle.edl_law.proofs.LineLemmas.{AreShown, shown_lines, lines_written}
 use Rattle.edl_law.proofs.LineForms.{title_says, mode_says, nothing_says}

@@ -1,15 +1,15 @@
 -- The speeds that are read of the sides of an event.
 use Rattle.std.proofs.Common.{◌≡◌, ◌≤◌, ◌+◌, ◌&&◌, ◌||◌, ℕ, Bool, true, false, cond, is_none, nat_lt, List, [], ◌∷◌, Some, None, length, if◌then◌else◌, refl, sym, ap, ap₂, ◌∙◌, arith}
 use Rattle.tick_time.specs.declared.rates.Rate.{Rate}
-use Rattle.edl_line.specs.Statements as said
-use Rattle.edl_line.specs.Statements.{Statement, EventLine, Speed}
+use Rattle.edl_text.specs.Statements as said
+use Rattle.edl_text.specs.Statements.{Statement, EventLine, Speed}
 use Rattle.edl_list.specs.declared.layout.Layout.{Layout}
 use Rattle.edl_list.specs.declared.list.Reel.{Reel}
 use Rattle.edl_list.specs.declared.list.Side.{Side}
 use Rattle.edl_list.specs.Formed.{IsReel, IsSide}
-use Rattle.edl_layout.specs.Columns.{label_text}
+use Rattle.edl_text.specs.Columns.{label_text}
 use Rattle.edl_list.specs.Labelled.{IsBelowDay}
-use Rattle.edl_layout.specs.Rows.{written_tenths, has_speed, has_one_reel, needs_line, speed_lines_if}
+use Rattle.edl_text.specs.Rows.{written_tenths, has_speed, has_one_reel, needs_line, speed_lines_if}
 use Rattle.edl_text.specs.Past.{Block}
 use Rattle.edl_text.specs.Sides.{reel_of, reel_at, is_one_reel, is_pair, speeds_of, latest, outgoing_speed, duration}
 use Rattle.edl_text.specs.Lines.{AreSound, has_side, one_if}

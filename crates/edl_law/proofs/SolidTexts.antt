@@ -7,7 +7,7 @@ use Rattle.text_lines.specs.First.{is_blank, begins_with_blank, HasNoBlank, HasN
 use Rattle.text_lines.specs.Lines.{trimmed}
 use Rattle.text_lines.proofs.Places.{blank_is}
 use Rattle.text_lines.proofs.Trimming.{tight_where}
-use Rattle.edl_layout.specs.Columns.{digits, spaces}
+use Rattle.edl_text.specs.Columns.{digits, spaces}
 
 -- each byte is above the space
 abbrev pub solid : List ℕ → Bool

@@ -11,7 +11,7 @@ use Rattle.edl_list.specs.declared.list.Side.{Side}
 use Rattle.edl_list.specs.Formed.{IsFrame, IsSpeed}
 use Rattle.edl_list.specs.Laws.{IsCount}
 use Rattle.edl_list.specs.Speeds.{count_of, day_of, half_even, speed_of, side_speed}
-use Rattle.edl_layout.specs.Rows.{written_tenths, has_speed}
+use Rattle.edl_text.specs.Rows.{written_tenths, has_speed}
 use Rattle.edl_law.proofs.TestLemmas.{number_is, is_less}
 
 count_by : (o : Option Mode) (n : ℤ) → ((m : Mode) → o ≡ Some m → IsMode m) → IsFrame (unwrap_or (option_map (λ mode. length (counted_of mode)) o) 0) n

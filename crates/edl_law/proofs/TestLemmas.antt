@@ -8,7 +8,7 @@ use Rattle.edl_list.specs.declared.list.Reel.TheVariants.{Black, Named}
 use Rattle.edl_list.specs.declared.list.Channel.{Channel}
 use Rattle.edl_list.specs.declared.list.Channel.TheVariants.{V, A, A2}
 use Rattle.edl_list.specs.Formed.{IsReel}
-use Rattle.edl_layout.specs.Columns.{reel_text}
+use Rattle.edl_text.specs.Columns.{reel_text}
 use Rattle.edl_text.specs.declared.faults.EdlFault.{EdlFault}
 use Rattle.edl_text.specs.Lines.{first_of, are_same_channels}
 use Rattle.edl_text.specs.Sides.{is_one_reel, reel_of}

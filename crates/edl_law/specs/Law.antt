@@ -7,7 +7,7 @@ use Rattle.edl_list.specs.Formed.{IsWellFormed}
 use Rattle.edl_list.specs.Alike.{IsEven, IsSame}
 use Rattle.edl_list.specs.Labelled.{outgoing, IsLabelled}
 use Rattle.edl_list.specs.Layouts.{layout_of, FitsLayout}
-use Rattle.edl_layout.specs.Spelling.{spelling}
+use Rattle.edl_text.specs.Spelling.{spelling}
 use Rattle.edl_text.specs.Lists.{IsList}
 use Rattle.limits.specs.Limits.{most_bytes}
 

@@ -3,7 +3,7 @@ ghost use Rattle.std.specs.Prelude.{◌≡◌};
 ghost use Rattle.edl_list.specs.Layouts.{layout_of, most_events as numbers};
 
 /// How wide the columns of a written list are that differ between its two layouts.
-#[derive(Clone, Copy, Debug, PartialEq, Eq)]
+#[derive(Clone, Copy, PartialEq, Eq)]
 pub struct Layout {
     /// The digits of the number of an event.
     pub number_width: usize,

@@ -11,7 +11,7 @@ pub const MOST_NUMBER: usize = 999;
 pub const MOST_TENTHS: u16 = 9_999;
 
 /// A channel of the record, in the order in which events of one record in stand.
-#[derive(Debug, Clone, Copy, PartialEq, Eq)]
+#[derive(Clone, Copy, PartialEq, Eq)]
 pub enum Channel {
     /// The picture.
     V,
@@ -22,7 +22,6 @@ pub enum Channel {
 }
 
 /// Where a side's frames come from.
-#[derive(Debug)]
 pub enum Reel {
     /// Black, or silence: `BL` in a list.
     Black,
@@ -33,7 +32,6 @@ pub enum Reel {
 
 /// One source of an event: the incoming one of a pair or that of a cut, or the outgoing one of a
 /// pair.
-#[derive(Debug)]
 pub struct Side {
     /// Where the frames come from.
     pub reel: Reel,
@@ -49,7 +47,6 @@ pub struct Side {
 }
 
 /// How an event begins.
-#[derive(Debug)]
 pub enum Cross {
     /// At once.
     Cut,
@@ -73,7 +70,6 @@ pub enum Cross {
 }
 
 /// One event of a list on one channel.
-#[derive(Debug)]
 pub struct Event {
     /// The line that it was read from, counted from 1: the second one of a pair. For an event of a
     /// timeline its place in the list, counted from 1.
@@ -95,7 +91,6 @@ pub struct Event {
 pub type EventSeq = Sequence<Event>;
 
 /// An edit decision list.
-#[derive(Debug)]
 pub struct EventList {
     /// The title, empty where the list has none.
     pub title: Text,

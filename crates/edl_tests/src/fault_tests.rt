@@ -4,14 +4,14 @@ use coord::CoordFault;
 use dev_io::{MemOut, OutBuffer, WriteFault};
 use edl_frames::{NotCarried, Why};
 use edl_text::EdlFault;
-use fault_text::{
-    Reason, coord_reason, day_reason, json_reason, list_reason, no_timecode_reason,
-    not_carried_reason, put_reason, reel_reason, schema_reason,
-};
 use json_text::JsonFault;
 use otio_model::Place;
 use schema_rows::SchemaFault;
 use sequences::Text;
+use source_files::{
+    Reason, coord_reason, day_reason, json_reason, list_reason, no_timecode_reason,
+    not_carried_reason, put_reason, reel_reason, schema_reason,
+};
 use std::alloc::Global;
 use std::process::Abort;
 
@@ -28,7 +28,7 @@ fn tells(rt: &impl Abort, alloc: Global, reason: Option<Reason>, wanted: &str) {
     let mut out = MemOut::new(alloc, 100).expect(rt, "a device");
     send(&mut out, &reason).expect(rt, "all sent");
     drop(reason);
-    assert_eq!(rt; out.sent(), wanted.as_bytes());
+    assert!(rt; out.sent() == wanted.as_bytes());
     drop(out);
 }
 

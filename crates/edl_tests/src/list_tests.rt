@@ -2,6 +2,7 @@
 ghost use Rattle.std.specs.Prelude.{◌≤ℤ◌, pos};
 
 use crate::film::rate_24;
+use crate::reader_tests::{dissolved_side, event_at};
 use edl_list::{Channel, Cross, Event, EventList, Reel, Side};
 use owned::Owned;
 use sequences::{Sequence, Text};
@@ -82,23 +83,19 @@ fn list_of_each_kind(rt: &impl Abort, alloc: Global) -> EventList {
     }
 }
 
-fn shown(rt: &impl Abort, alloc: Global, list: &EventList) -> String {
-    format!(in alloc; "{list:?}").expect(rt, "a text")
-}
-
-fn has_word(rt: &impl Abort, text: &str, word: &str) {
-    assert!(rt; text.contains(word), "{word}");
-}
-
 #[test]
 fn events_of_each_kind(rt: HostRuntime) {
-    let alloc = rt.alloc();
-    let list = list_of_each_kind(&rt, alloc);
-    assert_eq!(rt; list.title.as_str(), "of each kind");
-    assert_eq!(rt; list.events.len(), 3);
-    let shown = shown(&rt, alloc, &list);
+    let list = list_of_each_kind(&rt, rt.alloc());
+    assert!(rt; list.title.as_str() == "of each kind");
+    assert!(rt; list.events.len() == 3);
+    let from = dissolved_side(&rt, event_at(&rt, &list, 1), 12);
+    assert!(rt;
+        matches!(&from.reel, Reel::Named(name) if name.as_str() == "TAPE2"),
+        "TAPE2"
+    );
+    assert!(rt;
+        matches!(&event_at(&rt, &list, 2).cross, Cross::Wipe { .. }),
+        "Wipe"
+    );
     drop(list);
-    has_word(&rt, shown.as_str(), "TAPE2");
-    has_word(&rt, shown.as_str(), "Wipe");
-    drop(shown);
 }

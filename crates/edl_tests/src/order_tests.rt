@@ -1,6 +1,6 @@
 // Small lists of events.
 use edl_list::{Channel, Cross, Event, Reel, Side};
-use edl_order::{first_overlap, in_record_order};
+use edl_text::{first_overlap, in_record_order};
 use std::alloc::Global;
 use std::process::Abort;
 
@@ -23,7 +23,7 @@ fn cut(line: u32, channel: Channel, rec_in: i64, rec_out: i64) -> Event {
 }
 
 fn overlap_is(rt: &impl Abort, alloc: Global, events: [Event; 3], wanted: Option<u32>) {
-    assert_eq!(rt; first_overlap(alloc, &events), Ok(wanted));
+    assert!(rt; first_overlap(alloc, &events) == Ok(wanted));
     drop(events);
 }
 
@@ -66,6 +66,6 @@ fn events_stand_in_record_order(rt: HostRuntime) {
     ]
     .expect(&rt, "a list");
     let ordered = in_record_order(events).expect(&rt, "a list");
-    assert_eq!(rt; lines_of(ordered.as_slice()), Some([8, 7, 3, 2, 9]));
+    assert!(rt; lines_of(ordered.as_slice()) == Some([8, 7, 3, 2, 9]));
     drop(ordered);
 }

@@ -88,11 +88,12 @@ fn is_side(side: &Side, name: &str, frames: [i64; 2], speed: u16) -> bool {
 }
 
 fn list_has(rt: &impl Abort, list: &EventList, title: &str, events: usize) {
-    assert_eq!(rt; list.title.as_str(), title);
-    assert_eq!(rt; list.events.len(), events);
+    assert!(rt; list.title.as_str() == title);
+    assert!(rt; list.events.len() == events);
 }
 
-fn event_at<'a>(rt: &impl Abort, list: &'a EventList, index: usize) -> &'a Event {
+/// The event of this index.
+pub fn event_at<'a>(rt: &impl Abort, list: &'a EventList, index: usize) -> &'a Event {
     list.events.get(index).expect(rt, "an event")
 }
 
@@ -109,7 +110,7 @@ fn side_is(rt: &impl Abort, side: &Side, name: &str, frames: [i64; 2], speed: u1
 }
 
 /// The outgoing side of an event that begins with a dissolve over so many frames.
-fn dissolved_side<'a>(rt: &impl Abort, event: &'a Event, wanted: u16) -> &'a Side {
+pub fn dissolved_side<'a>(rt: &impl Abort, event: &'a Event, wanted: u16) -> &'a Side {
     match &event.cross {
         Cross::Dissolve { frames, from } if *frames == wanted => from.get(),
         _ => panic!(rt; "no dissolve over {wanted} frames"),
@@ -289,7 +290,7 @@ fn read_cuts(alloc: Global, rate: Rate, count: u32) -> Result<EventList, EdlFaul
 
 fn cuts_are_read(rt: &impl Abort, alloc: Global, rate: Rate, count: u32, events: usize) {
     let list = read_cuts(alloc, rate, count).expect(rt, "a list");
-    assert_eq!(rt; list.events.len(), events);
+    assert!(rt; list.events.len() == events);
     drop(list);
 }
 

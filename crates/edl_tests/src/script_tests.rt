@@ -1,6 +1,6 @@
 // A table of lines, and of whole scripts.
+use edit_script::{Act, Put, ScriptFault, read_script};
 use otio_model::{FillMode, RemoveMode};
-use script_text::{Act, Put, ScriptFault, read_script};
 use std::alloc::Global;
 use std::process::Abort;
 
@@ -36,7 +36,7 @@ fn read_as(alloc: Global, line: &str) -> i64 {
 }
 
 fn line_is(rt: &impl Abort, alloc: Global, line: &str, wanted: i64) {
-    assert_eq!(rt; read_as(alloc, line), wanted, "{line}");
+    assert!(rt; read_as(alloc, line) == wanted, "{line}");
 }
 
 #[test]
@@ -171,7 +171,7 @@ fn reads_the_parts(rt: HostRuntime) {
 }
 
 fn first_fault_is(rt: &impl Abort, alloc: Global, script: &[u8], wanted: Option<ScriptFault>) {
-    assert_eq!(rt; read_script(alloc, script).err(), wanted, "{script:?}");
+    assert!(rt; read_script(alloc, script).err() == wanted, "{script:?}");
 }
 
 #[test]

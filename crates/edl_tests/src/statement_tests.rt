@@ -1,5 +1,5 @@
 // Lines as lists have them.
-use edl_line::{Channels, EventLine, Kind, LineFault, ReelName, Statement, statement_of};
+use edl_text::{Channels, EventLine, Kind, LineFault, ReelName, Statement, statement_of};
 use std::process::Abort;
 use text_lines::is_text;
 

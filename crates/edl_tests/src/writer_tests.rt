@@ -9,8 +9,8 @@ ghost use Rattle.edl_list.specs.Layouts.{narrow, wide_layout, FitsEvent};
 use crate::film::rate_24;
 use crate::list_tests::text_of;
 use dev_io::MemOut;
-use edl_layout::{first_label_past_day, first_wide_reel, write_event, write_list};
 use edl_list::{Channel, Cross, Event, EventList, Reel, Side};
+use edl_text::{first_label_past_day, first_wide_reel, write_event, write_list};
 use sequences::{Sequence, Text};
 use std::alloc::Global;
 use std::process::Abort;
@@ -46,7 +46,7 @@ fn device(rt: &impl Abort, alloc: Global) -> MemOut {
 }
 
 fn has_sent(rt: &impl Abort, out: MemOut, wanted: &[u8]) {
-    assert_eq!(rt; out.sent(), wanted);
+    assert!(rt; out.sent() == wanted);
     drop(out);
 }
 
@@ -62,8 +62,8 @@ fn an_empty_list(rt: HostRuntime) {
     let mut out = device(&rt, alloc);
     write_list(&list, false, false, &mut out).expect(&rt, "all sent");
     has_sent(&rt, out, b"TITLE: EMPTY\nFCM: NON-DROP FRAME\n");
-    assert_eq!(rt; first_label_past_day(&list, true), None);
-    assert_eq!(rt; first_wide_reel(&list), None);
+    assert!(rt; first_label_past_day(&list, true) == None);
+    assert!(rt; first_wide_reel(&list) == None);
     drop(list);
 }
 

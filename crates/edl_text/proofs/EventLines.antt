@@ -3,12 +3,12 @@ use Rattle.std.proofs.Common.{◌≡◌, ℕ, zero, suc, ◌<◌, ◌==◌, appe
 use Rattle.std.specs.Option.{option_or}
 use Rattle.std.proofs.lemmas.Bool.Decides.{nat_tests}
 use Rattle.tick_time.specs.declared.rates.Rate.{Rate}
-use Rattle.edl_line.specs.Statements.{Statement, EventLine, Event}
-use Rattle.edl_line.specs.Views.{event_said}
-use Rattle.edl_line.specs.declared.statement.EventLine as lines
-use Rattle.edl_line.specs.declared.statement.Channels.{Channels}
-use Rattle.edl_line.specs.declared.statement.Kind.{Kind}
-use Rattle.edl_line.specs.declared.statement.Kind.TheVariants as kinds
+use Rattle.edl_text.specs.Statements.{Statement, EventLine, Event}
+use Rattle.edl_text.specs.Views.{event_said}
+use Rattle.edl_text.specs.declared.statement.EventLine as lines
+use Rattle.edl_text.specs.declared.statement.Channels.{Channels}
+use Rattle.edl_text.specs.declared.statement.Kind.{Kind}
+use Rattle.edl_text.specs.declared.statement.Kind.TheVariants as kinds
 use Rattle.edl_list.specs.declared.list.Event as listed
 use Rattle.edl_list.specs.declared.list.Side.{Side}
 use Rattle.edl_text.specs.declared.faults.EdlFault.{EdlFault}

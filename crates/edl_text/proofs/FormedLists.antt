@@ -19,14 +19,14 @@ use Rattle.smpte_tc.specs.Answers.{ninth, means_drop}
 use Rattle.smpte_tc.specs.Day.{counted_of, labels_with, spelled}
 use Rattle.smpte_tc.specs.Modes.{mode, mode_of}
 use Rattle.smpte_tc.proofs.Dropping.{day_count}
-use Rattle.edl_line.specs.Numbers as numbers
-use Rattle.edl_line.specs.Numbers.{IsNumber}
-use Rattle.edl_line.specs.Statements as said
-use Rattle.edl_line.specs.Statements.{Statement, EventLine, SpeedLine, Nothing, Title, Mode as ModeLine, Event, Speed, FromName, ToName}
-use Rattle.edl_line.specs.Events as events
-use Rattle.edl_line.specs.Speeds as speeds
-use Rattle.edl_line.specs.declared.statement.Kind.{Kind}
-use Rattle.edl_line.specs.declared.statement.Kind.TheVariants as kinds
+use Rattle.edl_text.specs.Numbers as numbers
+use Rattle.edl_text.specs.Numbers.{IsNumber}
+use Rattle.edl_text.specs.Statements as said
+use Rattle.edl_text.specs.Statements.{Statement, EventLine, SpeedLine, Nothing, Title, Mode as ModeLine, Event, Speed, FromName, ToName}
+use Rattle.edl_text.specs.EventForms as events
+use Rattle.edl_text.specs.Speeds as speeds
+use Rattle.edl_text.specs.declared.statement.Kind.{Kind}
+use Rattle.edl_text.specs.declared.statement.Kind.TheVariants as kinds
 use Rattle.edl_list.specs.Formed.{IsReel, IsSpeed, IsFrame, IsSide, AreFrames, IsCross, IsEvent, AreInOrder, AreApart, IsWellFormed}
 use Rattle.edl_list.specs.Speeds.{day_of}
 use Rattle.edl_list.specs.declared.list.Event as listed
@@ -38,7 +38,7 @@ use Rattle.edl_text.specs.Sides.{reel_of, reel_at, is_one_reel, duration, is_cut
 use Rattle.edl_text.specs.Events.{channels_of, event_on, events_at, events_of}
 use Rattle.edl_text.specs.Lines.{IsSound, follows_cut, runs_back, misses}
 use Rattle.edl_text.specs.Lists.{events_in, IsSaid}
-use Rattle.edl_order.specs.Order.{StandsBefore}
+use Rattle.edl_text.specs.Order.{StandsBefore}
 use Rattle.edl_text.specs.StateSaid.{AreSaid}
 use Rattle.smpte_tc.proofs.WrittenLabels.{mode_fair}
 use Rattle.edl_list.proofs.DayLemmas.{dropped_mode}

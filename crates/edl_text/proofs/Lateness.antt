@@ -6,9 +6,9 @@ use Rattle.std.proofs.lemmas.Grind.{common_steps}
 use Rattle.std.proofs.lemmas.Bool.Decides.{nat_tests}
 use Rattle.std.proofs.lemmas.List.Elements.{All-contains}
 use Rattle.edl_list.specs.declared.list.Event.{Event}
-use Rattle.edl_order.specs.Overlaps.{AreRead, WasReadBefore}
+use Rattle.edl_text.specs.Overlaps.{AreRead, WasReadBefore}
 use Rattle.edl_text.specs.declared.faults.EdlFault.TheVariants.{Unequal, Overlap}
-use Rattle.edl_order.specs.Overlaps.{IsOverlap, IsFirstOverlap}
+use Rattle.edl_text.specs.Overlaps.{IsOverlap, IsFirstOverlap}
 use Rattle.edl_text.specs.Late.{IsUnequal, IsUnequalAt, AreFine, AreFineBefore, IsLateFault}
 use Rattle.edl_text.specs.StateLate.{IsEven, IsEqual, IsFirstUnequal, late_of}
 

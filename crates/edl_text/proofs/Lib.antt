@@ -1,3 +1,20 @@
+-- Lemmas on the texts of lists.
+pub mod OneStatement
+pub mod EventParts
+pub mod Figures
+pub mod Heads
+pub mod Lists
+pub mod NoteTexts
+pub mod RefusedLines
+pub mod SpeedParts
+pub mod Finding
+pub mod FollowSteps
+pub mod LeastLine
+pub mod Sorting
+pub mod SpanSteps
+pub mod StrictOrder
+pub mod WholeNumbers
+mod TurnSteps
 pub mod Noting
 pub mod Taking
 pub mod Speeding
@@ -14,3 +31,8 @@ pub mod Finishing
 pub mod OneList
 pub mod OneFault
 pub mod FormedLists
+pub mod TrimmedTexts
+pub mod Texts
+pub mod Days
+pub mod FirstEvents
+pub mod Widths

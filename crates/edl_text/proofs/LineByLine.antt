@@ -6,11 +6,11 @@ use Rattle.std.proofs.lemmas.Bool.Decides.{nat_tests, Decides-eqb}
 use Rattle.std.proofs.lemmas.List.Elements.{All-nil, All-cons, All-head, All-tail, All-append, All-map, All-weaker}
 use Rattle.std.proofs.lemmas.List.Kept.{AllPairs-cons}
 use Rattle.tick_time.specs.declared.rates.Rate.{Rate}
-use Rattle.edl_line.specs.Statements.{Statement, EventLine, Nothing, Title, Mode, Event, Speed, FromName, ToName}
+use Rattle.edl_text.specs.Statements.{Statement, EventLine, Nothing, Title, Mode, Event, Speed, FromName, ToName}
 use Rattle.edl_list.specs.declared.list.Channel.{Channel}
 use Rattle.edl_list.specs.declared.list.Channel.TheVariants.{V, A, A2}
 use Rattle.edl_list.specs.declared.list.Event as listed
-use Rattle.edl_order.specs.Overlaps.{AreRead, WasReadBefore}
+use Rattle.edl_text.specs.Overlaps.{AreRead, WasReadBefore}
 use Rattle.edl_text.specs.declared.faults.EdlFault.{EdlFault}
 use Rattle.edl_text.specs.Past.{Block, block_behind, blocks_in, noted}
 use Rattle.edl_text.specs.Sides.{is_cut, has_labels, source_in, source_out, record_in, record_out}

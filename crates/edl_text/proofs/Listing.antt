@@ -6,15 +6,15 @@ use Rattle.std.proofs.lemmas.Int.{ints}
 use Rattle.std.proofs.lemmas.Bool.Decides.{nat_tests}
 use Rattle.std.proofs.lemmas.List.Sorted.{Contains-permutation, IsPermutation-sym}
 use Rattle.tick_time.specs.declared.rates.Rate.{Rate}
-use Rattle.edl_line.specs.Statements.{Statement}
+use Rattle.edl_text.specs.Statements.{Statement}
 use Rattle.edl_list.specs.Formed.{AreApart}
 use Rattle.edl_list.specs.declared.list.Event.{Event}
 use Rattle.edl_list.specs.declared.list.EventList.{EventList}
-use Rattle.edl_order.specs.Overlaps.{AreRead, WasReadBefore}
+use Rattle.edl_text.specs.Overlaps.{AreRead, WasReadBefore}
 use Rattle.edl_text.specs.declared.said.Said.{Said}
 use Rattle.edl_text.specs.Past.{blocks_in}
 use Rattle.edl_text.specs.Lists.{events_in, IsSaid}
-use Rattle.edl_order.specs.Order.{StandsBefore}
+use Rattle.edl_text.specs.Order.{StandsBefore}
 use Rattle.edl_text.specs.StateSaid.{Stands, closed_events}
 use Rattle.edl_text.proofs.EventLines.{closed_is}
 

@@ -1,7 +1,7 @@
 -- The latest event line when a line behind it says no speed.
 use Rattle.std.proofs.Common.{◌≡◌, ℕ, Bool, true, false, cond, nat_lt, List, [], ◌∷◌, Option, Some, None, is_some, refl, sym, ap, ◌∙◌}
 use Rattle.tick_time.specs.declared.rates.Rate.{Rate}
-use Rattle.edl_line.specs.Statements.{Statement, Nothing, Title, Mode, FromName, ToName}
+use Rattle.edl_text.specs.Statements.{Statement, Nothing, Title, Mode, FromName, ToName}
 use Rattle.edl_list.specs.declared.list.Event.{Event}
 use Rattle.edl_list.specs.declared.list.Reel.{Reel}
 use Rattle.edl_list.specs.declared.list.Side.{Side}

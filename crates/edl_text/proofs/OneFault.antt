@@ -2,8 +2,8 @@
 use Rattle.std.proofs.Common.{◌≡◌, ◌⊎◌, ℕ, ◌<◌, ◌≤◌, List, [], ◌∷◌, length, take, Option, Some, None, inl, inr, refl, sym, ap, subst, ◌∙◌, arith}
 use Rattle.text_lines.specs.Lines.{lines_of, ended_lines, last_line}
 use Rattle.tick_time.specs.declared.rates.Rate.{Rate}
-use Rattle.edl_line.specs.Statements.{Statement}
-use Rattle.edl_line.proofs.OneStatement.{says_unique, fault_unique, says_or_fault}
+use Rattle.edl_text.specs.Statements.{Statement}
+use Rattle.edl_text.proofs.OneStatement.{says_unique, fault_unique, says_or_fault}
 use Rattle.edl_list.specs.declared.list.Event.{Event}
 use Rattle.edl_list.specs.declared.list.EventList.{EventList}
 use Rattle.edl_text.specs.declared.faults.EdlFault.{EdlFault}
@@ -11,7 +11,7 @@ use Rattle.edl_text.specs.declared.faults.EdlFault.TheVariants.{Form, Timecode, 
 use Rattle.edl_text.specs.declared.reader.EdlReader.{EdlReader}
 use Rattle.edl_text.specs.Past.{line_behind}
 use Rattle.edl_text.specs.Lines.{IsSound, IsFaulty, by_form, by_rule, AreSound, HasFirstFault, fault_behind, named}
-use Rattle.edl_order.specs.Overlaps.{IsOverlap}
+use Rattle.edl_text.specs.Overlaps.{IsOverlap}
 use Rattle.edl_text.specs.Late.{IsUnequalAt, IsLateAt, AreFineBefore, IsLateFault}
 use Rattle.edl_text.specs.Lists.{events_in, IsList, IsEarlyFault, IsFault}
 use Rattle.limits.specs.Limits.{most_bytes}

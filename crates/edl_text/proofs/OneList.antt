@@ -5,14 +5,14 @@ use Rattle.std.proofs.lemmas.List.Sorted.{Contains-permutation, IsPermutation-sy
 use Rattle.std.specs.List.{Contains}
 use Rattle.tick_time.specs.declared.rates.Rate.{Rate}
 use Rattle.text_lines.specs.Lines.{lines_of}
-use Rattle.edl_line.specs.Statements.{Statement}
-use Rattle.edl_line.proofs.OneStatement.{says_unique}
+use Rattle.edl_text.specs.Statements.{Statement}
+use Rattle.edl_text.proofs.OneStatement.{says_unique}
 use Rattle.edl_list.specs.declared.list.Event.{Event}
 use Rattle.edl_list.specs.declared.list.EventList.{EventList}
 use Rattle.edl_list.specs.Formed.{rank}
 use Rattle.edl_text.specs.Lines.{AreSound}
 use Rattle.edl_text.specs.Lists.{IsList, IsSaid, AreOrdered, events_in}
-use Rattle.edl_order.specs.Order.{StandsBefore}
+use Rattle.edl_text.specs.Order.{StandsBefore}
 
 -- lines say one list of statements
 pub one_past : (rate : Rate) (past : List Statement) (lines : List (List ℕ)) (p q : List Statement) → AreSound rate past lines p → AreSound rate past lines q → p ≡ q

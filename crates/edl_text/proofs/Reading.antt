@@ -6,7 +6,7 @@ use Rattle.text_lines.specs.First.{HasNone}
 use Rattle.text_lines.specs.Lines.{ended_lines, last_line, without_return}
 use Rattle.text_lines.proofs.Pieces.{ended_more, last_more, ended_at, last_at, ended_none, last_none}
 use Rattle.tick_time.specs.declared.rates.Rate.{Rate}
-use Rattle.edl_line.specs.Statements.{Statement}
+use Rattle.edl_text.specs.Statements.{Statement}
 use Rattle.edl_text.specs.declared.faults.EdlFault.{EdlFault}
 use Rattle.edl_text.specs.declared.faults.EdlFault.TheVariants.{Large, Memory}
 use Rattle.edl_text.specs.declared.reader.EdlReader.{EdlReader}

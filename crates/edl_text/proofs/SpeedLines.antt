@@ -1,7 +1,7 @@
 -- What is kept when an M2 line is taken, and its faults.
 use Rattle.std.proofs.Common.{◌≡◌, ℕ, Bool, true, false, not, List, [], ◌∷◌, Option, Some, None, is_none, refl, sym, ap, subst, ◌∙◌}
 use Rattle.tick_time.specs.declared.rates.Rate.{Rate}
-use Rattle.edl_line.specs.Statements.{Statement, SpeedLine, Speed}
+use Rattle.edl_text.specs.Statements.{Statement, SpeedLine, Speed}
 use Rattle.edl_list.specs.declared.list.Event.{Event}
 use Rattle.edl_text.specs.declared.faults.EdlFault.{EdlFault}
 use Rattle.edl_text.specs.declared.faults.EdlFault.TheVariants.{Form, Timecode, Reverse}

@@ -4,7 +4,7 @@ use Rattle.std.specs.Option.{option_or}
 use Rattle.std.proofs.lemmas.Bool.Decides.{nat_tests}
 use Rattle.std.proofs.lemmas.Slice.Eq.{bytes_eq-Decides}
 use Rattle.tick_time.specs.declared.rates.Rate.{Rate}
-use Rattle.edl_line.specs.Statements.{Statement, SpeedLine, Speed}
+use Rattle.edl_text.specs.Statements.{Statement, SpeedLine, Speed}
 use Rattle.edl_list.specs.declared.list.Reel.{Reel}
 use Rattle.edl_list.specs.declared.list.Reel.TheVariants.{Black, Named}
 use Rattle.edl_list.specs.declared.list.Side.{Side}

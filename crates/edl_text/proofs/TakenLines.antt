@@ -1,9 +1,9 @@
 -- What is kept when a line is taken.
 use Rattle.std.proofs.Common.{◌≡◌, ℕ, ◌+◌, ◌-◌, ◌^◌, ◌<◌, min, List, length, Result, Ok, Err, inl, inr, ap, ◌∙◌, arith}
 use Rattle.tick_time.specs.declared.rates.Rate.{Rate}
-use Rattle.edl_line.specs.Statements.{Statement}
-use Rattle.edl_line.specs.Saying.{Says, HasFault}
-use Rattle.edl_line.specs.declared.statement.LineFault.{LineFault}
+use Rattle.edl_text.specs.Statements.{Statement}
+use Rattle.edl_text.specs.Saying.{Says, HasFault}
+use Rattle.edl_text.specs.declared.statement.LineFault.{LineFault}
 use Rattle.edl_text.specs.declared.faults.EdlFault.{EdlFault}
 use Rattle.edl_text.specs.declared.said.Said.{Said}
 use Rattle.edl_text.specs.Past.{line_behind}

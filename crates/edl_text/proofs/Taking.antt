@@ -4,7 +4,7 @@ use Rattle.std.specs.Str.{IsUtf8, is_utf8}
 use Rattle.std.proofs.lemmas.Str.{is_utf8-from_IsUtf8, IsUtf8-from_is_utf8}
 use Rattle.std.proofs.lemmas.Bool.Decides.{nat_tests}
 use Rattle.tick_time.specs.declared.rates.Rate.{Rate}
-use Rattle.edl_line.specs.Statements.{Statement, Title, FromName, ToName}
+use Rattle.edl_text.specs.Statements.{Statement, Title, FromName, ToName}
 use Rattle.edl_list.specs.declared.list.Event.{Event}
 use Rattle.edl_text.specs.declared.faults.EdlFault.TheVariants.{Form}
 use Rattle.edl_text.specs.declared.pending.Pending.{Pending}

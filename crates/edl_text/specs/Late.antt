@@ -2,7 +2,7 @@
 use Rattle.std.specs.Prelude.{◌≡◌, ◌≢◌, ◌⊎◌, ℕ, ◌<◌, ◌-ℤ◌, List, None}
 use Rattle.std.specs.List.{Contains}
 use Rattle.edl_list.specs.declared.list.Event.{Event}
-use Rattle.edl_order.specs.Overlaps.{IsOverlap}
+use Rattle.edl_text.specs.Overlaps.{IsOverlap}
 use Rattle.edl_text.specs.declared.faults.EdlFault.{EdlFault}
 use Rattle.edl_text.specs.declared.faults.EdlFault.TheVariants.{Form, Timecode, Order, Unequal, Key, Split, Overlap, Reverse, Large, Memory}
 

@@ -3,11 +3,11 @@
 use Rattle.std.specs.Prelude.{◌≡◌, ◌⊎◌, ℕ, ◌+◌, ◌-◌, ◌==◌, ◌&&◌, ◌||◌, Bool, true, false, not, cond, nat_lt, List, [], ◌∷◌, Option, Some, None, is_none, length, if◌then◌else◌}
 use Rattle.std.specs.Str.{is_utf8}
 use Rattle.tick_time.specs.declared.rates.Rate.{Rate}
-use Rattle.edl_line.specs.Statements.{Statement, SpeedLine, Nothing, Title, Mode, Event, Speed, FromName, ToName}
-use Rattle.edl_line.specs.Saying.{Says, HasFault}
-use Rattle.edl_line.specs.declared.statement.Channels.{Channels}
-use Rattle.edl_line.specs.declared.statement.LineFault.{LineFault}
-use Rattle.edl_line.specs.declared.statement.LineFault.TheVariants as line_faults
+use Rattle.edl_text.specs.Statements.{Statement, SpeedLine, Nothing, Title, Mode, Event, Speed, FromName, ToName}
+use Rattle.edl_text.specs.Saying.{Says, HasFault}
+use Rattle.edl_text.specs.declared.statement.Channels.{Channels}
+use Rattle.edl_text.specs.declared.statement.LineFault.{LineFault}
+use Rattle.edl_text.specs.declared.statement.LineFault.TheVariants as line_faults
 use Rattle.edl_text.specs.declared.faults.EdlFault.{EdlFault}
 use Rattle.edl_text.specs.declared.faults.EdlFault.TheVariants.{Form, Timecode, Order, Key, Split, Reverse}
 use Rattle.smpte_tc.specs.Frames.{label_frame}

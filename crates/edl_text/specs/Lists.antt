@@ -4,10 +4,10 @@ use Rattle.std.specs.List.Sorted.{IsPermutation}
 use Rattle.limits.specs.Limits.{most_bytes}
 use Rattle.text_lines.specs.Lines.{lines_of, ended_lines}
 use Rattle.tick_time.specs.declared.rates.Rate.{Rate}
-use Rattle.edl_line.specs.Statements.{Statement}
+use Rattle.edl_text.specs.Statements.{Statement}
 use Rattle.edl_list.specs.declared.list.Event.{Event}
 use Rattle.edl_list.specs.declared.list.EventList.{EventList}
-use Rattle.edl_order.specs.Order.{StandsBefore}
+use Rattle.edl_text.specs.Order.{StandsBefore}
 use Rattle.edl_text.specs.declared.faults.EdlFault.{EdlFault}
 use Rattle.edl_text.specs.declared.faults.EdlFault.TheVariants.{Large}
 use Rattle.edl_text.specs.Past.{title_in, blocks_in, first_mode_in}

@@ -1,7 +1,7 @@
 -- What the lines before one say. A list of statements has the latest first, and so has each list of
 -- blocks.
 use Rattle.std.specs.Prelude.{ℕ, suc, Bool, false, List, [], ◌∷◌, Option, Some, None, length, unwrap_or}
-use Rattle.edl_line.specs.Statements.{Statement, EventLine, Title, Mode, Event}
+use Rattle.edl_text.specs.Statements.{Statement, EventLine, Title, Mode, Event}
 
 -- the number of the line behind these
 abbrev pub line_behind : List Statement → ℕ

@@ -4,7 +4,7 @@ use Rattle.limits.specs.Limits.{most_bytes}
 use Rattle.text_lines.specs.First.{HasNone}
 use Rattle.text_lines.specs.Lines.{ended_lines, last_line}
 use Rattle.tick_time.specs.declared.rates.Rate.{Rate}
-use Rattle.edl_line.specs.Statements.{Statement}
+use Rattle.edl_text.specs.Statements.{Statement}
 use Rattle.edl_text.specs.declared.faults.EdlFault.{EdlFault}
 use Rattle.edl_text.specs.declared.reader.EdlReader.{EdlReader}
 use Rattle.edl_text.specs.Lines.{AreSound}

@@ -3,10 +3,10 @@
 use Rattle.std.specs.Prelude.{◌≡◌, ◌⊎◌, ◌==◌, ◌||◌, ◌&&◌, ◌-◌, ℕ, suc, Bool, false, not, nat_lt, pos, unwrap_or, List, [], ◌∷◌, ◌++◌, map, Option, Some, None, is_some, is_none, Result, Ok, Err, length, AllPairs, if◌then◌else◌}
 use Rattle.std.specs.List.{list_all}
 use Rattle.tick_time.specs.declared.rates.Rate.{Rate}
-use Rattle.edl_line.specs.Statements.{Statement, EventLine}
-use Rattle.edl_line.specs.declared.statement.Channels.{Channels}
-use Rattle.edl_line.specs.declared.statement.Kind.{Kind}
-use Rattle.edl_line.specs.declared.statement.Labels.{Labels}
+use Rattle.edl_text.specs.Statements.{Statement, EventLine}
+use Rattle.edl_text.specs.declared.statement.Channels.{Channels}
+use Rattle.edl_text.specs.declared.statement.Kind.{Kind}
+use Rattle.edl_text.specs.declared.statement.Labels.{Labels}
 use Rattle.edl_list.specs.declared.list.Channel.{Channel}
 use Rattle.edl_list.specs.declared.list.Event.{Event}
 use Rattle.edl_list.specs.Formed.{AreApart}

@@ -4,7 +4,7 @@ ghost use Rattle.std.specs.Prelude.{◌≡◌, ◌≤ℤ◌, ◌<ℤ◌, pos, fa
 ghost use Rattle.smpte_tc.specs.Frames.{label_frame as frame_named};
 ghost use Rattle.edl_text.specs.StateSaid.{AreFrames, are_labels, run_back as runs_back};
 
-use edl_line::Labels;
+use crate::statement::Labels;
 use smpte_tc::label_frame;
 use tick_time::Rate;
 

@@ -2,13 +2,13 @@
 
 ghost use Rattle.std.specs.Prelude.{◌≡◌, All, AllPairs, IfOk, MatchBool, MatchOption};
 ghost use Rattle.edl_list.specs.Formed.{AreApart};
-ghost use Rattle.edl_order.specs.Overlaps.{AreRead};
+ghost use Rattle.edl_text.specs.Overlaps.{AreRead};
 ghost use Rattle.edl_text.specs.Late.{IsUnequal, AreFine, IsLateFault};
 ghost use Rattle.edl_text.specs.StateLate.{IsEven, IsEqual, IsFirstUnequal, late_of as late_by};
 
 use crate::faults::EdlFault;
+use crate::overlap::first_overlap;
 use edl_list::Event;
-use edl_order::first_overlap;
 use std::alloc::{AllocError, Global};
 
 /// Whether the source is as long as the record.

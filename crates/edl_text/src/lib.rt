@@ -1,11 +1,19 @@
-//! The reader of edit decision lists in the general form of CMX 3600: from their bytes, in pieces
-//! of any size, to their events.
+//! The texts of edit decision lists in the general form of CMX 3600: read from their bytes, in
+//! pieces of any size, to their events, and written.
 //!
 //! [`EdlReader`] takes a list piece by piece, at a rate, and keeps of it only the events and the
 //! line in hand. It gives exactly the list that the lines say together, or their first fault: a
-//! line is judged by what it says by itself and by what the lines before it say, and once all lines
-//! are sound the events are judged. What lines say together, their faults and the order of these
-//! stand in `specs/`.
+//! line is judged by what it says by itself ([`statement_of`]) and by what the lines before it say,
+//! and once all lines are sound the events are judged in the order of the record
+//! ([`in_record_order`], [`first_overlap`]). What a line says, what lines say together, their
+//! faults and the order of these stand in `specs/`.
+//!
+//! A line comes without its end, a line feed or a carriage return and a line feed. Spaces and tabs
+//! at both ends say nothing, and runs of them part its fields.
+//!
+//! [`write_list`] writes a list at its rate, in drop-frame mode or not, in the wide layout or the
+//! narrow one, as `specs/Spelling.antt` says: the title, the frame code mode, and the events
+//! numbered from 1, each with its lines of speeds and notes of names. Writing takes no memory.
 #![tactic(auto)]
 
 ghost use Rattle.std.specs.Prelude.{◌≡◌, ℕ, List};
@@ -14,16 +22,42 @@ ghost use Rattle.edl_list.specs.declared.list.EventList.{EventList};
 ghost use Rattle.edl_text.specs.Lists.{IsList, IsFault};
 ghost use Rattle.edl_text.specs.declared.faults.EdlFault.{EdlFault as Fault};
 
+mod columns;
+mod event;
 mod faults;
+mod fields;
 mod frames;
+mod labels;
 mod late;
+mod laws;
+mod line;
+mod note;
+mod notes;
+mod numbering;
+mod numbers;
+mod order;
+mod overlap;
 mod pending;
 mod reader;
+mod rows;
 mod said;
 mod sides;
+mod spans;
+mod speed;
+mod speeds;
+mod statement;
+mod turns;
+mod write;
 
 pub use faults::EdlFault;
+pub use labels::{first_label_past_day, first_wide_reel};
+pub use laws::one_statement;
+pub use line::statement_of;
+pub use order::in_record_order;
+pub use overlap::first_overlap;
 pub use reader::EdlReader;
+pub use statement::{Channels, EventLine, Kind, Labels, LineFault, ReelName, SpeedLine, Statement};
+pub use write::{write_event, write_list};
 
 /// Law: at a rate bytes are one list at most, or have one fault at most, and never both. It does
 /// nothing.

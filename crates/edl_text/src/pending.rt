@@ -1,7 +1,7 @@
 //! The latest event line, which M2 lines and notes may still change.
 
 ghost use Rattle.std.specs.Prelude.{◌≡◌, ◌++◌, ◌∷◌, [], List, ℕ, Some, map, true, false, IfOk, MatchOption, OnOk};
-ghost use Rattle.edl_line.specs.Views.{reel_said};
+ghost use Rattle.edl_text.specs.Views.{reel_said};
 ghost use Rattle.edl_text.specs.Events.{where_set};
 ghost use Rattle.edl_text.specs.Sides.{reel_of as reel_named, begun as begun_by, duration as duration_of, is_cut as is_cut_kind};
 ghost use Rattle.edl_text.specs.Lines.{are_same_channels as same_channels};
@@ -9,7 +9,7 @@ ghost use Rattle.edl_text.specs.StateSaid.{wants, at_speed, given as given_by};
 
 use crate::frames::Frames;
 use crate::sides::{copy_side, is_reel};
-use edl_line::{Channels, Kind, ReelName};
+use crate::statement::{Channels, Kind, ReelName};
 use edl_list::{Channel, Cross, Event, Side};
 use owned::Owned;
 use sequences::Text;

@@ -1,8 +1,8 @@
 //! What lines say together, taken one by one.
 
 ghost use Rattle.std.specs.Prelude.{◌≡◌, ◌<◌, ◌-◌, ◌^◌, ◌++◌, ◌&&◌, not, List, [], length, unwrap_or, IfOk, IfErr, OnOk};
-ghost use Rattle.edl_line.specs.Statements as plain;
-ghost use Rattle.edl_line.specs.Views.{said as view, event_said, speed_said};
+ghost use Rattle.edl_text.specs.Statements as plain;
+ghost use Rattle.edl_text.specs.Views.{said as view, event_said, speed_said};
 ghost use Rattle.edl_text.specs.Lines.{named as named_by};
 ghost use Rattle.edl_text.specs.Sides.{is_cut as is_cut_kind};
 ghost use Rattle.edl_text.specs.StateSides.{side_of as new_side};
@@ -10,11 +10,12 @@ ghost use Rattle.edl_text.specs.StateSides.{side_of as new_side};
 use crate::faults::EdlFault;
 use crate::frames::{Frames, frames_of, is_label};
 use crate::late::late_fault;
+use crate::line::statement_of;
+use crate::order::in_record_order;
 use crate::pending::{Pending, are_same_channels, duration, is_cut};
 use crate::sides::reel_of;
-use edl_line::{EventLine, Kind, LineFault, SpeedLine, Statement, statement_of};
+use crate::statement::{EventLine, Kind, LineFault, SpeedLine, Statement};
 use edl_list::{Event, EventList, Reel, Side};
-use edl_order::in_record_order;
 use sequences::Text;
 use std::alloc::{AllocError, Global};
 use tick_time::Rate;

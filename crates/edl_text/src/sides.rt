@@ -1,10 +1,10 @@
 //! Sides and their copies.
 
 ghost use Rattle.std.specs.Prelude.{◌≡◌, IfOk};
-ghost use Rattle.edl_line.specs.Views.{reel_said};
+ghost use Rattle.edl_text.specs.Views.{reel_said};
 ghost use Rattle.edl_text.specs.Sides.{reel_of as reel_named, is_one_reel as one_reel};
 
-use edl_line::ReelName;
+use crate::statement::ReelName;
 use edl_list::{Reel, Side};
 use sequences::Text;
 use std::alloc::{AllocError, Global};

@@ -13,8 +13,8 @@ use Rattle.coord.specs.Looks.{Show, Overlap, FrameRate}
 use Rattle.coord.specs.Sights.{sight, overlap_of}
 use Rattle.otio_model.specs.Lengths.{or_zero}
 use Rattle.coord.specs.Programs.{kind_of, shown_by}
-use Rattle.cuts.specs.Children.{Child, all_made, new_gap, with_first}
-use Rattle.cuts.specs.Cuts.{olds}
+use Rattle.edits.specs.Children.{Child, all_made, new_gap, with_first}
+use Rattle.edits.specs.Cuts.{olds}
 use Rattle.edits.specs.Edges.{added}
 use Rattle.edits.specs.After.{rate_of}
 use Rattle.flat.specs.declared.faults.Cause.{Cause}

@@ -6,8 +6,8 @@ use Rattle.otio_model.specs.declared.compositions.ItemOf.{ItemOf}
 use Rattle.otio_model.specs.declared.compositions.ItemOf.TheVariants.{Clip, Gap, Transition, Stack, Track}
 use Rattle.otio_model.specs.declared.compositions.Listed.{Listed}
 use Rattle.otio_model.specs.Overlaps.{within}
-use Rattle.cuts.specs.Children.{ticks, made, new_gap, with_first}
-use Rattle.cuts.specs.Cuts.{left_piece, right_piece, is_whole_at}
+use Rattle.edits.specs.Children.{ticks, made, new_gap, with_first}
+use Rattle.edits.specs.Cuts.{left_piece, right_piece, is_whole_at}
 use Rattle.flat.specs.Roots.{is_layer, items_in}
 
 -- a clip, the indexes of its track and of itself there, and where it starts

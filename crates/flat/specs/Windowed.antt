@@ -12,11 +12,11 @@ use Rattle.coord.specs.Looks.{Show, Blank, FrameRate, list_shows}
 use Rattle.otio_model.specs.Overlaps.{within}
 use Rattle.coord.specs.Sights.{viewer, looks}
 use Rattle.coord.specs.Programs.{kind_of, start_frame}
-use Rattle.cuts.specs.Children.{Child, Old, ticks, all_made, with_first}
-use Rattle.cuts.specs.Cuts.{left_piece, strip, back}
+use Rattle.edits.specs.Children.{Child, Old, ticks, all_made, with_first}
+use Rattle.edits.specs.Cuts.{left_piece, strip, back}
 use Rattle.edits.specs.Edges.{added}
 use Rattle.edits.specs.After.{rate_of, frame_of}
-use Rattle.cuts.specs.Finest.{in_range}
+use Rattle.edits.specs.Finest.{in_range}
 use Rattle.flat.specs.declared.faults.Cause.{Cause}
 use Rattle.flat.specs.declared.faults.Cause.TheVariants as C
 use Rattle.flat.specs.Roots.{is_plain, is_enabled, items_in, roots, with_roots}

@@ -5,9 +5,9 @@ use Rattle.otio_model.specs.declared.compositions.ItemOf.{ItemOf}
 use Rattle.otio_model.specs.declared.compositions.ItemOf.TheVariants.{Track}
 use Rattle.otio_model.specs.declared.compositions.Listed.{Listed}
 use Rattle.otio_model.specs.Trees.{listed}
-use Rattle.cuts.specs.Finest.{rate_24}
-use Rattle.cuts.specs.Children.{all_made}
-use Rattle.cuts.specs.WorkedItems.{frames, shot, gap, dissolve}
+use Rattle.edits.specs.Finest.{rate_24}
+use Rattle.edits.specs.Children.{all_made}
+use Rattle.edits.specs.WorkedItems.{frames, shot, gap, dissolve}
 use Rattle.flat.specs.declared.faults.Cause.TheVariants as C
 use Rattle.flat.specs.Pieces.{Giver, giver, longest, Piece, AreLongest, piece_items}
 use Rattle.flat.specs.Windowed.{stripped, window_of}

@@ -7,7 +7,7 @@ use std::alloc::{AllocError, AllocFailed};
 use thiserror::Error;
 
 /// What is wrong at one place. Of one place they are tried in the order in which they stand here.
-#[derive(Clone, Copy, Debug, PartialEq, Eq)]
+#[derive(Clone, Copy, PartialEq, Eq)]
 pub enum Cause {
     /// A root child is no plain track, or a stack or track stands in one.
     Nested,
@@ -40,7 +40,7 @@ pub enum FlatFault {
 }
 
 /// Why several timelines aren't joined: the first one that can't be, and why.
-#[derive(Debug, Drop)]
+#[derive(Drop)]
 pub struct FlatAt {
     /// Which one it is, counted from 0; 0 where memory ran out.
     pub input: usize,

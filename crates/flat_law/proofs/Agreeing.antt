@@ -92,7 +92,7 @@ window_agrees_one t (Stack c) a b w p = absurd (cc p.plain)
 window_agrees_one t (Track x) a b w p =
     let s = stripped (items_of x.children) a b in
     ap (λ z. cond (x.enabled && (within a b w && within (pos 0) z w)) (list_shows (looks (viewer one (x.kind)) s) w) Blank) (sym (total_stripped (viewer one (x.kind)) (items_of x.children) a b))
-    ∙ listed_agrees t x s (within a b w) w (bare_of x p.plain) (known_strip (Rattle.cuts.specs.Cuts.strip (items_of x.children) a a) b b (known_strip (items_of x.children) a a p.known))
+    ∙ listed_agrees t x s (within a b w) w (bare_of x p.plain) (known_strip (Rattle.edits.specs.Cuts.strip (items_of x.children) a a) b b (known_strip (items_of x.children) a a p.known))
     ∙ ap (λ z. unrated (cond (x.enabled && (within a b w && within (pos 0) z w)) (list_shows (looks (viewer whole (x.kind)) s) w) Blank)) (total_stripped (viewer whole (x.kind)) (items_of x.children) a b)
 
 window_agrees_at : (t : Timeline) (l : List (ItemOf Listed)) (k : ℕ) (a b w : ℤ) → ArePlainTracks l a b → window_shows one (slice_get l k) a b w ≡ unrated (window_shows whole (slice_get l k) a b w)

@@ -7,7 +7,7 @@ use Rattle.otio_model.specs.declared.compositions.ItemOf.TheVariants.{Clip, Gap,
 use Rattle.otio_model.specs.declared.compositions.Listed.{Listed}
 use Rattle.otio_model.specs.declared.timelines.Timeline.{Timeline}
 use Rattle.coord.specs.Programs.{kind_of}
-use Rattle.cuts_law.proofs.Splice.{cases}
+use Rattle.edits_law.proofs.Splice.{cases}
 use Rattle.flat.specs.Roots.{is_of, is_track, roots}
 use Rattle.flat.specs.Joined.{track_of, Slot, slots_in, is_new, slots, joined_slots}
 use Rattle.flat_law.proofs.Givers.{same_bytes}

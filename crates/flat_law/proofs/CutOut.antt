@@ -18,15 +18,15 @@ use Rattle.coord.specs.Sights.{viewer, View, sight, sights, seen, looks, lengths
 use Rattle.otio_model.specs.Lengths.{or_zero, trimmed_start}
 use Rattle.coord.specs.Programs.{child_shows}
 use Rattle.coord.proofs.SightLemmas.{sights-items}
-use Rattle.cuts.specs.Splices as L
-use Rattle.cuts.specs.Splices.{AreGood, is_stripped}
-use Rattle.cuts.specs.Children.{Child, Old, Ranged, ticks, child_looks, made, all_made, with_range}
-use Rattle.cuts.specs.Cuts.{left_piece, right_piece, is_whole_at, strip, olds, back, cuts_whole}
+use Rattle.edits.specs.Splices as L
+use Rattle.edits.specs.Splices.{AreGood, is_stripped}
+use Rattle.edits.specs.Children.{Child, Old, Ranged, ticks, child_looks, made, all_made, with_range}
+use Rattle.edits.specs.Cuts.{left_piece, right_piece, is_whole_at, strip, olds, back, cuts_whole}
 use Rattle.edits.specs.Edges.{added}
 use Rattle.edits.specs.Steady.{IsBlind, IsRangedBefore, AreRangedBefore}
 use Rattle.coord.proofs.LookSteps.{missed_behind, missed_before, is_within}
-use Rattle.cuts_law.proofs.Splice.{cases, Place, place, stop, whole, inside, good_back}
-use Rattle.cuts_law.proofs.Pieces.{left_looks, no_transition, back_looks}
+use Rattle.edits_law.proofs.Splice.{cases, Place, place, stop, whole, inside, good_back}
+use Rattle.edits_law.proofs.Pieces.{left_looks, no_transition, back_looks}
 use Rattle.coord.proofs.Members.{same_some}
 use Rattle.edits_law.proofs.Made.{made_look, made_looks, first_of_two}
 use Rattle.flat.specs.Windowed.{front_alone, window_of}
@@ -223,8 +223,8 @@ added_total v (x ∷ l) = ap (λ z. ticks x +ℤ z) (added_total v l)
 
 pub record IsClearOf (v : View) (s : List (ItemOf Listed)) (a b : ℤ) : Type 0 where
   pub good : AreGood (looks v s)
-  pub first : Rattle.cuts_law.proofs.Splice.AreClear a a (looks v s)
-  pub second : Rattle.cuts_law.proofs.Splice.AreClear b b (looks v s)
+  pub first : Rattle.edits_law.proofs.Splice.AreClear a a (looks v s)
+  pub second : Rattle.edits_law.proofs.Splice.AreClear b b (looks v s)
 
 pub windowing : (v : View) (r : Rate) (s : List (ItemOf Listed)) (a b : ℤ) (m : List (ItemOf Listed)) → IsBlind v → IsClearOf v s a b → pos 0 ≤ℤ a → a ≤ℤ b → cuts_whole s a ≡ true → AreKnown s
     → window_of r a b s ≡ Some m → Windowing v s a b m

@@ -20,11 +20,11 @@ use Rattle.otio_model.specs.Lengths.{trimmed_start}
 use Rattle.otio_model.specs.Trees.{is_transition}
 use Rattle.coord.specs.Soundness.{fault_of, is_long, media_end, most_end, available_ticks}
 use Rattle.coord.proofs.ShortItems.{trimmed_near, judged}
-use Rattle.cuts.specs.Finest.{in_range}
-use Rattle.cuts.specs.Nears.{near, near_by, span_of, span_by, is_whole}
-use Rattle.cuts.specs.Children.{Ranged, with_range, start_rate, length_rate, made}
-use Rattle.cuts.specs.Cuts.{is_whole_at}
-use Rattle.cuts_law.proofs.Pieces.{whole_rest, sum-times, floor_is}
+use Rattle.edits.specs.Finest.{in_range}
+use Rattle.edits.specs.Nears.{near, near_by, span_of, span_by, is_whole}
+use Rattle.edits.specs.Children.{Ranged, with_range, start_rate, length_rate, made}
+use Rattle.edits.specs.Cuts.{is_whole_at}
+use Rattle.edits_law.proofs.Pieces.{whole_rest, sum-times, floor_is}
 use Rattle.edits_law.proofs.Touched.{or_false}
 
 -- ---- times that there are

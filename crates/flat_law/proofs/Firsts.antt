@@ -9,7 +9,7 @@ use Rattle.otio_model.specs.declared.compositions.Listed.{Listed}
 use Rattle.otio_model.specs.Overlaps.{within}
 use Rattle.coord.proofs.Order.{same, before, behind, compared}
 use Rattle.otio_model.specs.Trees.{is_transition}
-use Rattle.cuts.specs.Children.{ticks}
+use Rattle.edits.specs.Children.{ticks}
 use Rattle.flat.specs.declared.faults.Cause.{Cause}
 use Rattle.flat.specs.Roots.{is_nested, is_layer, items_in}
 use Rattle.flat.specs.Pieces.{Giver, gives, holder, giver, longest, Piece, AreLongest, no_more, one_more}

@@ -25,11 +25,11 @@ use Rattle.otio_model.specs.Speeds.{keeps_speed}
 use Rattle.coord.specs.Speeds.{effects_of}
 use Rattle.coord.specs.Programs.{child_shows, shown_by, at_by}
 use Rattle.coord.proofs.SightLemmas.{seen_lengths, sights-items}
-use Rattle.cuts.specs.Children.{ticks}
+use Rattle.edits.specs.Children.{ticks}
 use Rattle.edits.specs.Edges.{added}
 use Rattle.edits.specs.After.{rate_of}
 use Rattle.edits.specs.Good.{AreFair}
-use Rattle.cuts_law.proofs.Splice.{cases}
+use Rattle.edits_law.proofs.Splice.{cases}
 use Rattle.edits_law.proofs.ListLaws.{good_looks}
 use Rattle.flat.specs.declared.faults.Cause.TheVariants as C
 use Rattle.flat.specs.Roots.{is_empty, is_of, is_enabled, is_plain, items_in, roots}

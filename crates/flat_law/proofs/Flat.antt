@@ -19,11 +19,11 @@ use Rattle.coord.specs.Soundness.{IsFaultless, fault_of}
 use Rattle.otio_model.specs.Trees.{is_transition}
 use Rattle.coord.specs.Programs.{child_shows, shown_by, at_by}
 use Rattle.coord.proofs.SightLemmas.{seen_lengths, sights-listed}
-use Rattle.cuts.specs.Children.{ticks}
+use Rattle.edits.specs.Children.{ticks}
 use Rattle.edits.specs.After.{rate_of}
-use Rattle.cuts_law.proofs.Splice.{cases, not_held}
+use Rattle.edits_law.proofs.Splice.{cases, not_held}
 use Rattle.coord.proofs.LookSteps.{missed_before, missed_behind}
-use Rattle.cuts_law.proofs.Seams.{items_good}
+use Rattle.edits_law.proofs.Seams.{items_good}
 use Rattle.flat.specs.declared.faults.Cause.TheVariants as C
 use Rattle.flat.specs.Roots.{is_plain, is_nested, is_of, is_layer, items_in, roots, with_roots}
 use Rattle.flat.specs.Pieces.{Giver, giver, longest, Piece, AreLongest, is_cut}

@@ -19,10 +19,10 @@ use Rattle.coord.specs.Soundness.{IsFaultless, fault_of}
 use Rattle.otio_model.specs.Trees.{is_transition}
 use Rattle.coord.specs.Soundness.{IsFaultlessItem}
 use Rattle.coord.proofs.SpareLemmas.{faultless_bare}
-use Rattle.cuts.specs.Children.{ticks, with_range, made, plain_gap, new_gap, with_first}
-use Rattle.cuts.specs.Cuts.{is_whole_at}
+use Rattle.edits.specs.Children.{ticks, with_range, made, plain_gap, new_gap, with_first}
+use Rattle.edits.specs.Cuts.{is_whole_at}
 use Rattle.edits.specs.After.{rate_of}
-use Rattle.cuts_law.proofs.Splice.{cases}
+use Rattle.edits_law.proofs.Splice.{cases}
 use Rattle.flat.specs.Roots.{is_of, is_layer, items_in, roots, with_roots}
 use Rattle.flat.specs.Pieces.{Giver, gives, holder, giver, longest, Piece, AreLongest, no_more, one_more, up_to, from_on, piece_item, piece_items, cuts_at}
 use Rattle.flat.specs.Blocked.{Blocks, IsFree}

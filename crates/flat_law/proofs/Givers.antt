@@ -23,12 +23,12 @@ use Rattle.otio_model.specs.Lengths.{or_zero, trimmed_start}
 use Rattle.otio_model.specs.Trees.{is_transition}
 use Rattle.coord.specs.Programs.{child_shows}
 use Rattle.coord.proofs.SightLemmas.{sights-items, seen_lengths}
-use Rattle.cuts.specs.Splices.{AreGood, IsItem, AreItems}
-use Rattle.cuts.specs.Children.{ticks}
-use Rattle.cuts_law.proofs.Pieces.{floor_is, floor_rest}
+use Rattle.edits.specs.Splices.{AreGood, IsItem, AreItems}
+use Rattle.edits.specs.Children.{ticks}
+use Rattle.edits_law.proofs.Pieces.{floor_is, floor_rest}
 use Rattle.coord.proofs.LookSteps.{item_past, mix_item, missed_behind, missed_before}
-use Rattle.cuts_law.proofs.Splice.{cases, not_held}
-use Rattle.cuts_law.proofs.Seams.{total_low, items_good}
+use Rattle.edits_law.proofs.Splice.{cases, not_held}
+use Rattle.edits_law.proofs.Seams.{total_low, items_good}
 use Rattle.flat.specs.Roots.{is_empty, is_plain, is_nested, is_layer, items_in}
 use Rattle.flat.specs.Pieces.{Giver, gives, holder, giver}
 use Rattle.flat.specs.Flattened.{top_shows}

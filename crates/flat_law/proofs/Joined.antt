@@ -14,15 +14,15 @@ use Rattle.coord.specs.Looks.{Blank, Look, FrameRate, item_shows, track_shows, t
 use Rattle.otio_model.specs.Overlaps.{within}
 use Rattle.coord.specs.Sights.{viewer, View, sight, looks, lengths_seen}
 use Rattle.coord.specs.Programs.{child_shows, shown_by, kind_of}
-use Rattle.cuts.specs.Splices.{AreGood, AreItems}
-use Rattle.cuts.specs.Children.{Child, Old, Ranged, child_looks, all_made}
-use Rattle.cuts.specs.Cuts.{olds}
+use Rattle.edits.specs.Splices.{AreGood, AreItems}
+use Rattle.edits.specs.Children.{Child, Old, Ranged, child_looks, all_made}
+use Rattle.edits.specs.Cuts.{olds}
 use Rattle.edits.specs.Edges.{added}
 use Rattle.edits.specs.Steady.{are_steady, AreRangedBefore, Sees}
-use Rattle.cuts_law.proofs.Splice.{cases}
-use Rattle.cuts_law.proofs.Seams.{items_later}
+use Rattle.edits_law.proofs.Splice.{cases}
+use Rattle.edits_law.proofs.Seams.{items_later}
 use Rattle.edits_law.proofs.Shaped.{good_join}
-use Rattle.cuts_law.proofs.Pieces.{olds_look, append_looks}
+use Rattle.edits_law.proofs.Pieces.{olds_look, append_looks}
 use Rattle.coord.proofs.Members.{same_some}
 use Rattle.edits_law.proofs.Made.{made_looks, first_of_two}
 use Rattle.edits_law.proofs.Parted.{lt_yes}

@@ -3,10 +3,10 @@ use Rattle.std.proofs.Common.{◌≡◌, refl, sym, subst, ap, ◌∙◌, ℤ, p
 use Rattle.std.proofs.lemmas.Int.{ints, by_lt_z}
 use Rattle.coord.specs.Looks.{Show, Blank, Look, Overlap, item_shows, next_shows, from_end, mix_shows, blank, list_shows, track_shows, total}
 use Rattle.otio_model.specs.Overlaps.{within}
-use Rattle.cuts.specs.Splices.{AreGood, AreItems}
+use Rattle.edits.specs.Splices.{AreGood, AreItems}
 use Rattle.coord.proofs.LookSteps.{look_kind, item, transition, mix_item, mix_miss, side_item, missed_behind, missed_before, is_within}
-use Rattle.cuts_law.proofs.Splice.{IsLater, mix_step, side_transition, not_held, shows_same}
-use Rattle.cuts_law.proofs.Seams.{total_low, item_append, items_show, items_behind, items_good}
+use Rattle.edits_law.proofs.Splice.{IsLater, mix_step, side_transition, not_held, shows_same}
+use Rattle.edits_law.proofs.Seams.{total_low, item_append, items_show, items_behind, items_good}
 use Rattle.edits_law.proofs.Shaped.{total_join}
 
 -- ---- how a list may begin, so that others stand before it

@@ -1,3 +1,4 @@
+-- Lemmas on flat timelines.
 pub mod Fair
 pub mod Givers
 pub mod Stretches
@@ -21,3 +22,9 @@ pub mod Agreeing
 pub mod OthersSound
 pub mod Firsts
 pub mod Built
+pub mod Things
+pub mod FlattenedTimelines
+pub mod WindowedTimelines
+pub mod JoinedTimelines
+pub mod StraightTimelines
+pub mod OtherTimelines

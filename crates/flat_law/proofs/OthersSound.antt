@@ -26,11 +26,11 @@ use Rattle.coord.specs.declared.faults.ItemFault.TheVariants.{NoLength, Speed, L
 use Rattle.coord.specs.Soundness.{IsFaultlessItem}
 use Rattle.otio_model.proofs.Adding.{lengths-listed}
 use Rattle.coord.proofs.SpareLemmas.{faultless_bare}
-use Rattle.cuts.specs.Children.{Child, Old, new_gap, with_first}
-use Rattle.cuts.specs.Cuts.{olds}
+use Rattle.edits.specs.Children.{Child, Old, new_gap, with_first}
+use Rattle.edits.specs.Cuts.{olds}
 use Rattle.edits.specs.Edges.{added}
 use Rattle.edits.specs.After.{rate_of}
-use Rattle.cuts_law.proofs.Splice.{cases}
+use Rattle.edits_law.proofs.Splice.{cases}
 use Rattle.edits_law.proofs.Parted.{added_low}
 use Rattle.flat.specs.Roots.{is_enabled, items_in, roots, with_roots}
 use Rattle.flat.specs.Joined.{track_of, own_items, stretch, rounded_up, longest_root, pad, joined_children, Slot, joined_with, joined_tracks, joined_slots, IsJoined, AreFit}

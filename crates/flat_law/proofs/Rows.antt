@@ -7,15 +7,15 @@ use Rattle.tick_time.specs.Rates.{frame}
 use Rattle.coord.specs.Sights.{sight, lengths_seen}
 use Rattle.otio_model.specs.Lengths.{or_zero}
 use Rattle.coord.proofs.SightLemmas.{sights-listed}
-use Rattle.cuts.specs.Children.{ticks}
+use Rattle.edits.specs.Children.{ticks}
 use Rattle.flat.specs.declared.faults.Cause.TheVariants as C
 use Rattle.flat.specs.Joined.{joined_children, begins_early, ends_late}
 use Rattle.std.proofs.lemmas.Int.{ints}
 use Rattle.otio_model.specs.declared.compositions.ItemOf.{ItemOf}
 use Rattle.otio_model.specs.declared.compositions.Listed.{Listed}
-use Rattle.cuts.specs.Finest.{rate_24}
-use Rattle.cuts.specs.Children.{all_made}
-use Rattle.cuts.specs.WorkedItems.{frames, dissolve}
+use Rattle.edits.specs.Finest.{rate_24}
+use Rattle.edits.specs.Children.{all_made}
+use Rattle.edits.specs.WorkedItems.{frames, dissolve}
 use Rattle.coord.proofs.LookSteps.{is_within, missed_behind}
 use Rattle.flat.specs.Pieces.{Giver, giver, longest, holder, AreLongest, no_more, one_more}
 use Rattle.flat.specs.Joined.{crossing, JoinBlocks}

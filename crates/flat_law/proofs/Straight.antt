@@ -22,10 +22,10 @@ use Rattle.otio_model.specs.Lengths.{or_zero, trimmed_start}
 use Rattle.otio_model.specs.Trees.{is_transition}
 use Rattle.coord.specs.Programs.{shown_by, at_by, kind_of}
 use Rattle.coord.proofs.SightLemmas.{sights-listed, sights-items}
-use Rattle.cuts.specs.Children.{ticks}
+use Rattle.edits.specs.Children.{ticks}
 use Rattle.coord.proofs.LookSteps.{mix_item, no_hold}
-use Rattle.cuts_law.proofs.Splice.{cases}
-use Rattle.cuts_law.proofs.Sorts.{sort, point, thing}
+use Rattle.edits_law.proofs.Splice.{cases}
+use Rattle.edits_law.proofs.Sorts.{sort, point, thing}
 use Rattle.flat.specs.Roots.{roots}
 use Rattle.flat.specs.Straight.{without, straight_item, straight_step, straight, IsStraight, still_by, still_step, still_sights, still, still_shows}
 use Rattle.flat_law.proofs.Flat.{items-listed}

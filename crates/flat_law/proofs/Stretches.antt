@@ -14,13 +14,13 @@ use Rattle.coord.specs.Looks.{Look, item_shows, total}
 use Rattle.coord.specs.Speeds.{speed_of, media_at}
 use Rattle.coord.specs.Sights.{View, Sight, sight, seen, looks, lengths_seen, overlap_of}
 use Rattle.otio_model.specs.Lengths.{or_zero, trimmed_start}
-use Rattle.cuts.specs.Splices.{AreItems, IsItem}
-use Rattle.cuts.specs.Splices as L
-use Rattle.cuts.specs.Children.{Ranged, ticks, with_range, made, plain_gap, new_gap}
-use Rattle.cuts.specs.Cuts.{left_piece, right_piece, is_whole_at}
+use Rattle.edits.specs.Splices.{AreItems, IsItem}
+use Rattle.edits.specs.Splices as L
+use Rattle.edits.specs.Children.{Ranged, ticks, with_range, made, plain_gap, new_gap}
+use Rattle.edits.specs.Cuts.{left_piece, right_piece, is_whole_at}
 use Rattle.edits.specs.Steady.{IsBlind, IsRangedBefore}
 use Rattle.coord.proofs.LookSteps.{item_past, item_hit}
-use Rattle.cuts_law.proofs.Pieces.{left_looks, right_looks}
+use Rattle.edits_law.proofs.Pieces.{left_looks, right_looks}
 use Rattle.coord.proofs.Members.{same_some}
 use Rattle.edits_law.proofs.Made.{first_of_two, made_look}
 use Rattle.flat.specs.Pieces.{Giver, gives, Piece, AreLongest, no_more, one_more, up_to, from_on, piece_item, piece_items, cuts_at, is_cut}

@@ -17,11 +17,11 @@ use Rattle.coord.specs.Soundness.{fault_of}
 use Rattle.coord.specs.Soundness.{IsFaultlessItem}
 use Rattle.coord.specs.Programs.{rate_24}
 use Rattle.coord.proofs.SightLemmas.{seen_lengths}
-use Rattle.cuts.specs.Splices.{is_stripped}
-use Rattle.cuts.specs.Children.{Child, Old, Ranged, ticks, with_range, made, all_made, with_first}
-use Rattle.cuts.specs.Cuts.{left_piece, right_piece, is_whole_at, strip, olds, back, cuts_whole}
+use Rattle.edits.specs.Splices.{is_stripped}
+use Rattle.edits.specs.Children.{Child, Old, Ranged, ticks, with_range, made, all_made, with_first}
+use Rattle.edits.specs.Cuts.{left_piece, right_piece, is_whole_at, strip, olds, back, cuts_whole}
 use Rattle.edits.specs.Edges.{added}
-use Rattle.cuts_law.proofs.Splice.{cases, place, stop, whole, inside}
+use Rattle.edits_law.proofs.Splice.{cases, place, stop, whole, inside}
 use Rattle.flat.specs.Windowed.{front_alone, stripped, window_of}
 use Rattle.coord.proofs.Members.{same_some}
 use Rattle.flat_law.proofs.CutOut.{front_past, front_in, front_before, back_past, back_in, back_before, whole_past, whole_in, front_whole}

@@ -23,10 +23,10 @@ use Rattle.coord.specs.Soundness.{IsFaultlessItem}
 use Rattle.coord.specs.Programs.{start_frame}
 use Rattle.coord.proofs.SightLemmas.{seen_lengths, sights-listed}
 use Rattle.coord.proofs.SpareLemmas.{faultless_bare}
-use Rattle.cuts.specs.Finest.{in_range}
-use Rattle.cuts.specs.Nears.{is_whole}
-use Rattle.cuts.specs.Children.{ticks, with_first}
-use Rattle.cuts.specs.Cuts.{strip}
+use Rattle.edits.specs.Finest.{in_range}
+use Rattle.edits.specs.Nears.{is_whole}
+use Rattle.edits.specs.Children.{ticks, with_first}
+use Rattle.edits.specs.Cuts.{strip}
 use Rattle.edits.specs.After.{rate_of, frame_of}
 use Rattle.edits_law.proofs.Clamps.{times_whole}
 use Rattle.edits_law.proofs.Accepted.{times_low}
@@ -158,7 +158,7 @@ tracks_made r a b (x ∷ l) s p n h =
 near_frame : (z : ℤ) (r : Rate) (b : Bool) (e : in_range z ≡ b) (c : Bool) (f : is_whole z r ≡ c) → b ≡ true → c ≡ true → (t : Time) × (t.ticks ≡ z) × (t.rate ≡ r)
 near_frame z r false e c f h k = absurd (cc h)
 near_frame z r true e false f h k = absurd (cc k)
-near_frame z r true e true f h k = (record { ticks = z; rate = r; low = Rattle.cuts.specs.Finest.low_of z e; high = Rattle.cuts.specs.Finest.high_of z e; whole = Rattle.cuts.specs.Finest.zero_of _ f }, refl, refl)
+near_frame z r true e true f h k = (record { ticks = z; rate = r; low = Rattle.edits.specs.Finest.low_of z e; high = Rattle.edits.specs.Finest.high_of z e; whole = Rattle.edits.specs.Finest.zero_of _ f }, refl, refl)
 
 whole_frame : (k : ℤ) (r : Rate) → is_whole (k *ℤ pos (frame r.num r.den)) r ≡ true
 whole_frame k r =
@@ -173,7 +173,7 @@ zone t a b h =
     let f = frame (rate_of t).num (rate_of t).den in
     let low = times_low (b -ℤ a) f (omega (arith, ints)) in
     let e : (b -ℤ start_frame t) *ℤ pos f ≡ ((b -ℤ a) *ℤ pos f) +ℤ ((a -ℤ start_frame t) *ℤ pos f) =
-    (let g : b -ℤ start_frame t ≡ (b -ℤ a) +ℤ (a -ℤ start_frame t) = omega (arith, ints) in ap (λ z. z *ℤ pos f) g) ∙ Rattle.cuts_law.proofs.Pieces.sum-times (b -ℤ a) (a -ℤ start_frame t) (pos f) in
+    (let g : b -ℤ start_frame t ≡ (b -ℤ a) +ℤ (a -ℤ start_frame t) = omega (arith, ints) in ap (λ z. z *ℤ pos f) g) ∙ Rattle.edits_law.proofs.Pieces.sum-times (b -ℤ a) (a -ℤ start_frame t) (pos f) in
     omega (arith, ints, low, e)
 
 all_made : (t : Timeline) (a b : ℤ) → IsFaultless t → HasFair t → a <ℤ b → start_frame t ≤ℤ a → IsFree (WindowBlocks (roots t) (from_start t a) (from_start t b)) → TracksMade (rate_of t) (from_start t a) (from_start t b) (roots t)

@@ -25,20 +25,20 @@ use Rattle.coord.specs.Soundness.{IsFaultless}
 use Rattle.otio_model.specs.Trees.{is_transition}
 use Rattle.coord.specs.Programs.{child_shows, shown_by, at_by, start_frame, record_rate, frame_ticks, instant, rate_of_clip, clip_rate, first_clip, rate_24}
 use Rattle.coord.proofs.SightLemmas.{seen_lengths, sights-items}
-use Rattle.cuts.specs.Finest as finest
-use Rattle.cuts.specs.Splices as L
-use Rattle.cuts.specs.Splices.{is_stripped}
-use Rattle.cuts.specs.Children.{ticks}
-use Rattle.cuts.specs.Cuts.{is_whole_at, strip, cuts_whole}
+use Rattle.edits.specs.Finest as finest
+use Rattle.edits.specs.Splices as L
+use Rattle.edits.specs.Splices.{is_stripped}
+use Rattle.edits.specs.Children.{ticks}
+use Rattle.edits.specs.Cuts.{is_whole_at, strip, cuts_whole}
 use Rattle.edits.specs.Edges.{added}
 use Rattle.edits.specs.After.{rate_of, frame_of}
 use Rattle.edits.specs.After as after
 use Rattle.edits.specs.Good.{AreFair}
-use Rattle.cuts_law.proofs.Splice.{cases, place, stop, whole, inside}
-use Rattle.cuts_law.proofs.Pieces.{strip_looks, sum-times}
+use Rattle.edits_law.proofs.Splice.{cases, place, stop, whole, inside}
+use Rattle.edits_law.proofs.Pieces.{strip_looks, sum-times}
 use Rattle.edits_law.proofs.ListLaws.{good_looks}
 use Rattle.edits_law.proofs.Beside.{total_strip}
-use Rattle.cuts_law.proofs.Sorts.{point, thing, sort}
+use Rattle.edits_law.proofs.Sorts.{point, thing, sort}
 use Rattle.edits_law.proofs.Parted.{added_strip}
 use Rattle.edits_law.proofs.EditShown.{frame_low}
 use Rattle.edits_law.proofs.Accepted.{times_low}
@@ -97,8 +97,8 @@ looks_clear v l a b f =
     let c = stripped_clear (looks v l) a b (good_looks v l f) in
     record {
       good = subst L.AreGood (sym same) c.0;
-      first = subst (Rattle.cuts_law.proofs.Splice.AreClear a a) (sym same) c.1;
-      second = subst (Rattle.cuts_law.proofs.Splice.AreClear b b) (sym same) c.2;
+      first = subst (Rattle.edits_law.proofs.Splice.AreClear a a) (sym same) c.1;
+      second = subst (Rattle.edits_law.proofs.Splice.AreClear b b) (sym same) c.2;
     }
 
 -- what is known of a root child

@@ -4,10 +4,10 @@ use Rattle.std.specs.Prelude.{int_lt, int_le}
 use Rattle.std.proofs.lemmas.Int.{ints, by_lt_z}
 use Rattle.coord.specs.Looks.{Show, Blank, Look, item_shows, next_shows, from_end, mix_shows, blank, list_shows, total}
 use Rattle.otio_model.specs.Overlaps.{within}
-use Rattle.cuts.specs.Splices.{empty, left, front, back, strip, is_stripped, IsGood, AreGood}
+use Rattle.edits.specs.Splices.{empty, left, front, back, strip, is_stripped, IsGood, AreGood}
 use Rattle.coord.proofs.LookSteps.{look_kind, item, transition, mix_item, side_item}
-use Rattle.cuts_law.proofs.Splice.{place, stop, whole, inside, AreClear, mix_step, side_transition, item_front, item_back, mix_front, mix_back, back_stop, back_whole, back_cut, front_stop, front_whole, front_cut, front_none, front_gap, cases, clear_strip, good_strip, shows_same}
-use Rattle.cuts_law.proofs.Seams.{no_later, total_low, append_none}
+use Rattle.edits_law.proofs.Splice.{place, stop, whole, inside, AreClear, mix_step, side_transition, item_front, item_back, mix_front, mix_back, back_stop, back_whole, back_cut, front_stop, front_whole, front_cut, front_none, front_gap, cases, clear_strip, good_strip, shows_same}
+use Rattle.edits_law.proofs.Seams.{no_later, total_low, append_none}
 
 -- ---- the front without a gap for what is missing
 

@@ -1,1 +1,2 @@
 -- Laws of flat timelines; their words stand in `flat`.
+pub mod Inputs

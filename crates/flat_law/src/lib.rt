@@ -1,10 +1,16 @@
-//! What flat timelines show, and that they are there: laws of the definitions that `flat` has.
+//! What flat timelines show, that they are there, and that what is written of a flattened, cut,
+//! joined, piled or straightened timeline stands for it: laws of the definitions that `flat` has.
 //! Their functions do nothing.
 #![tactic(auto)]
 
 mod laws;
+mod written_laws;
 
 pub use laws::{
     first_faults_are_one, flat_calls_are_made, flattened_shows, joined_shows, piled_shows,
     rows_are_worked, straight_shows, stretches_are_built, windowed_shows,
+};
+pub use written_laws::{
+    flattened_timelines_are_writable, joined_timelines_are_writable, kept_timelines_are_writable,
+    piled_timelines_are_writable, straight_timelines_are_writable, windowed_timelines_are_writable,
 };

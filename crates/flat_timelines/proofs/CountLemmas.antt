@@ -13,9 +13,9 @@ use Rattle.otio_model.specs.Falls.{count-listed}
 use Rattle.otio_model.specs.Kept.{capped_count}
 use Rattle.otio_model.specs.Trees.{items_of, listed}
 use Rattle.coord.proofs.Members.{next, none_left, same_some}
-use Rattle.cuts.specs.Children.{Child, Old, Ranged, all_made, made, new_gap, with_first, with_range, start_rate, length_rate}
-use Rattle.cuts.specs.Nears.{near, span_of}
-use Rattle.cuts.specs.Cuts.{olds}
+use Rattle.edits.specs.Children.{Child, Old, Ranged, all_made, made, new_gap, with_first, with_range, start_rate, length_rate}
+use Rattle.edits.specs.Nears.{near, span_of}
+use Rattle.edits.specs.Cuts.{olds}
 use Rattle.flat.specs.Joined.{Slot, pad, joined_with}
 use Rattle.flat.specs.Roots.{is_empty, is_plain}
 use Rattle.flat_law.proofs.Joined.{AreGoodSlots}

@@ -7,7 +7,7 @@ use Rattle.otio_model.specs.declared.compositions.ItemOf.{ItemOf}
 use Rattle.otio_model.specs.declared.compositions.Listed.{Listed}
 use Rattle.coord.specs.Looks.{Overlap}
 use Rattle.coord.specs.Sights.{overlap_of}
-use Rattle.cuts.specs.Children.{ticks}
+use Rattle.edits.specs.Children.{ticks}
 use Rattle.edits.specs.Edges.{added}
 use Rattle.flat.specs.Joined.{begins_early, ends_late}
 use Rattle.flat.specs.Roots.{is_empty}

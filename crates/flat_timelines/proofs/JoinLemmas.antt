@@ -11,9 +11,9 @@ use Rattle.otio_model.specs.declared.timelines.Timeline.{Timeline}
 use Rattle.otio_model.specs.Counts.{count, counts_by}
 use Rattle.otio_model.specs.Falls.{count-listed}
 use Rattle.otio_model.specs.Timelines.{bare}
-use Rattle.cuts.specs.Children.{all_made, with_first}
-use Rattle.cuts.specs.Cuts.{olds}
-use Rattle.cuts_law.proofs.Splice.{cases}
+use Rattle.edits.specs.Children.{all_made, with_first}
+use Rattle.edits.specs.Cuts.{olds}
+use Rattle.edits_law.proofs.Splice.{cases}
 use Rattle.edits.specs.After.{rate_of}
 use Rattle.edits.specs.Edges.{added}
 use Rattle.flat.specs.declared.faults.Cause.TheVariants as C

@@ -11,9 +11,9 @@ use Rattle.otio_model.specs.declared.compositions.Listed.{Listed}
 use Rattle.otio_model.specs.Counts.{count}
 use Rattle.otio_model.specs.Trees.{children_of, items_of}
 use Rattle.coord.proofs.Members.{child_few, next, none_left, same_some}
-use Rattle.cuts.specs.Finest.{in_range}
-use Rattle.cuts.specs.Children.{Child, all_made, made, new_gap, is_far, with_first}
-use Rattle.cuts.specs.Cuts.{olds}
+use Rattle.edits.specs.Finest.{in_range}
+use Rattle.edits.specs.Children.{Child, all_made, made, new_gap, is_far, with_first}
+use Rattle.edits.specs.Cuts.{olds}
 use Rattle.flat.specs.Joined.{Slot, own_items, pad, track_of}
 use Rattle.flat.specs.Roots.{is_empty}
 use Rattle.flat_law.proofs.Exists.{range_yes}

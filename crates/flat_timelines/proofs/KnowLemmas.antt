@@ -20,7 +20,7 @@ use Rattle.otio_model.specs.Trees.{items_of}
 use Rattle.coord.specs.Programs.{kind_of}
 use Rattle.coord.specs.Soundness.{AreFaultless}
 use Rattle.coord.proofs.Members.{child_few}
-use Rattle.cuts_law.proofs.Splice.{cases}
+use Rattle.edits_law.proofs.Splice.{cases}
 use Rattle.flat.specs.Joined.{slots_in, track_of}
 use Rattle.flat.specs.Roots.{is_of, is_plain, is_track}
 use Rattle.pieces.specs.Short.{AreCuttable}

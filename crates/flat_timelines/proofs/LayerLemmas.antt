@@ -7,7 +7,7 @@ use Rattle.limits.specs.Limits.{most_ticks}
 use Rattle.otio_model.specs.declared.compositions.ItemOf.{ItemOf}
 use Rattle.otio_model.specs.declared.compositions.Listed.{Listed}
 use Rattle.coord.proofs.Members.{none_left, next}
-use Rattle.cuts.specs.Children.{ticks}
+use Rattle.edits.specs.Children.{ticks}
 use Rattle.edits.specs.Edges.{added}
 use Rattle.edits_law.proofs.Parted.{added_low}
 use Rattle.coord.proofs.LookSteps.{is_within, missed_behind}
@@ -42,7 +42,7 @@ item_is : (roots l : List (ItemOf Listed)) (k n : ℕ) (y x : ItemOf Listed) →
     → items_in y ≡ l → slice_get l n ≡ Some x → item_in (slice_get roots k) n ≡ x
 item_is roots l k n y x e f g =
     ap (λ o. item_in o n) e
-    ∙ ap (λ o. elim o [ None ↦ Rattle.cuts.specs.Children.plain_gap | Some z ↦ z ]) (ap (λ m. slice_get m n) f ∙ g)
+    ∙ ap (λ o. elim o [ None ↦ Rattle.edits.specs.Children.plain_gap | Some z ↦ z ]) (ap (λ m. slice_get m n) f ∙ g)
 
 given_is : (roots : List (ItemOf Listed)) (k n : ℕ) (at : ℤ) (x : ItemOf Listed)
     → item_in (slice_get roots k) n ≡ x

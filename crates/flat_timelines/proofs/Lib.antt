@@ -29,3 +29,9 @@ pub mod SoughtLemmas
 pub mod RefusalLemmas
 mod PieceLemmas
 mod PileLemmas
+pub mod CountedSteps
+pub mod Carrying
+pub mod Ending
+pub mod OneStep
+pub mod OneGathered
+pub mod OneOutcome

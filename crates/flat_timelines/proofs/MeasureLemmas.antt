@@ -12,7 +12,7 @@ use Rattle.otio_model.specs.Sums.{greatest}
 use Rattle.otio_model.proofs.LengthLimits.{few_enough}
 use Rattle.coord.specs.Sights.{sight, lengths_seen}
 use Rattle.coord.proofs.SightLemmas.{sights-items, seen_lengths}
-use Rattle.cuts.specs.Children.{ticks}
+use Rattle.edits.specs.Children.{ticks}
 use Rattle.edits.specs.Edges.{added}
 use Rattle.flat.specs.Joined.{longest_root, rounded_up}
 use Rattle.pieces.specs.Short.{AreCuttable}

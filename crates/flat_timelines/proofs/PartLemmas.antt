@@ -12,9 +12,9 @@ use Rattle.otio_model.specs.Lengths.{trimmed_start, length_of}
 use Rattle.otio_model.specs.Trees.{is_transition}
 use Rattle.coord.specs.Soundness.{fault_of}
 use Rattle.coord.specs.Speeds.{speed_of}
-use Rattle.cuts.specs.Children.{ticks, made, Ranged, with_range}
-use Rattle.cuts.specs.Cuts.{left_piece, is_whole_at}
-use Rattle.cuts_law.proofs.Splice.{cases}
+use Rattle.edits.specs.Children.{ticks, made, Ranged, with_range}
+use Rattle.edits.specs.Cuts.{left_piece, is_whole_at}
+use Rattle.edits_law.proofs.Splice.{cases}
 use Rattle.flat.specs.Pieces.{up_to, from_on, cuts_at}
 use Rattle.flat_law.proofs.Exists.{left_made, sound_one}
 use Rattle.coord.proofs.Members.{same_some}
@@ -66,7 +66,7 @@ pub back_all : (r : Rate) (x y : ItemOf Listed) (t : ℤ) → t ≤ℤ pos 0 →
 back_all r x y t h f = let g = lt_no (pos 0) t h in rw g (ap Some (sym f))
 
 pub back_cut : (r : Rate) (x y : ItemOf Listed) (t : ℤ) → pos 0 <ℤ t
-    → from_on r t x ≡ made r (Rattle.cuts.specs.Cuts.right_piece x t)
+    → from_on r t x ≡ made r (Rattle.edits.specs.Cuts.right_piece x t)
 back_cut r x y t h = let g = lt_yes (pos 0) t h in rw g refl
 
 -- ---- the first piece, to be cut again

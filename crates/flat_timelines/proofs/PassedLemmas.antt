@@ -7,11 +7,11 @@ use Rattle.otio_model.specs.declared.compositions.ItemOf.{ItemOf}
 use Rattle.otio_model.specs.declared.compositions.Listed.{Listed}
 use Rattle.coord.specs.Sights.{overlap_of}
 use Rattle.coord.proofs.Members.{none_left, same_some}
-use Rattle.cuts.specs.Splices.{is_stripped}
-use Rattle.cuts.specs.Children.{ticks, made, all_made, with_first}
-use Rattle.cuts.specs.Cuts.{left_piece, right_piece, strip, olds, back}
-use Rattle.cuts_law.proofs.Splice.{cases, place, stop, whole, inside}
-use Rattle.cuts_law.proofs.Sorts.{sort, point, thing}
+use Rattle.edits.specs.Splices.{is_stripped}
+use Rattle.edits.specs.Children.{ticks, made, all_made, with_first}
+use Rattle.edits.specs.Cuts.{left_piece, right_piece, strip, olds, back}
+use Rattle.edits_law.proofs.Splice.{cases, place, stop, whole, inside}
+use Rattle.edits_law.proofs.Sorts.{sort, point, thing}
 use Rattle.edits.specs.Edges.{added}
 use Rattle.edits_law.proofs.Parted.{added_strip}
 use Rattle.flat.specs.Pieces.{up_to, from_on, cuts_at}

@@ -13,7 +13,7 @@ use Rattle.otio_model.specs.declared.timelines.Timeline.{Timeline}
 use Rattle.otio_model.specs.Timelines.{bare}
 use Rattle.otio_model.specs.Trees.{items_of, is_transition}
 use Rattle.coord.specs.Soundness.{AreFaultless, IsFaultlessItem}
-use Rattle.cuts.specs.Children.{ticks, made, new_gap, with_first, is_far}
+use Rattle.edits.specs.Children.{ticks, made, new_gap, with_first, is_far}
 use Rattle.edits.specs.After.{rate_of}
 use Rattle.edits_law.proofs.Parted.{added_low}
 use Rattle.flat.specs.Roots.{is_of, is_enabled, is_layer, is_track, items_in, roots, with_roots}

@@ -8,7 +8,7 @@ use Rattle.otio_model.specs.Counts.{count}
 use Rattle.otio_model.specs.Trees.{items_of, children_of}
 use Rattle.coord.specs.Soundness.{Precedes, AreFaultless}
 use Rattle.coord.proofs.Members.{got_below, child_few, index_few, same_some}
-use Rattle.cuts_law.proofs.Splice.{cases}
+use Rattle.edits_law.proofs.Splice.{cases}
 use Rattle.flat.specs.declared.faults.Cause.{Cause}
 use Rattle.flat.specs.declared.faults.Cause.TheVariants as C
 use Rattle.flat.specs.Roots.{is_track, items_in}
@@ -91,7 +91,7 @@ pub child_item : (l : List (ItemOf Listed)) (k i : ℕ) (x : ItemOf Listed) → 
     → item_in (slice_get l k) i ≡ x
 child_item l k i x h =
     ap (λ o. item_in o i) h.there
-    ∙ ap (λ o. elim o [ None ↦ Rattle.cuts.specs.Children.plain_gap | Some z ↦ z ]) h.inner
+    ∙ ap (λ o. elim o [ None ↦ Rattle.edits.specs.Children.plain_gap | Some z ↦ z ]) h.inner
 
 pub child_cuttable : (l : Listed) (k i : ℕ) (x : ItemOf Listed) → IsChildOf (items_of l) k i x
     → AreFaultless l → count l < 2 ^ 32 → IsCuttable x

@@ -8,7 +8,7 @@ use Rattle.std.proofs.Math.Seq.{take-add}
 use Rattle.otio_model.specs.declared.compositions.ItemOf.{ItemOf}
 use Rattle.otio_model.specs.declared.compositions.Listed.{Listed}
 use Rattle.coord.proofs.Members.{none_left, next, got_below}
-use Rattle.cuts_law.proofs.Splice.{cases}
+use Rattle.edits_law.proofs.Splice.{cases}
 use Rattle.flat.specs.Roots.{is_layer, items_in}
 use Rattle.flat.specs.Pieces.{Giver, holder, giver}
 use Rattle.flat.specs.Built.{IsOne}

@@ -4,7 +4,7 @@ use Rattle.otio_model.specs.declared.compositions.ItemOf.{ItemOf}
 use Rattle.otio_model.specs.declared.compositions.ItemOf.TheVariants.{Clip, Gap, Transition, Stack, Track}
 use Rattle.otio_model.specs.declared.compositions.Listed.{Listed}
 use Rattle.otio_model.specs.Trees.{listed, items_of, is_transition}
-use Rattle.cuts_law.proofs.Splice.{cases}
+use Rattle.edits_law.proofs.Splice.{cases}
 use Rattle.flat.specs.Straight.{without}
 use Rattle.flat_law.proofs.Flat.{items-listed}
 use Rattle.flat_law.proofs.Straight.{whole_item, straight-items, step_out, step_in}

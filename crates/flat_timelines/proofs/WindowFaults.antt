@@ -5,7 +5,7 @@ use Rattle.std.proofs.lemmas.Int.{ints}
 use Rattle.otio_model.specs.declared.compositions.ItemOf.{ItemOf}
 use Rattle.otio_model.specs.declared.compositions.Listed.{Listed}
 use Rattle.coord.proofs.Members.{got_below, same_some}
-use Rattle.cuts.specs.Children.{ticks}
+use Rattle.edits.specs.Children.{ticks}
 use Rattle.edits.specs.Edges.{added}
 use Rattle.flat.specs.declared.faults.Cause.{Cause}
 use Rattle.flat.specs.declared.faults.Cause.TheVariants as C

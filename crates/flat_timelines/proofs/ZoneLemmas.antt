@@ -15,8 +15,8 @@ use Rattle.otio_model.specs.declared.timelines.Timeline.{Timeline}
 use Rattle.coord.specs.Keys.{frame_rate}
 use Rattle.coord.specs.Programs.{start_frame, frame_ticks, first_clip}
 use Rattle.coord.specs.Soundness.{StartsOnFrame}
-use Rattle.cuts.specs.Finest.{in_range, rate_24}
-use Rattle.cuts_law.proofs.Pieces.{sum-times}
+use Rattle.edits.specs.Finest.{in_range, rate_24}
+use Rattle.edits_law.proofs.Pieces.{sum-times}
 use Rattle.edits.specs.After.{clip_rate, rate_of, frame_of}
 use Rattle.flat.specs.Windowed.{from_start, is_window}
 use Rattle.edits_law.proofs.Accepted.{times_low}

@@ -17,8 +17,8 @@ use Rattle.otio_model.specs.Timelines.{bare}
 use Rattle.otio_model.specs.Counts.{count, count_of}
 use Rattle.coord.specs.Programs.{kind_of}
 use Rattle.coord.specs.Soundness.{AreFaultless}
-use Rattle.cuts.specs.Children.{Child, Old, Ranged, all_made, with_first}
-use Rattle.cuts.specs.Cuts.{olds}
+use Rattle.edits.specs.Children.{Child, Old, Ranged, all_made, with_first}
+use Rattle.edits.specs.Cuts.{olds}
 use Rattle.edits.specs.Edges.{added}
 use Rattle.flat.specs.Joined.{Slot, joined_with, own_items, pad, slots_in, stretch, track_of}
 use Rattle.flat.specs.Answers.{Joins}

@@ -1,4 +1,5 @@
--- Flat timelines as the code makes them: their definitions stand in `flat`.
+-- Flat timelines as the code makes them (their definitions stand in `flat`), and what is done with
+-- sound timelines, step by step, and why there is nothing.
 pub mod Spots
 pub mod Runs
 pub mod Blocking
@@ -12,3 +13,8 @@ pub mod Placed
 pub mod Misfits
 pub mod Parts
 pub mod Refused
+pub mod Chains
+pub mod Ready
+pub mod Gathered
+pub mod Shaped
+pub mod Tooled

@@ -3,8 +3,8 @@ use Rattle.std.specs.Prelude.{◌≡◌, ℕ, ◌*◌, ℤ, pos, ◌-ℤ◌, ◌
 use Rattle.tick_time.specs.declared.rates.Rate.{Rate}
 use Rattle.otio_model.specs.declared.compositions.ItemOf.{ItemOf}
 use Rattle.otio_model.specs.declared.compositions.Listed.{Listed}
-use Rattle.cuts.specs.Children.{ticks, made}
-use Rattle.cuts.specs.Cuts.{right_piece}
+use Rattle.edits.specs.Children.{ticks, made}
+use Rattle.edits.specs.Cuts.{right_piece}
 use Rattle.edits.specs.Edges.{added}
 use Rattle.flat.specs.Pieces.{up_to}
 use Rattle.flat.specs.Windowed.{stripped}

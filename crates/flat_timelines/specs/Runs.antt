@@ -3,7 +3,7 @@ use Rattle.std.specs.Prelude.{◌≡◌, ℕ, ◌+◌, ℤ, pos, ◌<ℤ◌, ◌
 use Rattle.std.specs.Option.{option_or}
 use Rattle.otio_model.specs.declared.compositions.ItemOf.{ItemOf}
 use Rattle.otio_model.specs.declared.compositions.Listed.{Listed}
-use Rattle.cuts.specs.Children.{plain_gap, ticks}
+use Rattle.edits.specs.Children.{plain_gap, ticks}
 use Rattle.edits.specs.Edges.{added}
 use Rattle.flat.specs.Roots.{is_layer, items_in}
 use Rattle.flat.specs.Pieces.{Giver, Piece, gives, holder}

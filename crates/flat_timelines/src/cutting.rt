@@ -1,7 +1,7 @@
 //! Parts of items between two instants.
 
 ghost use Rattle.std.specs.Prelude.{◌≡◌, ◌<ℤ◌, IfOk, Some, pos, true, option_and_then};
-ghost use Rattle.cuts.specs.Children as children;
+ghost use Rattle.edits.specs.Children as children;
 ghost use Rattle.flat.specs.Pieces as flat_pieces;
 ghost use Rattle.pieces.specs.Short.{IsCuttable};
 

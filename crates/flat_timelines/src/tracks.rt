@@ -5,7 +5,7 @@ ghost use Rattle.std.specs.Prelude.{IfSome, length, nat_lt, OnOk, pos, slice_get
 ghost use Rattle.limits.specs.Limits.{most_ticks};
 ghost use Rattle.otio_model.specs.Counts.{count};
 ghost use Rattle.otio_model.specs.Trees.{children_of, items_of};
-ghost use Rattle.cuts.specs.Children as children;
+ghost use Rattle.edits.specs.Children as children;
 ghost use Rattle.edits.specs.Edges.{added};
 ghost use Rattle.flat.specs.Joined as joined;
 ghost use Rattle.pieces.specs.Short.{AreCuttable};

@@ -2,12 +2,12 @@
 
 ghost use Rattle.std.specs.Prelude.{◌≡◌, ◌<◌, ◌^◌, ◌||◌, ◌≤ℤ◌, ◌<ℤ◌, ◌-ℤ◌, IfErr, IfOk, OnOk, Some};
 ghost use Rattle.std.specs.Prelude.{◌&&◌, int_le, int_lt, length, pos, true};
-ghost use Rattle.cuts.specs.Children as children;
+ghost use Rattle.edits.specs.Children as children;
 ghost use Rattle.otio_model.specs.Counts.{count, count_of};
 ghost use Rattle.otio_model.specs.Trees.{items_of};
 ghost use Rattle.coord.specs.Sights.{overlap_of};
 ghost use Rattle.coord.specs.Soundness.{AreFaultless, IsFaultlessItem, IsSound};
-ghost use Rattle.cuts.specs.Splices.{is_stripped as is_met};
+ghost use Rattle.edits.specs.Splices.{is_stripped as is_met};
 ghost use Rattle.flat.specs.Answers as answers;
 ghost use Rattle.flat.specs.Blocked.{IsFree};
 ghost use Rattle.flat.specs.Roots as roots;

@@ -2,7 +2,7 @@
 
 ghost use Rattle.std.specs.Prelude.{◌≡◌, ◌*ℤ◌, ◌-ℤ◌, ◌≤ℤ◌, IfNone, IfSome, false, pos};
 ghost use Rattle.tick_time.specs.Rates.{frame};
-ghost use Rattle.cuts.specs.Finest.{in_range};
+ghost use Rattle.edits.specs.Finest.{in_range};
 ghost use Rattle.coord.specs.Soundness.{StartsOnFrame};
 ghost use Rattle.flat.specs.Windowed.{is_window};
 ghost use Rattle.flat_timelines.specs.Ends.{IsZone};

@@ -2,7 +2,7 @@
 use Rattle.std.proofs.Common.{ℕ, zero, suc, ◌*◌, List, [], ◌∷◌, ◌++◌, replicate, refl}
 use Rattle.json_value.specs.declared.Json.{Json}
 use Rattle.json_text.specs.Grammar.{AreBlank, Value, blank as value_blank, Items, items_blank, MoreItems, more_items_blank, Pairs, pairs_blank, MorePairs, more_pairs_blank, Pair, pair_blank}
-use Rattle.json_layout.specs.Layout.{newline}
+use Rattle.json_text.specs.Layout.{newline}
 
 AreBlank-replicate : (n : ℕ) → AreBlank (replicate n 32)
 AreBlank-replicate zero = tt

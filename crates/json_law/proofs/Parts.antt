@@ -5,9 +5,9 @@ use Rattle.sequences.specs.Pairs.{names_of, AreDistinct}
 use Rattle.json_value.specs.declared.Json.{Json, Null, Bool as JsonOfBool, Num, Str, List as JsonOfList, Map as JsonOfMap}
 use Rattle.json_text.specs.Numeral.{IsJsonNumeral}
 use Rattle.json_text.specs.Grammar.{Value, blank as value_blank, null as value_null, yes, no, number as value_number, string as value_string, list as value_list, map as value_map, Items, Pairs, Pair, pair_named, colon_here}
-use Rattle.json_layout.specs.Strings.{escaped, quoted}
-use Rattle.json_layout.specs.Layout.{text_at, newline, item_lines, member_lines, member_text, list_text, object_text}
-use Rattle.json_layout.proofs.Lines.{text_at-Null, text_at-Bool, text_at-Num, text_at-Str, text_at-List, text_at-Map}
+use Rattle.json_text.specs.StringTexts.{escaped, quoted}
+use Rattle.json_text.specs.Layout.{text_at, newline, item_lines, member_lines, member_text, list_text, object_text}
+use Rattle.json_text.proofs.Lines.{text_at-Null, text_at-Bool, text_at-Num, text_at-Str, text_at-List, text_at-Map}
 use Rattle.json_law.proofs.Strings.{Chars-escaped}
 use Rattle.json_law.proofs.Names.{merged_same}
 

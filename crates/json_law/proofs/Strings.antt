@@ -7,7 +7,7 @@ use Rattle.std.proofs.lemmas.Str.{encode_ascii, digit_value-digit_char}
 use lib.Utf8.{scalar, scalars, encodes, encode, low_scalar}
 use lib.Dec.{ltb}
 use Rattle.json_text.specs.Grammar.{Chars, close, plain, short, code, FourDigits, escaped as escape_of}
-use Rattle.json_layout.specs.Strings.{escape, escaped, code_escape}
+use Rattle.json_text.specs.StringTexts.{escape, escaped, code_escape}
 
 below_or : (c d : ℕ) → (c < d) ⊎ (d ≤ c)
 below_or c d = by (nat_lt c d) refl where

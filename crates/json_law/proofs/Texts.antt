@@ -2,7 +2,7 @@
 use Rattle.std.proofs.Common.{◌≡◌, ℕ, ◌+◌, List, [], ◌∷◌, ◌++◌, refl, sym, subst, append_assoc}
 use Rattle.json_value.specs.declared.Json.{Json}
 use Rattle.json_text.specs.Grammar.{Value, Items, items_none, items_some, MoreItems, more_items_done, more_items_next, Pairs, pairs_none, pairs_some, MorePairs, more_pairs_done, more_pairs_next}
-use Rattle.json_layout.specs.Layout.{text_at, newline, item_lines, member_lines, member_text}
+use Rattle.json_text.specs.Layout.{text_at, newline, item_lines, member_lines, member_text}
 use Rattle.json_law.specs.Written.{IsJson, null, truth, number, string, list, object, AreJson, no_values, more_values, AreMembers, no_members, more_members, LayoutIsText}
 use Rattle.json_law.proofs.Blanks.{AreBlank-newline, before_value, before_more_items, before_more_pairs, before_pair}
 use Rattle.json_law.proofs.Parts.{null_text, bool_at, number_at, string_at, list_rest, list_at, object_rest, object_at, member_at}

@@ -6,7 +6,7 @@ use Rattle.json_value.specs.declared.Json.{Json}
 use Rattle.json_value.specs.declared.Json.TheVariants.{Null, Bool as JsonOfBool, Num, Str, List as JsonOfList, Map as JsonOfMap}
 use Rattle.json_text.specs.Numeral.{IsJsonNumeral}
 use Rattle.json_text.specs.Grammar.{text_of}
-use Rattle.json_layout.specs.Layout.{layout}
+use Rattle.json_text.specs.Layout.{layout}
 
 mutual
   -- The numerals of the value are JSON numerals, its texts and names are UTF-8, the names of an

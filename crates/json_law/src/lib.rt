@@ -1,7 +1,11 @@
-//! The text that is written of a JSON value is a JSON text of that value.
+//! The text that is written of a JSON value is a JSON text of that value, and the numerals of a
+//! value that was read are the numbers that exact times are read from, also when its old objects
+//! are upgraded.
 #![tactic(auto)]
 
 ghost use Rattle.json_law.specs.Written.{LayoutIsText, ReadIsJson, RereadIsSame};
+ghost use Rattle.json_law.specs.Forms.{HaveOneForm};
+ghost use Rattle.json_law.specs.Law.{ReadHasNumerals, UpgradedHasNumerals};
 
 /// The layout of a value is a JSON text (RFC 8259) of that value, where at most 127 lists and
 /// objects stand in one another in it and its numerals are JSON numerals; and each value that a
@@ -11,4 +15,18 @@ pub fn layout_is_text()
     ensures layout { LayoutIsText }
     ensures read { ReadIsJson }
     ensures reread { RereadIsSame }
+{}
+
+/// A text is a numeral of a JSON value exactly where it is a number of RFC 8259, section 6, of
+/// which [`tick_time::Decimal::read`] reads the value.
+pub fn one_form()
+    ensures { HaveOneForm }
+{}
+
+/// Law: each numeral in a value that a JSON text (RFC 8259) stands for is a number of JSON, as
+/// `schema_tab` asks of the values that it reads; and so is each one in what that value is upgraded
+/// to. It does nothing.
+pub fn read_has_numerals()
+    ensures read { ReadHasNumerals }
+    ensures upgraded { UpgradedHasNumerals }
 {}

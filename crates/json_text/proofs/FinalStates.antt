@@ -10,8 +10,8 @@ use Rattle.json_text.specs.State.Machine.{StringPlace, plain, escape, code, high
 use Rattle.json_text.specs.declared.state.Digits.{Digits}
 use Rattle.json_text.specs.declared.state.Digits.TheVariants.{Zero as NoDigit, One, Two, Three}
 use Rattle.json_text.specs.declared.state.Place.{Place}
-use Rattle.json_text.specs.declared.state.Level.{Level}
-use Rattle.json_text.specs.declared.state.Level.TheVariants.{List as LevelOfList, Map as LevelOfMap}
+use Rattle.json_text.specs.declared.state.Unclosed.{Unclosed}
+use Rattle.json_text.specs.declared.state.Unclosed.TheVariants.{List as LevelOfList, Map as LevelOfMap}
 use Rattle.json_text.proofs.Utf8Lemmas.{Within, wide_of, order}
 use Rattle.json_text.proofs.NumberLemmas.{Completed, numeral_to}
 use Rattle.json_text.proofs.TextSteps.{opens, Escaped, in_short, in_code_of, in_pair, opens_code, digits_of}
@@ -109,7 +109,7 @@ no_more_pairs room ps rest (more_pairs_done r bytes y rest' e f) = cc e
 no_more_pairs room ps rest (more_pairs_next r bytes y rest' m mid name x others e f k l) = cc e
 
 -- ---- the states that end a text
-number_last : (limit : ℕ) (levels : List Level) (t : List ℕ) (place : Place) (v : Json) → IsUtf8 t → (more rest : List ℕ) → [] ≡ more ++ rest → Completes (Some place) more → Rest limit levels (Num (t ++ more)) rest v
+number_last : (limit : ℕ) (levels : List Unclosed) (t : List ℕ) (place : Place) (v : Json) → IsUtf8 t → (more rest : List ℕ) → [] ≡ more ++ rest → Completes (Some place) more → Rest limit levels (Num (t ++ more)) rest v
     → at_last_in levels (number t place) ≡ Some v
 number_last limit [] t place v u [] [] e k h = let p = is_utf8-from_IsUtf8 t u in rw (k, p) (ap Some (ap Num (sym (append-nil t)) ∙ h.1))
 number_last limit (LevelOfList xs ∷ ls) t place v u [] [] e k h = absurd (no_more_items _ h.0 h.1 h.2)
@@ -117,7 +117,7 @@ number_last limit (LevelOfMap ps name ∷ ls) t place v u [] [] e k h = absurd (
 number_last limit levels t place v u [] (x ∷ rest) e k h = cc e
 number_last limit levels t place v u (x ∷ more) rest e k h = cc e
 
-last_is : (limit : ℕ) (levels : List Level) (hand : Hand) (v : Json) → IsState levels hand → Finishes limit levels hand [] v → at_last_in levels hand ≡ Some v
+last_is : (limit : ℕ) (levels : List Unclosed) (hand : Hand) (v : Json) → IsState levels hand → Finishes limit levels hand [] v → at_last_in levels hand ≡ Some v
 last_is limit levels value v is h = absurd (no_value _ h.0 h.1 h.2)
 last_is limit [] first_item v is h = absurd h
 last_is limit (LevelOfMap ps name ∷ ls) first_item v is h = absurd h
@@ -142,7 +142,7 @@ last_is limit levels (text role t part) v is h = absurd (no_part part h.0 h.1 h.
 none_is : {A : Type 0} (x : A) → None ≡ Some x → ⊥
 none_is x e = cc e
 
-last_finishes : (limit : ℕ) (levels : List Level) (hand : Hand) (v : Json) → IsState levels hand → at_last_in levels hand ≡ Some v → Finishes limit levels hand [] v
+last_finishes : (limit : ℕ) (levels : List Unclosed) (hand : Hand) (v : Json) → IsState levels hand → at_last_in levels hand ≡ Some v → Finishes limit levels hand [] v
 last_finishes limit [] (done x) v is e = let f : x ≡ v = cc e in (tt, f)
 last_finishes limit [] (number t place) v is e = by (ends place) refl e
   where

@@ -13,52 +13,52 @@ use Rattle.json_text.specs.declared.state.Digits.TheVariants.{Zero as NoDigit, O
 use Rattle.json_text.specs.declared.state.Place.{Place}
 use Rattle.json_text.specs.declared.state.Role.{Role}
 use Rattle.json_text.specs.declared.state.Role.TheVariants.{Name, Content}
-use Rattle.json_text.specs.declared.state.Level.{Level}
-use Rattle.json_text.specs.declared.state.Level.TheVariants.{List as LevelOfList, Map as LevelOfMap}
+use Rattle.json_text.specs.declared.state.Unclosed.{Unclosed}
+use Rattle.json_text.specs.declared.state.Unclosed.TheVariants.{List as LevelOfList, Map as LevelOfMap}
 use Rattle.json_text.proofs.Utf8Lemmas.{Within}
 
 -- how many lists and objects may still be opened inside these
-abbrev pub room : ℕ → List Level → ℕ
+abbrev pub room : ℕ → List Unclosed → ℕ
 room limit levels = limit - length levels
 
 -- what may follow a value inside these levels, so that all of it is the value v
-abbrev pub Rest : ℕ → List Level → Json → List ℕ → Json → Type 0
+abbrev pub Rest : ℕ → List Unclosed → Json → List ℕ → Json → Type 0
 Rest limit [] x bytes v = AreBlank bytes × (x ≡ v)
 Rest limit (LevelOfList xs ∷ ls) x bytes v = (others : List Json) × (rest : List ℕ) × MoreItems (limit - suc (length ls)) bytes others rest × Rest limit ls (JsonOfList ((xs ++ (x ∷ [])) ++ others)) rest v
 Rest limit (LevelOfMap ps name ∷ ls) x bytes v = (others : List (List ℕ × Json)) × (rest : List ℕ) × MorePairs (limit - suc (length ls)) bytes others rest
     × Rest limit ls (JsonOfMap (merged ((ps ++ ((name, x) ∷ [])) ++ others))) rest v
 
-abbrev pub OfBehind : ℕ → List Level → List ℕ → Json → Type 0
+abbrev pub OfBehind : ℕ → List Unclosed → List ℕ → Json → Type 0
 OfBehind limit [] bytes v = ⊥
 OfBehind limit (LevelOfList xs ∷ ls) bytes v = (others : List Json) × (rest : List ℕ) × MoreItems (limit - suc (length ls)) bytes others rest × Rest limit ls (JsonOfList (xs ++ others)) rest v
 OfBehind limit (LevelOfMap ps name ∷ ls) bytes v = (others : List (List ℕ × Json)) × (rest : List ℕ) × MorePairs (limit - suc (length ls)) bytes others rest × Rest limit ls (JsonOfMap (merged (ps ++ others))) rest v
 
-abbrev pub OfValue : ℕ → List Level → List ℕ → Json → Type 0
+abbrev pub OfValue : ℕ → List Unclosed → List ℕ → Json → Type 0
 OfValue limit levels bytes v = (x : Json) × (rest : List ℕ) × Value (limit - length levels) bytes x rest × Rest limit levels x rest v
 
-abbrev pub OfFirstItem : ℕ → List Level → List ℕ → Json → Type 0
+abbrev pub OfFirstItem : ℕ → List Unclosed → List ℕ → Json → Type 0
 OfFirstItem limit [] bytes v = ⊥
 OfFirstItem limit (LevelOfMap ps name ∷ ls) bytes v = ⊥
 OfFirstItem limit (LevelOfList xs ∷ ls) bytes v = (items : List Json) × (rest : List ℕ) × Items (limit - suc (length ls)) bytes items rest × Rest limit ls (JsonOfList (xs ++ items)) rest v
 
-abbrev pub OfFirstName : ℕ → List Level → List ℕ → Json → Type 0
+abbrev pub OfFirstName : ℕ → List Unclosed → List ℕ → Json → Type 0
 OfFirstName limit [] bytes v = ⊥
 OfFirstName limit (LevelOfList xs ∷ ls) bytes v = ⊥
 OfFirstName limit (LevelOfMap ps name ∷ ls) bytes v = (pairs : List (List ℕ × Json)) × (rest : List ℕ) × Pairs (limit - suc (length ls)) bytes pairs rest × Rest limit ls (JsonOfMap (merged (ps ++ pairs))) rest v
 
-abbrev pub OfNextName : ℕ → List Level → List ℕ → Json → Type 0
+abbrev pub OfNextName : ℕ → List Unclosed → List ℕ → Json → Type 0
 OfNextName limit [] bytes v = ⊥
 OfNextName limit (LevelOfList xs ∷ ls) bytes v = ⊥
 OfNextName limit (LevelOfMap ps old ∷ ls) bytes v = (name : List ℕ) × (x : Json) × (rest : List ℕ) × Pair (limit - suc (length ls)) bytes name x rest × Rest limit (LevelOfMap ps name ∷ ls) x rest v
 
-abbrev pub OfColon : ℕ → List Level → List ℕ → Json → Type 0
+abbrev pub OfColon : ℕ → List Unclosed → List ℕ → Json → Type 0
 OfColon limit levels bytes v = (mid : List ℕ) × (x : Json) × (rest : List ℕ) × Colon bytes mid × Value (limit - length levels) mid x rest × Rest limit levels x rest v
 
-abbrev pub OfDone : List Level → Json → List ℕ → Json → Type 0
+abbrev pub OfDone : List Unclosed → Json → List ℕ → Json → Type 0
 OfDone [] x bytes v = AreBlank bytes × (x ≡ v)
 OfDone (l ∷ ls) x bytes v = ⊥
 
-abbrev pub OfWord : ℕ → List Level → Json → List ℕ → List ℕ → Json → Type 0
+abbrev pub OfWord : ℕ → List Unclosed → Json → List ℕ → List ℕ → Json → Type 0
 OfWord limit levels x [] bytes v = ⊥
 OfWord limit levels x (w ∷ ws) bytes v = (rest : List ℕ) × (bytes ≡ w ∷ (ws ++ rest)) × Rest limit levels x rest v
 
@@ -68,7 +68,7 @@ Completes None bytes = ⊥
 Completes (Some place) [] = ends place ≡ true
 Completes (Some place) (b ∷ bs) = Completes (next_place place b) bs
 
-abbrev pub OfNumber : ℕ → List Level → List ℕ → Place → List ℕ → Json → Type 0
+abbrev pub OfNumber : ℕ → List Unclosed → List ℕ → Place → List ℕ → Json → Type 0
 OfNumber limit levels t place bytes v = (more : List ℕ) × (rest : List ℕ) × (bytes ≡ more ++ rest) × Completes (Some place) more × Rest limit levels (Num (t ++ more)) rest v
 
 -- the second half of a character, and the characters behind it
@@ -112,17 +112,17 @@ In (tail []) bytes more rest = ⊥
 In (tail (r ∷ rs)) bytes more rest = IsTail (r ∷ rs) bytes more rest
 
 -- what may follow a string
-abbrev pub Ends : ℕ → List Level → Role → List ℕ → List ℕ → Json → Type 0
+abbrev pub Ends : ℕ → List Unclosed → Role → List ℕ → List ℕ → Json → Type 0
 Ends limit levels Content t rest v = Rest limit levels (Str t) rest v
 Ends limit [] Name t rest v = ⊥
 Ends limit (LevelOfList xs ∷ ls) Name t rest v = ⊥
 Ends limit (LevelOfMap ps old ∷ ls) Name t rest v = OfColon limit (LevelOfMap ps t ∷ ls) rest v
 
-abbrev pub OfText : ℕ → List Level → Role → List ℕ → StringPlace → List ℕ → Json → Type 0
+abbrev pub OfText : ℕ → List Unclosed → Role → List ℕ → StringPlace → List ℕ → Json → Type 0
 OfText limit levels role t part bytes v = (more : List ℕ) × (rest : List ℕ) × In part bytes more rest × Ends limit levels role (t ++ more) rest v
 
 -- the bytes finish what the machine has begun, to the value v
-abbrev pub Finishes : ℕ → List Level → Hand → List ℕ → Json → Type 0
+abbrev pub Finishes : ℕ → List Unclosed → Hand → List ℕ → Json → Type 0
 Finishes limit levels value bytes v = OfValue limit levels bytes v
 Finishes limit levels first_item bytes v = OfFirstItem limit levels bytes v
 Finishes limit levels first_name bytes v = OfFirstName limit levels bytes v
@@ -168,25 +168,25 @@ IsPart (tail []) t = ⊥
 IsPart (tail (r ∷ rs)) t = AreRanges (r ∷ rs) × ((w : List ℕ) → Within (r ∷ rs) w → IsUtf8 (t ++ w))
 
 -- the innermost level is an object, a list, or there is none
-abbrev pub InMap : List Level → Type 0
+abbrev pub InMap : List Unclosed → Type 0
 InMap [] = ⊥
 InMap (LevelOfList xs ∷ ls) = ⊥
 InMap (LevelOfMap ps name ∷ ls) = Unit {0}
 
-abbrev pub InList : List Level → Type 0
+abbrev pub InList : List Unclosed → Type 0
 InList [] = ⊥
 InList (LevelOfList xs ∷ ls) = Unit {0}
 InList (LevelOfMap ps name ∷ ls) = ⊥
 
-abbrev pub InLevel : List Level → Type 0
+abbrev pub InLevel : List Unclosed → Type 0
 InLevel [] = ⊥
 InLevel (l ∷ ls) = Unit {0}
 
-abbrev pub AtTop : List Level → Type 0
+abbrev pub AtTop : List Unclosed → Type 0
 AtTop [] = Unit {0}
 AtTop (l ∷ ls) = ⊥
 
-abbrev pub IsRole : List Level → Role → Type 0
+abbrev pub IsRole : List Unclosed → Role → Type 0
 IsRole levels Content = Unit {0}
 IsRole levels Name = InMap levels
 
@@ -199,7 +199,7 @@ IsWord [] = ⊥
 IsWord (w ∷ ws) = AreLetters (w ∷ ws)
 
 -- the hand and the levels that a text leads to
-abbrev pub IsState : List Level → Hand → Type 0
+abbrev pub IsState : List Unclosed → Hand → Type 0
 IsState levels value = Unit {0}
 IsState levels first_item = InList levels
 IsState levels first_name = InMap levels

@@ -10,7 +10,7 @@ use lib.Seq.{take-add}
 use lib.Utf8.{scalar_cases}
 use Rattle.json_text.specs.Grammar.{escaped, of_digits16}
 use Rattle.json_text.specs.declared.state.Digits.TheVariants.{Zero as NoDigit, One, Two, Three}
-use Rattle.json_text.specs.declared.state.Level.{Level}
+use Rattle.json_text.specs.declared.state.Unclosed.{Unclosed}
 use Rattle.json_text.specs.declared.state.Role.{Role}
 use Rattle.json_text.specs.State.Machine.{state, text, plain, code, coded, escape_goes, run, run_on, step}
 use Rattle.json_text.specs.State.Runs.{AreOpen, IsCode, IsEscape, StandsFor, is_open}
@@ -67,7 +67,7 @@ two_of [] h = absurd (omega arith)
 two_of (a ∷ []) h = absurd (omega arith)
 two_of (a ∷ b ∷ bytes) h = refl
 
-escape_run : (limit : ℕ) (levels : List Level) (role : Role) (t : List ℕ) (b c : ℕ)
+escape_run : (limit : ℕ) (levels : List Unclosed) (role : Role) (t : List ℕ) (b c : ℕ)
     → escaped b ≡ Some c
     → run limit (state levels (text role t plain)) (92 ∷ b ∷ [])
     ≡ Ok (state levels (text role (t ++ (c ∷ [])) plain))
@@ -122,36 +122,36 @@ not_first : (n : ℕ) → (n < 55296) ⊎ ((57344 ≤ n) × (n < 1114112))
 not_first n (inl m) = grind (arith, nat_tests)
 not_first n (inr m) = let b : 57344 ≤ n = m.0 in grind (arith, nat_tests)
 
-first_digit : (limit : ℕ) (levels : List Level) (role : Role) (t : List ℕ) (a : ℕ)
+first_digit : (limit : ℕ) (levels : List Unclosed) (role : Role) (t : List ℕ) (a : ℕ)
     → nat_lt (digit_value a) 16 ≡ true
     → step limit levels (text role t (code NoDigit)) a
     ≡ Ok (state levels (text role t (code (One a))))
 first_digit limit levels role t a h = rw h refl
 
-second_digit : (limit : ℕ) (levels : List Level) (role : Role) (t : List ℕ) (a b : ℕ)
+second_digit : (limit : ℕ) (levels : List Unclosed) (role : Role) (t : List ℕ) (a b : ℕ)
     → nat_lt (digit_value b) 16 ≡ true → (digit_value a == 13 && nat_lt 11 (digit_value b)) ≡ false
     → step limit levels (text role t (code (One a))) b
     ≡ Ok (state levels (text role t (code (Two a b))))
 second_digit limit levels role t a b h k = rw (h, k) refl
 
-third_digit : (limit : ℕ) (levels : List Level) (role : Role) (t : List ℕ) (a b c : ℕ)
+third_digit : (limit : ℕ) (levels : List Unclosed) (role : Role) (t : List ℕ) (a b c : ℕ)
     → nat_lt (digit_value c) 16 ≡ true
     → step limit levels (text role t (code (Two a b))) c
     ≡ Ok (state levels (text role t (code (Three a b c))))
 third_digit limit levels role t a b c h = rw h refl
 
-coded_as : (levels : List Level) (role : Role) (t : List ℕ) (n : ℕ)
+coded_as : (levels : List Unclosed) (role : Role) (t : List ℕ) (n : ℕ)
     → is_in_range 0xD800 0xDBFF n ≡ false → IsScalar n
     → coded levels role t n ≡ Ok (state levels (text role (t ++ encode_utf8 n) plain))
 coded_as levels role t n h k = rw (h, k) refl
 
-fourth_digit : (limit : ℕ) (levels : List Level) (role : Role) (t : List ℕ) (a b c d : ℕ)
+fourth_digit : (limit : ℕ) (levels : List Unclosed) (role : Role) (t : List ℕ) (a b c d : ℕ)
     → nat_lt (digit_value d) 16 ≡ true
     → step limit levels (text role t (code (Three a b c))) d
     ≡ coded levels role t (of_digits16 a b c d)
 fourth_digit limit levels role t a b c d h = rw h refl
 
-code_run : (limit : ℕ) (levels : List Level) (role : Role) (t : List ℕ) (a b c d n : ℕ)
+code_run : (limit : ℕ) (levels : List Unclosed) (role : Role) (t : List ℕ) (a b c d n : ℕ)
     → IsCode a b c d n
     → run limit (state levels (text role t plain)) (92 ∷ 117 ∷ a ∷ b ∷ c ∷ d ∷ [])
     ≡ Ok (state levels (text role (t ++ encode_utf8 n) plain))

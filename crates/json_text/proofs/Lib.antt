@@ -1,3 +1,4 @@
+-- Lemmas on JSON text.
 pub mod Basics
 pub mod Utf8Lemmas
 pub mod NumberLemmas
@@ -16,3 +17,7 @@ pub mod Skims
 pub mod OneText
 pub mod Ascii
 pub mod GatheredLemmas
+pub mod Escaping
+pub mod Indents
+pub mod Lines
+mod DigitTests

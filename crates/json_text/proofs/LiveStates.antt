@@ -16,13 +16,13 @@ use Rattle.json_text.specs.declared.state.Place.{Place}
 use Rattle.json_text.specs.declared.state.Place.TheVariants.{Minus, Nought, Whole, Point, Fraction, Exponent, Sign, Power}
 use Rattle.json_text.specs.declared.state.Role.{Role}
 use Rattle.json_text.specs.declared.state.Role.TheVariants.{Name, Content}
-use Rattle.json_text.specs.declared.state.Level.{Level}
-use Rattle.json_text.specs.declared.state.Level.TheVariants.{List as LevelOfList, Map as LevelOfMap}
+use Rattle.json_text.specs.declared.state.Unclosed.{Unclosed}
+use Rattle.json_text.specs.declared.state.Unclosed.TheVariants.{List as LevelOfList, Map as LevelOfMap}
 use Rattle.json_text.proofs.Utf8Lemmas.{Within, order, high_scalar}
 use Rattle.json_text.proofs.Finishes.{Rest, Ends, In, IsHalf, Completes, Finishes, IsState, IsPart, IsRole, AreRanges}
 
 -- some bytes close the open lists and objects
-pub closes : (limit : ℕ) (levels : List Level) (x : Json) → (c : List ℕ) × (v : Json) × Rest limit levels x c v
+pub closes : (limit : ℕ) (levels : List Unclosed) (x : Json) → (c : List ℕ) × (v : Json) × Rest limit levels x c v
 closes limit [] x = ([], x, (tt, refl))
 closes limit (LevelOfList xs ∷ ls) x =
     let k = closes limit ls (JsonOfList ((xs ++ (x ∷ [])) ++ [])) in
@@ -189,13 +189,13 @@ part_reaches (tail (r ∷ rs)) t h =
     }
 
 -- `null` as a value
-a_null : (limit : ℕ) (levels : List Level) → (c : List ℕ) × (v : Json) × Finishes limit levels value c v
+a_null : (limit : ℕ) (levels : List Unclosed) → (c : List ℕ) × (v : Json) × Finishes limit levels value c v
 a_null limit levels = let k = closes limit levels Null in (110 ∷ 117 ∷ 108 ∷ 108 ∷ k.0, k.1, (Null, k.0, null_of _ (110 ∷ 117 ∷ 108 ∷ 108 ∷ k.0) Null k.0 refl refl, k.2))
 
-a_colon : (limit : ℕ) (levels : List Level) → (c : List ℕ) × (v : Json) × Finishes limit levels colon c v
+a_colon : (limit : ℕ) (levels : List Unclosed) → (c : List ℕ) × (v : Json) × Finishes limit levels colon c v
 a_colon limit levels = let k = a_null limit levels in (58 ∷ k.0, k.1, (k.0, k.2.0, k.2.1, colon_here (58 ∷ k.0) k.0 refl, k.2.2, k.2.3))
 
-pub role_ends : (limit : ℕ) (levels : List Level) (role : Role) (t : List ℕ) → IsRole levels role → (c : List ℕ) × (v : Json) × Ends limit levels role t c v
+pub role_ends : (limit : ℕ) (levels : List Unclosed) (role : Role) (t : List ℕ) → IsRole levels role → (c : List ℕ) × (v : Json) × Ends limit levels role t c v
 role_ends limit [] Content t h = closes limit [] (Str t)
 role_ends limit (l ∷ ls) Content t h = closes limit (l ∷ ls) (Str t)
 role_ends limit [] Name t h = absurd h
@@ -213,7 +213,7 @@ number_ends_so Sign = (48 ∷ [], refl)
 number_ends_so Power = ([], refl)
 
 -- Each state can be finished: what the machine has taken is live.
-pub finishes : (limit : ℕ) (levels : List Level) (hand : Hand) → IsState levels hand → (c : List ℕ) × (v : Json) × Finishes limit levels hand c v
+pub finishes : (limit : ℕ) (levels : List Unclosed) (hand : Hand) → IsState levels hand → (c : List ℕ) × (v : Json) × Finishes limit levels hand c v
 finishes limit levels value h = a_null limit levels
 finishes limit [] first_item h = absurd h
 finishes limit (LevelOfMap ps name ∷ ls) first_item h = absurd h

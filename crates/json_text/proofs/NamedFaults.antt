@@ -5,7 +5,7 @@ use Rattle.std.proofs.Math.Seq.{take-append-add}
 use Rattle.std.specs.Prelude.{slice_index}
 use Rattle.std.specs.Str.{IsUtf8}
 use Rattle.limits.specs.Limits.{most_bytes}
-use Rattle.json_text.specs.declared.state.Level.{Level}
+use Rattle.json_text.specs.declared.state.Unclosed.{Unclosed}
 use Rattle.json_text.specs.Grammar.{IsLive, IsLiveWithin}
 use Rattle.json_text.specs.Strings.{BeginsUtf8, IsInString}
 use Rattle.json_text.specs.Faults.{IsDeadAt, BreaksUtf8, IsTooDeep, Names}
@@ -52,7 +52,7 @@ module _ (n : ℕ) (bytes front : List ℕ) (b : ℕ) (s : MachineState) (parts 
   goes_on : (more : List ℕ) → Utf8Rest s.hand (b ∷ more) → BeginsUtf8 (take (n + 1) bytes)
   goes_on more h = subst BeginsUtf8 (sym parts.through) (more, subst IsUtf8 (sym (regroup more)) ((seen.utf8 (b ∷ more)).1 h))
 
-  in_text_here : (levels : List Level) (hand : Hand) → Sees 127 front (state levels hand) → (IsOutside hand → ⊥) → IsInString front
+  in_text_here : (levels : List Unclosed) (hand : Hand) → Sees 127 front (state levels hand) → (IsOutside hand → ⊥) → IsInString front
   in_text_here levels value k o = absurd (o tt)
   in_text_here levels first_item k o = absurd (o tt)
   in_text_here levels first_name k o = absurd (o tt)

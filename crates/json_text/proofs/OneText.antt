@@ -7,7 +7,7 @@ use Rattle.json_text.specs.Grammar.{text_of, IsLive, IsLiveWithin, IsTextWithin}
 use Rattle.json_text.specs.Strings.{IsInString}
 use Rattle.json_text.specs.Faults.{IsDeadAt, BreaksUtf8, IsTooDeep, IsFault}
 use Rattle.json_text.specs.State.Machine.{Hand, value, first_item, first_name, next_name, colon, behind, done, word, number, text, MachineState, start, step, run, run_on, at_last}
-use Rattle.json_text.specs.declared.state.Level.{Level}
+use Rattle.json_text.specs.declared.state.Unclosed.{Unclosed}
 use Rattle.json_text.specs.declared.state.Stop.{Stop}
 use Rattle.json_text.specs.declared.state.Stop.TheVariants as stops
 use Rattle.json_text.specs.declared.faults.JsonFault.{JsonFault}
@@ -60,7 +60,7 @@ text_once bytes v w p q =
     cc (e, f)
 
 -- where the machine stops for depth it stands outside of strings
-depth_outside : (levels : List Level) (hand : Hand) (b : ℕ) → length levels ≤ 127 → IsState levels hand → step 127 levels hand b ≡ Err stops.Depth → IsOutside hand
+depth_outside : (levels : List Unclosed) (hand : Hand) (b : ℕ) → length levels ≤ 127 → IsState levels hand → step 127 levels hand b ≡ Err stops.Depth → IsOutside hand
 depth_outside levels value b f h e = tt
 depth_outside levels first_item b f h e = tt
 depth_outside levels first_name b f h e = tt

@@ -15,8 +15,8 @@ use Rattle.json_text.specs.declared.state.Place.{Place}
 use Rattle.json_text.specs.declared.state.Place.TheVariants.{Minus, Nought, Whole}
 use Rattle.json_text.specs.declared.state.Role.{Role}
 use Rattle.json_text.specs.declared.state.Role.TheVariants.{Name, Content}
-use Rattle.json_text.specs.declared.state.Level.{Level}
-use Rattle.json_text.specs.declared.state.Level.TheVariants.{List as LevelOfList, Map as LevelOfMap}
+use Rattle.json_text.specs.declared.state.Unclosed.{Unclosed}
+use Rattle.json_text.specs.declared.state.Unclosed.TheVariants.{List as LevelOfList, Map as LevelOfMap}
 use Rattle.json_text.proofs.Basics.{is_byte, is_below, is_least, below_is, chosen₂}
 use Rattle.json_text.proofs.NumberLemmas.{NotNumber, no_place}
 use Rattle.json_text.proofs.Steps.{blank_cases}
@@ -81,16 +81,16 @@ module _ (limit b : ℕ) where
   off = record { goes = λ t e. cc e; syntax = λ e. refl; utf8 = λ e. cc e; depth = λ e. cc e }
 
   -- a byte that isn't above `z`, nor a quote or a hash
-  is_plain : (levels : List Level) (hand : Hand) → length levels ≤ limit → b < 128 → b ≢ 35 → IsWhole hand → IsOutside hand → OutStep limit b (Ok (state levels hand)) (Ok (state levels hand))
+  is_plain : (levels : List Unclosed) (hand : Hand) → length levels ≤ limit → b < 128 → b ≢ 35 → IsWhole hand → IsOutside hand → OutStep limit b (Ok (state levels hand)) (Ok (state levels hand))
   is_plain levels hand f a h w o = on (state levels hand) (record { ascii = a; whole = w; outside = λ n. o; no_hash = h; few = f })
 
   same_byte : (d : ℕ) → (b == d) ≡ true → d < 128 → d ≢ 35 → (b < 128) × (b ≢ 35)
   same_byte d e l n = let f = is_byte b d e in (omega arith, λ k. n (sym f ∙ k))
 
-  at_byte : (d : ℕ) (levels : List Level) (hand : Hand) → length levels ≤ limit → (b == d) ≡ true → d < 128 → d ≢ 35 → IsWhole hand → IsOutside hand → OutStep limit b (Ok (state levels hand)) (Ok (state levels hand))
+  at_byte : (d : ℕ) (levels : List Unclosed) (hand : Hand) → length levels ≤ limit → (b == d) ≡ true → d < 128 → d ≢ 35 → IsWhole hand → IsOutside hand → OutStep limit b (Ok (state levels hand)) (Ok (state levels hand))
   at_byte d levels hand f e l n w o = let k = same_byte d e l n in is_plain levels hand f k.0 k.1 w o
 
-  out_placed : (levels : List Level) (x : Json) → length levels ≤ limit → b < 128 → b ≢ 35 → OutStep limit b (Ok (placed levels x)) (Ok (placed levels x))
+  out_placed : (levels : List Unclosed) (x : Json) → length levels ≤ limit → b < 128 → b ≢ 35 → OutStep limit b (Ok (placed levels x)) (Ok (placed levels x))
   out_placed [] x f a h = is_plain [] (done x) f a h tt tt
   out_placed (LevelOfList xs ∷ ls) x f a h = is_plain (LevelOfList (xs ++ (x ∷ [])) ∷ ls) behind f a h tt tt
   out_placed (LevelOfMap ps name ∷ ls) x f a h = is_plain (LevelOfMap (ps ++ ((name, x) ∷ [])) [] ∷ ls) behind f a h tt tt
@@ -104,15 +104,15 @@ module _ (limit b : ℕ) where
       by (inr (inr (inl e))) = (omega arith, λ k. absurd (omega arith))
       by (inr (inr (inr e))) = (omega arith, λ k. absurd (omega arith))
 
-  out_skipped : (levels : List Level) (stay : Hand) → length levels ≤ limit → IsWhole stay → IsOutside stay → OutStep limit b (skipped levels stay b) (skipped levels stay b)
+  out_skipped : (levels : List Unclosed) (stay : Hand) → length levels ≤ limit → IsWhole stay → IsOutside stay → OutStep limit b (skipped levels stay b) (skipped levels stay b)
   out_skipped levels stay f w o = chosen₂ (OutStep limit b) (is_whitespace b) (λ e. let k = blank_plain e in is_plain levels stay f k.0 k.1 w o) (λ e. off)
 
-  out_quote : (levels : List Level) (role : Role) → length levels ≤ limit → (b == 34) ≡ true → OutStep limit b (Ok (state levels (text role [] plain))) (Ok (state levels (text role [] plain)))
+  out_quote : (levels : List Unclosed) (role : Role) → length levels ≤ limit → (b == 34) ≡ true → OutStep limit b (Ok (state levels (text role [] plain))) (Ok (state levels (text role [] plain)))
   out_quote levels role f e =
       let n = is_byte b 34 e in
       on (state levels (text role [] plain)) (record { ascii = omega arith; whole = tt; outside = λ k. absurd (k n); no_hash = λ k. absurd (omega arith); few = f })
 
-  out_opened : (d : ℕ) (levels : List Level) (level : Level) (hand : Hand) → length levels ≤ limit → (b == d) ≡ true → d < 128 → d ≢ 35 → IsWhole hand → IsOutside hand
+  out_opened : (d : ℕ) (levels : List Unclosed) (level : Unclosed) (hand : Hand) → length levels ≤ limit → (b == d) ≡ true → d < 128 → d ≢ 35 → IsWhole hand → IsOutside hand
       → OutStep limit b (opened limit levels level hand) (opened (suc limit) levels level hand)
   out_opened d levels level hand f e l n w o = by (nat_lt (length levels) limit) refl (below_is (length levels) (suc limit) (omega arith))
     where
@@ -132,7 +132,7 @@ module _ (limit b : ℕ) where
   ne d (inl h) k = omega arith
   ne d (inr h) k = omega arith
 
-  out_begin : (levels : List Level) (stay : Hand) → length levels ≤ limit → IsWhole stay → IsOutside stay → OutStep limit b (begin limit levels stay b) (begin (suc limit) levels stay b)
+  out_begin : (levels : List Unclosed) (stay : Hand) → length levels ≤ limit → IsWhole stay → IsOutside stay → OutStep limit b (begin limit levels stay b) (begin (suc limit) levels stay b)
   out_begin levels stay f w o =
       chosen₂ (OutStep limit b) (b == 34) (λ e. out_quote levels Content f e) (λ e.
       chosen₂ (OutStep limit b) (b == 91) (λ e. out_opened 91 levels (LevelOfList []) first_item f e (omega arith) (ne 91 (inr (omega arith))) tt tt) (λ e.
@@ -144,7 +144,7 @@ module _ (limit b : ℕ) where
       chosen₂ (OutStep limit b) (b == 48) (λ e. at_byte 48 levels (number (b ∷ []) Nought) f e (omega arith) (ne 48 (inr (omega arith))) tt tt) (λ e.
       chosen₂ (OutStep limit b) (is_ascii_digit b) (λ e. let k = digit_plain e in is_plain levels (number (b ∷ []) Whole) f k.0 k.1 tt tt) (λ e. out_skipped levels stay f w o)))))))))
 
-  out_behind : (levels : List Level) → length levels ≤ limit → OutStep limit b (behind_in levels b) (behind_in levels b)
+  out_behind : (levels : List Unclosed) → length levels ≤ limit → OutStep limit b (behind_in levels b) (behind_in levels b)
   out_behind [] f = off
   out_behind (LevelOfList xs ∷ ls) f =
       chosen₂ (OutStep limit b) (b == 44) (λ e. at_byte 44 (LevelOfList xs ∷ ls) value f e (omega arith) (ne 44 (inr (omega arith))) tt tt) (λ e.
@@ -155,16 +155,16 @@ module _ (limit b : ℕ) where
       chosen₂ (OutStep limit b) (b == 125) (λ e. let k = same_byte 125 e (omega arith) (ne 125 (inr (omega arith))) in out_placed ls (JsonOfMap (merged ps)) (omega arith) k.0 k.1) (λ e.
       chosen₂ (OutStep limit b) (is_whitespace b) (λ e. let k = blank_plain e in is_plain (LevelOfMap ps name ∷ ls) behind f k.0 k.1 tt tt) (λ e. off)))
 
-  out_end : (levels : List Level) (x : Json) → length levels ≤ limit → OutStep limit b (at_end levels x b) (at_end levels x b)
+  out_end : (levels : List Unclosed) (x : Json) → length levels ≤ limit → OutStep limit b (at_end levels x b) (at_end levels x b)
   out_end [] x f = out_skipped [] (done x) f tt tt
   out_end (l ∷ ls) x f = off
 
-  out_follow : (levels : List Level) (x : Json) → length levels ≤ limit → OutStep limit b (behind_placed levels x b) (behind_placed levels x b)
+  out_follow : (levels : List Unclosed) (x : Json) → length levels ≤ limit → OutStep limit b (behind_placed levels x b) (behind_placed levels x b)
   out_follow [] x f = out_end [] x f
   out_follow (LevelOfList xs ∷ ls) x f = out_behind (LevelOfList (xs ++ (x ∷ [])) ∷ ls) f
   out_follow (LevelOfMap ps name ∷ ls) x f = out_behind (LevelOfMap (ps ++ ((name, x) ∷ [])) [] ∷ ls) f
 
-  out_word : (levels : List Level) (x : Json) (left : List ℕ) → length levels ≤ limit → IsState levels (word x left) → OutStep limit b (in_word levels x left b) (in_word levels x left b)
+  out_word : (levels : List Unclosed) (x : Json) (left : List ℕ) → length levels ≤ limit → IsState levels (word x left) → OutStep limit b (in_word levels x left b) (in_word levels x left b)
   out_word levels x [] f h = off
   out_word levels x (w ∷ []) f h =
       let l = h.0 in
@@ -186,17 +186,17 @@ module _ (limit b : ℕ) where
       by true f = is_below b 128 f
       by false f = let g : None ≡ Some next = sym (no_place place b (not_number_high (inl (is_least b 128 f)))) ∙ e in cc g
 
-  out_number : (levels : List Level) (t : List ℕ) (place : Place) → length levels ≤ limit → OutStep limit b (in_number levels t place b) (in_number levels t place b)
+  out_number : (levels : List Unclosed) (t : List ℕ) (place : Place) → length levels ≤ limit → OutStep limit b (in_number levels t place b) (in_number levels t place b)
   out_number levels t place f = by (next_place place b) refl
     where
       by : (o : Option Place) → next_place place b ≡ o → OutStep limit b (number_goes levels t place b o) (number_goes levels t place b o)
       by (Some next) e = let k = place_plain place next e in is_plain levels (number (t ++ (b ∷ [])) next) f k.0 k.1 tt tt
       by None e = chosen₂ (OutStep limit b) (ends place) (λ e. chosen₂ (OutStep limit b) (is_utf8 t) (λ e. out_follow levels (Num t) f) (λ e. off)) (λ e. off)
 
-  out_name : (levels : List Level) (stay : Hand) → length levels ≤ limit → IsWhole stay → IsOutside stay → OutStep limit b (name_begins levels stay b) (name_begins levels stay b)
+  out_name : (levels : List Unclosed) (stay : Hand) → length levels ≤ limit → IsWhole stay → IsOutside stay → OutStep limit b (name_begins levels stay b) (name_begins levels stay b)
   out_name levels stay f w o = chosen₂ (OutStep limit b) (b == 34) (λ e. out_quote levels Name f e) (λ e. out_skipped levels stay f w o)
 
-  pub out_step : (levels : List Level) (hand : Hand) → length levels ≤ limit → IsState levels hand → IsOutside hand → OutStep limit b (step limit levels hand b) (step (suc limit) levels hand b)
+  pub out_step : (levels : List Unclosed) (hand : Hand) → length levels ≤ limit → IsState levels hand → IsOutside hand → OutStep limit b (step limit levels hand b) (step (suc limit) levels hand b)
   out_step levels value f h o = out_begin levels value f tt tt
   out_step [] first_item f h o = off
   out_step (LevelOfMap ps name ∷ ls) first_item f h o = off

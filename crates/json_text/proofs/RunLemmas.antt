@@ -1,5 +1,6 @@
 -- Steps at one byte list after another.
 use Rattle.std.proofs.Common.{◌≡◌, ℕ, zero, suc, ◌+◌, ◌<◌, ◌≤◌, ◌⊎◌, inl, inr, List, [], ◌∷◌, ◌++◌, take, length, get_or, refl, sym, ap, ◌∙◌, append_assoc, append-nil, arith, subst, Ok, Err, Result, Option, Some, None}
+use Rattle.std.proofs.Common.{length-take}
 use Rattle.std.proofs.lemmas.Bool.Decides.{nat_tests}
 use Rattle.std.proofs.lemmas.List.{take_more, take_all}
 use Rattle.std.proofs.lemmas.Str.{IsUtf8-from_is_utf8, encode_ascii}
@@ -14,8 +15,8 @@ use Rattle.json_text.specs.Grammar.{is_whitespace, AreBlank}
 use Rattle.json_text.specs.State.Runs.{is_open, AreOpen, place_behind}
 use Rattle.json_text.specs.declared.state.Place.{Place}
 use Rattle.json_text.specs.declared.state.Role.{Role}
-use Rattle.json_text.specs.declared.state.Level.{Level}
-use Rattle.json_text.specs.declared.state.Level.TheVariants.{List as LevelOfList, Map as LevelOfMap}
+use Rattle.json_text.specs.declared.state.Unclosed.{Unclosed}
+use Rattle.json_text.specs.declared.state.Unclosed.TheVariants.{List as LevelOfList, Map as LevelOfMap}
 use Rattle.json_text.specs.declared.state.Stop.{Stop}
 use Rattle.json_text.specs.State.Machine.{Hand, MachineState, state, value, first_item, first_name, next_name, behind, number, text, plain, tail, tails, behind_tail, wide, in_plain, text_ends, item_first, name_first, name_next, behind_in, next_place, number_goes, run, run_on, step}
 use Rattle.json_text.proofs.Basics.{both}
@@ -50,36 +51,36 @@ pub run_skim : (limit : ℕ) (s t u : MachineState) (bytes : List ℕ) (i n : �
 run_skim limit s t u bytes i n e f = ap (run limit s) (take-add i n bytes) ∙ run_then limit s t (take i bytes) (take n (drop i bytes)) e ∙ f
 
 -- white space where it leaves the machine as it is
-abbrev pub Stays : ℕ → List Level → Hand → Type 0
+abbrev pub Stays : ℕ → List Unclosed → Hand → Type 0
 Stays limit levels hand = (b : ℕ) → is_whitespace b ≡ true → step limit levels hand b ≡ Ok (state levels hand)
 
-pub run_blank : (limit : ℕ) (levels : List Level) (hand : Hand) (bytes : List ℕ) → Stays limit levels hand → AreBlank bytes
+pub run_blank : (limit : ℕ) (levels : List Unclosed) (hand : Hand) (bytes : List ℕ) → Stays limit levels hand → AreBlank bytes
     → run limit (state levels hand) bytes ≡ Ok (state levels hand)
 run_blank limit levels hand [] stays h = refl
 run_blank limit levels hand (b ∷ bytes) stays h = ap (λ r. run_on limit r bytes) (stays b h.0) ∙ run_blank limit levels hand bytes stays h.1
 
-pub value_stays : (limit : ℕ) (levels : List Level) → Stays limit levels value
+pub value_stays : (limit : ℕ) (levels : List Unclosed) → Stays limit levels value
 value_stays limit levels b h = begin_blank limit levels value b h
 
-pub name_stays : (limit : ℕ) (levels : List Level) → Stays limit levels next_name
+pub name_stays : (limit : ℕ) (levels : List Unclosed) → Stays limit levels next_name
 name_stays limit levels b h = at_blank (λ x. name_next levels x ≡ Ok (state levels next_name)) b h refl refl refl refl
 
-pub item_stays : (limit : ℕ) (xs : List Json) (ls : List Level) → Stays limit (LevelOfList xs ∷ ls) first_item
+pub item_stays : (limit : ℕ) (xs : List Json) (ls : List Unclosed) → Stays limit (LevelOfList xs ∷ ls) first_item
 item_stays limit xs ls b h =
     at_blank (λ x. item_first limit (LevelOfList xs ∷ ls) x ≡ Ok (state (LevelOfList xs ∷ ls) first_item)) b h refl refl refl refl
 
-pub first_name_stays : (limit : ℕ) (pairs : List (List ℕ × Json)) (name : List ℕ) (ls : List Level) → Stays limit (LevelOfMap pairs name ∷ ls) first_name
+pub first_name_stays : (limit : ℕ) (pairs : List (List ℕ × Json)) (name : List ℕ) (ls : List Unclosed) → Stays limit (LevelOfMap pairs name ∷ ls) first_name
 first_name_stays limit pairs name ls b h =
     at_blank (λ x. name_first (LevelOfMap pairs name ∷ ls) x ≡ Ok (state (LevelOfMap pairs name ∷ ls) first_name)) b h refl refl refl refl
 
-pub behind_stays : (limit : ℕ) (l : Level) (ls : List Level) → Stays limit (l ∷ ls) behind
+pub behind_stays : (limit : ℕ) (l : Unclosed) (ls : List Unclosed) → Stays limit (l ∷ ls) behind
 behind_stays limit (LevelOfList xs) ls b h =
     at_blank (λ x. behind_in (LevelOfList xs ∷ ls) x ≡ Ok (state (LevelOfList xs ∷ ls) behind)) b h refl refl refl refl
 behind_stays limit (LevelOfMap pairs name) ls b h =
     at_blank (λ x. behind_in (LevelOfMap pairs name ∷ ls) x ≡ Ok (state (LevelOfMap pairs name ∷ ls) behind)) b h refl refl refl refl
 
 -- a character of one byte
-pub plain_step : (limit : ℕ) (levels : List Level) (role : Role) (t : List ℕ) (b : ℕ) → is_open b ≡ true → b < 128
+pub plain_step : (limit : ℕ) (levels : List Unclosed) (role : Role) (t : List ℕ) (b : ℕ) → is_open b ≡ true → b < 128
     → step limit levels (text role t plain) b ≡ Ok (state levels (text role (t ++ (b ∷ [])) plain))
 plain_step limit levels role t b e h =
     let q : (b == 34) ≡ false = grind (arith, nat_tests) in
@@ -89,7 +90,7 @@ plain_step limit levels role t b e h =
     rw (q, s, l, u) refl
 
 -- the first byte of a character of several
-wide_step : (limit : ℕ) (levels : List Level) (role : Role) (t : List ℕ) (b : ℕ) (r : ℕ × ℕ) (rs : List (ℕ × ℕ)) → tails b ≡ r ∷ rs → 128 ≤ b
+wide_step : (limit : ℕ) (levels : List Unclosed) (role : Role) (t : List ℕ) (b : ℕ) (r : ℕ × ℕ) (rs : List (ℕ × ℕ)) → tails b ≡ r ∷ rs → 128 ≤ b
     → step limit levels (text role t plain) b ≡ Ok (state levels (text role (t ++ (b ∷ [])) (tail (r ∷ rs))))
 wide_step limit levels role t b r rs e h =
     let q : (b == 34) ≡ false = grind (arith, nat_tests) in
@@ -100,12 +101,12 @@ wide_step limit levels role t b r rs e h =
     w ∙ ap (wide levels role (t ++ (b ∷ []))) e
 
 -- a further byte of a character
-tail_step : (limit : ℕ) (levels : List Level) (role : Role) (t : List ℕ) (r : ℕ × ℕ) (rs : List (ℕ × ℕ)) (b : ℕ) → is_in_range r.0 r.1 b ≡ true
+tail_step : (limit : ℕ) (levels : List Unclosed) (role : Role) (t : List ℕ) (r : ℕ × ℕ) (rs : List (ℕ × ℕ)) (b : ℕ) → is_in_range r.0 r.1 b ≡ true
     → step limit levels (text role t (tail (r ∷ rs))) b ≡ Ok (state levels (text role (t ++ (b ∷ [])) (behind_tail rs)))
 tail_step limit levels role t r rs b h = rw h refl
 
 -- the further bytes of a character
-run_tail : (limit : ℕ) (levels : List Level) (role : Role) (r : ℕ × ℕ) (rs : List (ℕ × ℕ)) (t bytes : List ℕ) → Within (r ∷ rs) bytes
+run_tail : (limit : ℕ) (levels : List Unclosed) (role : Role) (r : ℕ × ℕ) (rs : List (ℕ × ℕ)) (t bytes : List ℕ) → Within (r ∷ rs) bytes
     → run limit (state levels (text role t (tail (r ∷ rs)))) bytes ≡ Ok (state levels (text role (t ++ bytes) plain))
 run_tail limit levels role r rs t [] h = absurd h
 run_tail limit levels role r [] t (b ∷ []) h = ap (λ x. run_on limit x []) (tail_step limit levels role t r [] b h.0)
@@ -114,17 +115,17 @@ run_tail limit levels role r (s ∷ rs) t (b ∷ bytes) h =
     ap (λ x. run_on limit x bytes) (tail_step limit levels role t r (s ∷ rs) b h.0) ∙ run_tail limit levels role s rs (t ++ (b ∷ [])) bytes h.1
     ∙ ap (λ x. Ok (state levels (text role x plain))) (append_assoc t (b ∷ []) bytes)
 
-run_wide : (limit : ℕ) (levels : List Level) (role : Role) (t : List ℕ) (lead : ℕ) (r : ℕ × ℕ) (rs : List (ℕ × ℕ)) (bytes : List ℕ) → tails lead ≡ r ∷ rs → 128 ≤ lead
+run_wide : (limit : ℕ) (levels : List Unclosed) (role : Role) (t : List ℕ) (lead : ℕ) (r : ℕ × ℕ) (rs : List (ℕ × ℕ)) (bytes : List ℕ) → tails lead ≡ r ∷ rs → 128 ≤ lead
     → Within (r ∷ rs) bytes → run limit (state levels (text role t plain)) (lead ∷ bytes) ≡ Ok (state levels (text role (t ++ (lead ∷ bytes)) plain))
 run_wide limit levels role t lead r rs bytes e h within =
     ap (λ x. run_on limit x bytes) (wide_step limit levels role t lead r rs e h) ∙ run_tail limit levels role r rs (t ++ (lead ∷ [])) bytes within
     ∙ ap (λ x. Ok (state levels (text role x plain))) (append_assoc t (lead ∷ []) bytes)
 
 -- a character
-abbrev RunsTo : ℕ → List Level → Role → List ℕ → List ℕ → Type 0
+abbrev RunsTo : ℕ → List Unclosed → Role → List ℕ → List ℕ → Type 0
 RunsTo limit levels role t bytes = run limit (state levels (text role t plain)) bytes ≡ Ok (state levels (text role (t ++ bytes) plain))
 
-run_char : (limit : ℕ) (levels : List Level) (role : Role) (t : List ℕ) (c : ℕ) → scalar c ≡ true → AreOpen (encode_utf8 c) → RunsTo limit levels role t (encode_utf8 c)
+run_char : (limit : ℕ) (levels : List Unclosed) (role : Role) (t : List ℕ) (c : ℕ) → scalar c ≡ true → AreOpen (encode_utf8 c) → RunsTo limit levels role t (encode_utf8 c)
 run_char limit levels role t c s opens = by (order c 128)
   where
     by : (c < 128) ⊎ (128 ≤ c) → RunsTo limit levels role t (encode_utf8 c)
@@ -144,7 +145,7 @@ open_back : (xs ys : List ℕ) → AreOpen (xs ++ ys) → AreOpen ys
 open_back [] ys h = h
 open_back (x ∷ xs) ys h = open_back xs ys h.1
 
-run_chars : (limit : ℕ) (levels : List Level) (role : Role) (t cs : List ℕ) → scalars cs ≡ true → AreOpen (encode_utf8_all cs) → RunsTo limit levels role t (encode_utf8_all cs)
+run_chars : (limit : ℕ) (levels : List Unclosed) (role : Role) (t cs : List ℕ) → scalars cs ≡ true → AreOpen (encode_utf8_all cs) → RunsTo limit levels role t (encode_utf8_all cs)
 run_chars limit levels role t [] s h = ap (λ x. Ok (state levels (text role x plain))) (sym (append-nil t))
 run_chars limit levels role t (c ∷ cs) s h =
     let k = both (scalar c) (scalars cs) s in
@@ -154,13 +155,13 @@ run_chars limit levels role t (c ∷ cs) s h =
     ∙ ap (λ x. Ok (state levels (text role x plain))) (append_assoc t (encode_utf8 c) (encode_utf8_all cs))
 
 -- characters that stand for themselves
-pub run_open : (limit : ℕ) (levels : List Level) (role : Role) (t bytes : List ℕ) → AreOpen bytes → IsUtf8 bytes
+pub run_open : (limit : ℕ) (levels : List Unclosed) (role : Role) (t bytes : List ℕ) → AreOpen bytes → IsUtf8 bytes
     → run limit (state levels (text role t plain)) bytes ≡ Ok (state levels (text role (t ++ bytes) plain))
 run_open limit levels role t bytes opens u =
     subst (λ (w : List ℕ). RunsTo limit levels role t w) u.1.1 (run_chars limit levels role t u.0 u.1.0 (subst AreOpen (sym u.1.1) opens))
 
 -- a whole string, up to its quote
-pub run_string : (limit : ℕ) (levels : List Level) (role : Role) (bytes : List ℕ) (n : ℕ) → n < length bytes → get_or bytes n 0 ≡ 34 → AreOpen (take n bytes)
+pub run_string : (limit : ℕ) (levels : List Unclosed) (role : Role) (bytes : List ℕ) (n : ℕ) → n < length bytes → get_or bytes n 0 ≡ 34 → AreOpen (take n bytes)
     → is_utf8 (take n bytes) ≡ true → run limit (state levels (text role [] plain)) (take (n + 1) bytes) ≡ text_ends levels role (take n bytes)
 run_string limit levels role bytes n h q opens u =
     run_more limit (state levels (text role [] plain)) (state levels (text role (take n bytes) plain)) bytes n h
@@ -183,7 +184,7 @@ more_places r place bytes i h e =
     ap (place_behind r) (take_more bytes i 0 h) ∙ place_append r (take i bytes) (get_or bytes i 0 ∷ []) ∙ ap (λ q. place_behind q (get_or bytes i 0 ∷ [])) e
     ∙ place_none (next_place place (get_or bytes i 0))
 
-pub run_number : (limit : ℕ) (levels : List Level) (place next : Place) (t bytes : List ℕ) → place_behind (Some place) bytes ≡ Some next
+pub run_number : (limit : ℕ) (levels : List Unclosed) (place next : Place) (t bytes : List ℕ) → place_behind (Some place) bytes ≡ Some next
     → run limit (state levels (number t place)) bytes ≡ Ok (state levels (number (t ++ bytes) next))
 run_number limit levels place next t [] e =
     let same : place ≡ next = cc e in
@@ -222,6 +223,17 @@ pub open_within : (n m : ℕ) (bytes run : List ℕ) → run ≡ take m bytes �
 open_within n m bytes run is all h =
     let l : n ≤ length (take m bytes) = subst (λ (x : List ℕ). n ≤ length x) is h in
     subst AreOpen (take_of_take n m bytes l) (open_take n (take m bytes) all)
+
+pub run_within : (n m : ℕ) (bytes front : List ℕ) → front ≡ take m bytes → n ≤ length front
+    → n ≤ length bytes
+run_within n m bytes front is h = omega (arith, h, ap length is, length-take m bytes)
+
+pub utf8_within : (n v m : ℕ) (bytes front : List ℕ) → front ≡ take m bytes → n ≡ v
+    → v < length front → IsUtf8 (take v front) → IsUtf8 (take n bytes)
+utf8_within n v m bytes front is same short good =
+    let within : n ≤ length (take m bytes) = omega (arith, short, same, ap length is) in
+    subst IsUtf8 (ap (λ x. take v x) is ∙ ap (λ k. take k (take m bytes)) (sym same)
+    ∙ take_of_take n m bytes within) good
 
 pub whole_within : (m : ℕ) (bytes run : List ℕ) → run ≡ take m bytes → take (length run) bytes ≡ run
 whole_within m bytes run is =

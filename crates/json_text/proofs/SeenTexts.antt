@@ -10,7 +10,7 @@ use Rattle.json_text.specs.State.Machine.{StringPlace, Hand, value, first_item, 
 use Rattle.json_text.specs.declared.state.Stop.{Stop}
 use Rattle.json_text.specs.declared.state.Stop.TheVariants.{Syntax, Utf8, Depth}
 use Rattle.json_text.specs.declared.state.Role.{Role}
-use Rattle.json_text.specs.declared.state.Level.{Level}
+use Rattle.json_text.specs.declared.state.Unclosed.{Unclosed}
 use Rattle.json_text.proofs.Finishes.{Finishes, Goes, IsState, IsPart}
 use Rattle.json_text.proofs.TextSteps.{Same}
 use Rattle.json_text.proofs.Steps.{step_same}
@@ -20,7 +20,7 @@ use Rattle.json_text.proofs.OutsideStrings.{IsOutside, IsWhole, out_step}
 use Rattle.json_text.proofs.Utf8Steps.{Utf8Rest, whole_rest, ascii_same, text_step}
 
 -- ---- one step, whatever the hand
-pub record Facts (limit : ℕ) (levels : List Level) (hand : Hand) (b : ℕ) : Type 0 where
+pub record Facts (limit : ℕ) (levels : List Unclosed) (hand : Hand) (b : ℕ) : Type 0 where
   pub goes : (t : MachineState) → step limit levels hand b ≡ Ok t → (step (suc limit) levels hand b ≡ Ok t) × (length t.levels ≤ limit) × ((more : List ℕ) → Same (Utf8Rest hand (b ∷ more)) (Utf8Rest t.hand more))
   pub syntax : step limit levels hand b ≡ Err Syntax → (step (suc limit) levels hand b ≡ Err Syntax) × (IsOutside hand ⊎ ((more : List ℕ) × Utf8Rest hand (b ∷ more)))
   pub utf8 : step limit levels hand b ≡ Err Utf8 → (step (suc limit) levels hand b ≡ Err Utf8) × (IsOutside hand → ⊥) × ((more : List ℕ) → Utf8Rest hand (b ∷ more) → ⊥)
@@ -38,7 +38,7 @@ outside_whole (word x left) o = tt
 outside_whole (number t place) o = tt
 outside_whole (text role t part) o = absurd o
 
-outside_facts : (limit : ℕ) (levels : List Level) (hand : Hand) (b : ℕ) → length levels ≤ limit → IsState levels hand → IsOutside hand → Facts limit levels hand b
+outside_facts : (limit : ℕ) (levels : List Unclosed) (hand : Hand) (b : ℕ) → length levels ≤ limit → IsState levels hand → IsOutside hand → Facts limit levels hand b
 outside_facts limit levels hand b f h o =
     let s = out_step limit b levels hand f h o in
     record {
@@ -57,7 +57,7 @@ outside_facts limit levels hand b f h o =
       depth = s.depth;
     }
 
-text_facts : (limit : ℕ) (levels : List Level) (role : Role) (t : List ℕ) (part : StringPlace) (b : ℕ) → length levels ≤ limit → IsPart part t → Facts limit levels (text role t part) b
+text_facts : (limit : ℕ) (levels : List Unclosed) (role : Role) (t : List ℕ) (part : StringPlace) (b : ℕ) → length levels ≤ limit → IsPart part t → Facts limit levels (text role t part) b
 text_facts limit levels role t part b f h =
     let s = text_step limit b levels role t part f h in
     record {
@@ -67,7 +67,7 @@ text_facts limit levels role t part b f h =
       depth = λ e. absurd (s.depth e);
     }
 
-pub facts : (limit : ℕ) (levels : List Level) (hand : Hand) (b : ℕ) → length levels ≤ limit → IsState levels hand → Facts limit levels hand b
+pub facts : (limit : ℕ) (levels : List Unclosed) (hand : Hand) (b : ℕ) → length levels ≤ limit → IsState levels hand → Facts limit levels hand b
 facts limit levels value b f h = outside_facts limit levels value b f h tt
 facts limit levels first_item b f h = outside_facts limit levels first_item b f h tt
 facts limit levels first_name b f h = outside_facts limit levels first_name b f h tt
@@ -167,7 +167,7 @@ hash rest =
     plain_of (35 ∷ 34 ∷ rest) (35 ∷ []) rest 35 (34 ∷ rest) [] (low_scalar 35 (omega arith)) (omega arith) (λ k. absurd (omega arith)) (λ k. absurd (omega arith))
     (ap (λ x. x ++ (34 ∷ rest)) (sym (encode_ascii 35 n))) (ap (λ x. x ++ []) (sym (encode_ascii 35 n))) (ended rest)
 
-pub in_string : (limit : ℕ) (bytes : List ℕ) (levels : List Level) (role : Role) (t : List ℕ) (part : StringPlace) → Sees limit bytes (state levels (text role t part))
+pub in_string : (limit : ℕ) (bytes : List ℕ) (levels : List Unclosed) (role : Role) (t : List ℕ) (part : StringPlace) → Sees limit bytes (state levels (text role t part))
     → (on : List ℕ) × HasNoQuote on × IsLiveWithin limit (bytes ++ (on ++ (35 ∷ [])))
 in_string limit bytes levels role t part seen =
     let e = part_reaches part t seen.is.1 in
@@ -177,7 +177,7 @@ in_string limit bytes levels role t part seen =
     let g : bytes ++ (e.front ++ (35 ∷ rest)) ≡ (bytes ++ (e.front ++ (35 ∷ []))) ++ rest = ap (λ x. bytes ++ x) (sym (append_assoc e.front (35 ∷ []) rest)) ∙ sym (append_assoc bytes (e.front ++ (35 ∷ [])) rest) in
     (e.front, e.clean, (rest, k.1, subst (λ x. IsTextWithin limit x k.1) g ((seen.same (e.front ++ (35 ∷ rest)) k.1).1 h)))
 
-out_never : (limit : ℕ) (on : List ℕ) (levels : List Level) (hand : Hand) (more : List ℕ) (v : Json) → length levels ≤ limit → IsState levels hand → IsOutside hand → HasNoQuote on → Finishes limit levels hand (on ++ (35 ∷ more)) v → ⊥
+out_never : (limit : ℕ) (on : List ℕ) (levels : List Unclosed) (hand : Hand) (more : List ℕ) (v : Json) → length levels ≤ limit → IsState levels hand → IsOutside hand → HasNoQuote on → Finishes limit levels hand (on ++ (35 ∷ more)) v → ⊥
 out_never limit [] levels hand more v f is o q h = by (step limit levels hand 35) refl ((step_same limit levels hand 35 more v is).0 h)
   where
     by : (r : Result MachineState Stop) → step limit levels hand 35 ≡ r → Goes limit r more v → ⊥

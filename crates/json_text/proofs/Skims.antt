@@ -10,8 +10,8 @@ use Rattle.json_text.specs.State.Machine.{state, run}
 use Rattle.json_text.specs.State.Runs.{Skims, AreOpen, StandsFor, place_behind}
 use Rattle.json_text.specs.State.Stands.{state_of, levels_of, open_in, hand_of, AddsText, IsTaken}
 use Rattle.json_text.specs.declared.machine.Machine.{Machine}
-use Rattle.json_text.specs.declared.state.Level.{Level}
-use Rattle.json_text.specs.declared.state.Level.TheVariants.{List as LevelOfList, Map as LevelOfMap}
+use Rattle.json_text.specs.declared.state.Unclosed.{Unclosed}
+use Rattle.json_text.specs.declared.state.Unclosed.TheVariants.{List as LevelOfList, Map as LevelOfMap}
 use Rattle.json_text.specs.declared.state.Role.{Role}
 use Rattle.json_text.specs.declared.state.Role.TheVariants.{Name, Content}
 use Rattle.json_text.specs.declared.state.Taken.{Taken}
@@ -53,7 +53,7 @@ gathered_skims old role bytes made t count e l f g = record {
 }
 
 -- white space
-blank_skims : (m : Machine) (hand : spec.Hand) (bytes : List ℕ) (count : ℕ) (levels : List Level) → state_of m ≡ state levels hand → Stays 127 levels hand → count ≤ length bytes
+blank_skims : (m : Machine) (hand : spec.Hand) (bytes : List ℕ) (count : ℕ) (levels : List Unclosed) → state_of m ≡ state levels hand → Stays 127 levels hand → count ≤ length bytes
     → AreBlank (take count bytes) → Skims count (state_of m) bytes (state_of m)
 blank_skims m hand bytes count levels f stays l h =
     record { within = l; ran = ap (λ x. run 127 x (take count bytes)) f ∙ run_blank 127 levels hand (take count bytes) stays h ∙ sym (ap (λ x. Ok x) f) }
@@ -78,7 +78,7 @@ first_name_skims m pairs name bytes count e f l h =
     let around = reverse m.outer.items in
     blank_skims m spec.first_name bytes count (LevelOfMap pairs name ∷ around) (λ i. state (open_in (f i) around) (hand_of (e i) m.text.items m.root)) (first_name_stays 127 pairs name around) l h
 
-pub behind_skims : (m : Machine) (level : Level) (bytes : List ℕ) (count : ℕ) → m.hand ≡ Behind → m.inner ≡ Some level → count ≤ length bytes → AreBlank (take count bytes)
+pub behind_skims : (m : Machine) (level : Unclosed) (bytes : List ℕ) (count : ℕ) → m.hand ≡ Behind → m.inner ≡ Some level → count ≤ length bytes → AreBlank (take count bytes)
     → Skims count (state_of m) bytes (state_of m)
 behind_skims m level bytes count e f l h =
     let around = reverse m.outer.items in
@@ -98,7 +98,7 @@ whole_ran : (old : Machine) (role : Role) (bytes : List ℕ) (n : ℕ) → old.h
 whole_ran old role bytes n e f l q opens u =
     (λ i. run 127 (state (levels_of old) (hand_of (e i) (f i) old.root)) (take (n + 1) bytes)) ∙ run_string 127 (levels_of old) role bytes n l q opens u
 
-content_ends : (levels : List Level) (t : List ℕ) → is_utf8 t ≡ true → spec.text_ends levels Content t ≡ Ok (spec.placed levels (Str t))
+content_ends : (levels : List Unclosed) (t : List ℕ) → is_utf8 t ≡ true → spec.text_ends levels Content t ≡ Ok (spec.placed levels (Str t))
 content_ends levels t u = rw u refl
 
 pub content_skims : (old : Machine) (new : spec.MachineState) (bytes t : List ℕ) (n : ℕ) → old.hand ≡ Text Content Plain → old.text.items ≡ [] → n < length bytes → get_or bytes n 0 ≡ 34
@@ -108,7 +108,7 @@ content_skims old new bytes t n e f l q opens u is to = record {
   ran = whole_ran old Content bytes n e f l q opens u ∙ content_ends (levels_of old) (take n bytes) u ∙ ap (λ x. Ok (spec.placed (levels_of old) (Str x))) (sym is) ∙ ap (λ x. Ok x) (sym to);
 }
 
-name_ends : (pairs : List (List ℕ × Json)) (name : List ℕ) (ls : List Level) (t : List ℕ) (taken : Taken) (new : spec.MachineState) → is_utf8 t ≡ true
+name_ends : (pairs : List (List ℕ × Json)) (name : List ℕ) (ls : List Unclosed) (t : List ℕ) (taken : Taken) (new : spec.MachineState) → is_utf8 t ≡ true
     → IsTaken taken (spec.named (LevelOfMap pairs name ∷ ls) t) new → spec.text_ends (LevelOfMap pairs name ∷ ls) Name t ≡ Ok new
 name_ends pairs name ls t Goes new u h = rw u h
 name_ends pairs name ls t (Stops stop) new u h = cc h
@@ -120,7 +120,7 @@ map_name_skims old pairs name new bytes t n taken e f inner l q opens u is h =
     let around = reverse old.outer.items in
     let named : IsTaken taken (spec.named (LevelOfMap pairs name ∷ around) (take n bytes)) new =
     subst (λ (x : List ℕ). IsTaken taken (spec.named (LevelOfMap pairs name ∷ around) x) new) is
-    (subst (λ (x : Option Level). IsTaken taken (spec.named (open_in x around) t) new) inner h) in
+    (subst (λ (x : Option Unclosed). IsTaken taken (spec.named (open_in x around) t) new) inner h) in
     record {
       within = omega (arith, l);
       ran = whole_ran old Name bytes n e f l q opens u ∙ ap (λ x. spec.text_ends (open_in x around) Name (take n bytes)) inner ∙ name_ends pairs name around (take n bytes) taken new u named;

@@ -15,8 +15,8 @@ use Rattle.json_text.specs.declared.state.Stop.TheVariants.{Syntax, Depth}
 use Rattle.json_text.specs.declared.state.Place.{Place}
 use Rattle.json_text.specs.declared.state.Place.TheVariants.{Minus, Nought, Whole}
 use Rattle.json_text.specs.declared.state.Role.TheVariants.{Name, Content}
-use Rattle.json_text.specs.declared.state.Level.{Level}
-use Rattle.json_text.specs.declared.state.Level.TheVariants.{List as LevelOfList, Map as LevelOfMap}
+use Rattle.json_text.specs.declared.state.Unclosed.{Unclosed}
+use Rattle.json_text.specs.declared.state.Unclosed.TheVariants.{List as LevelOfList, Map as LevelOfMap}
 use Rattle.json_text.proofs.Basics.{head_same, tail_same, is_byte, other_is, is_below, below_is, same_is}
 use Rattle.json_text.proofs.NumberLemmas.{first_place, Completed, numeral_to, numeral_from, NotNumber, no_place, not_number, either}
 use Rattle.json_text.proofs.Finishes.{Rest, OfBehind, OfValue, OfFirstItem, OfFirstName, OfNextName, OfColon, OfDone, OfWord, Completes, OfNumber, Finishes, Goes, IsState}
@@ -51,10 +51,10 @@ at_blank P b e h₁ h₂ h₃ h₄ = by (blank_cases b e)
 blank_not : (b d : ℕ) → is_whitespace b ≡ true → is_whitespace d ≡ false → (b == d) ≡ false
 blank_not b d e f = other_is b d (λ k. let g : true ≡ false = sym e ∙ ap is_whitespace k ∙ f in cc g)
 
-skipped_to : (limit : ℕ) (levels : List Level) (stay : Hand) (b : ℕ) (c : List ℕ) (v : Json) → is_whitespace b ≡ true → Finishes limit levels stay c v → Goes limit (skipped levels stay b) c v
+skipped_to : (limit : ℕ) (levels : List Unclosed) (stay : Hand) (b : ℕ) (c : List ℕ) (v : Json) → is_whitespace b ≡ true → Finishes limit levels stay c v → Goes limit (skipped levels stay b) c v
 skipped_to limit levels stay b c v e h = rw e h
 
-skipped_from : (limit : ℕ) (levels : List Level) (stay : Hand) (b : ℕ) (c : List ℕ) (v : Json) → Goes limit (skipped levels stay b) c v → (is_whitespace b ≡ true) × Finishes limit levels stay c v
+skipped_from : (limit : ℕ) (levels : List Unclosed) (stay : Hand) (b : ℕ) (c : List ℕ) (v : Json) → Goes limit (skipped levels stay b) c v → (is_whitespace b ≡ true) × Finishes limit levels stay c v
 skipped_from limit levels stay b c v = by (is_whitespace b) refl
   where
     by : (p : Bool) → is_whitespace b ≡ p → Goes limit (cond p (Ok (state levels stay)) (Err Syntax)) c v → (is_whitespace b ≡ true) × Finishes limit levels stay c v
@@ -62,12 +62,12 @@ skipped_from limit levels stay b c v = by (is_whitespace b) refl
     by false e h = absurd h
 
 -- ---- a value that was put where it belongs
-placed_to : (limit : ℕ) (levels : List Level) (x : Json) (c : List ℕ) (v : Json) → Rest limit levels x c v → Goes limit (Ok (placed levels x)) c v
+placed_to : (limit : ℕ) (levels : List Unclosed) (x : Json) (c : List ℕ) (v : Json) → Rest limit levels x c v → Goes limit (Ok (placed levels x)) c v
 placed_to limit [] x c v h = h
 placed_to limit (LevelOfList xs ∷ ls) x c v h = h
 placed_to limit (LevelOfMap ps name ∷ ls) x c v h = h
 
-placed_from : (limit : ℕ) (levels : List Level) (x : Json) (c : List ℕ) (v : Json) → Goes limit (Ok (placed levels x)) c v → Rest limit levels x c v
+placed_from : (limit : ℕ) (levels : List Unclosed) (x : Json) (c : List ℕ) (v : Json) → Goes limit (Ok (placed levels x)) c v → Rest limit levels x c v
 placed_from limit [] x c v h = h
 placed_from limit (LevelOfList xs ∷ ls) x c v h = h
 placed_from limit (LevelOfMap ps name ∷ ls) x c v h = h
@@ -79,7 +79,7 @@ more_pair : (ps : List (List ℕ × Json)) (p : List ℕ × Json) (others : List
 more_pair ps p others = sym (append_assoc ps (p ∷ []) others)
 
 -- ---- behind a value of a list or an object
-item_to : (limit : ℕ) (xs : List Json) (ls : List Level) (b : ℕ) (c : List ℕ) (v : Json) (others : List Json) (rest : List ℕ)
+item_to : (limit : ℕ) (xs : List Json) (ls : List Unclosed) (b : ℕ) (c : List ℕ) (v : Json) (others : List Json) (rest : List ℕ)
     → MoreItems (limit - suc (length ls)) (b ∷ c) others rest → Rest limit ls (JsonOfList (xs ++ others)) rest v → Goes limit (behind_in (LevelOfList xs ∷ ls) b) c v
 item_to limit xs ls b c v others rest (more_items_blank r bytes items rest' d m e f k) h =
     let is = ap is_whitespace (head_same e) ∙ f in
@@ -97,7 +97,7 @@ item_to limit xs ls b c v others rest (more_items_next r bytes items rest' m mid
       (others', rest, l, subst (λ x. Rest limit ls (JsonOfList x) rest v) (ap (λ x. xs ++ x) f ∙ more_one xs first others') h),
     )
 
-item_from : (limit : ℕ) (xs : List Json) (ls : List Level) (b : ℕ) (c : List ℕ) (v : Json) → Goes limit (behind_in (LevelOfList xs ∷ ls) b) c v → OfBehind limit (LevelOfList xs ∷ ls) (b ∷ c) v
+item_from : (limit : ℕ) (xs : List Json) (ls : List Unclosed) (b : ℕ) (c : List ℕ) (v : Json) → Goes limit (behind_in (LevelOfList xs ∷ ls) b) c v → OfBehind limit (LevelOfList xs ∷ ls) (b ∷ c) v
 item_from limit xs ls b c v = by (b == 44) (b == 93) (is_whitespace b) refl refl refl
   where
     comma : b ≡ 44 → OfValue limit (LevelOfList xs ∷ ls) c v → OfBehind limit (LevelOfList xs ∷ ls) (b ∷ c) v
@@ -121,7 +121,7 @@ item_from limit xs ls b c v = by (b == 44) (b == 93) (is_whitespace b) refl refl
     by false false true e f g h = (h.0, h.1, more_items_blank _ (b ∷ c) h.0 h.1 b c refl g h.2, h.3)
     by false false false e f g h = absurd h
 
-pair_to : (limit : ℕ) (ps : List (List ℕ × Json)) (name : List ℕ) (ls : List Level) (b : ℕ) (c : List ℕ) (v : Json) (others : List (List ℕ × Json)) (rest : List ℕ)
+pair_to : (limit : ℕ) (ps : List (List ℕ × Json)) (name : List ℕ) (ls : List Unclosed) (b : ℕ) (c : List ℕ) (v : Json) (others : List (List ℕ × Json)) (rest : List ℕ)
     → MorePairs (limit - suc (length ls)) (b ∷ c) others rest → Rest limit ls (JsonOfMap (merged (ps ++ others))) rest v → Goes limit (behind_in (LevelOfMap ps name ∷ ls) b) c v
 pair_to limit ps name ls b c v others rest (more_pairs_blank r bytes pairs rest' d m e f k) h =
     let is = ap is_whitespace (head_same e) ∙ f in
@@ -141,7 +141,7 @@ pair_to limit ps name ls b c v others rest (more_pairs_next r bytes pairs rest' 
       (others', rest, l, subst (λ y. Rest limit ls (JsonOfMap (merged y)) rest v) (ap (λ y. ps ++ y) f ∙ more_pair ps (n, x) others') h),
     )
 
-pair_from : (limit : ℕ) (ps : List (List ℕ × Json)) (name : List ℕ) (ls : List Level) (b : ℕ) (c : List ℕ) (v : Json) → Goes limit (behind_in (LevelOfMap ps name ∷ ls) b) c v → OfBehind limit (LevelOfMap ps name ∷ ls) (b ∷ c) v
+pair_from : (limit : ℕ) (ps : List (List ℕ × Json)) (name : List ℕ) (ls : List Unclosed) (b : ℕ) (c : List ℕ) (v : Json) → Goes limit (behind_in (LevelOfMap ps name ∷ ls) b) c v → OfBehind limit (LevelOfMap ps name ∷ ls) (b ∷ c) v
 pair_from limit ps name ls b c v = by (b == 44) (b == 125) (is_whitespace b) refl refl refl
   where
     comma : b ≡ 44 → OfNextName limit (LevelOfMap ps name ∷ ls) c v → OfBehind limit (LevelOfMap ps name ∷ ls) (b ∷ c) v
@@ -165,28 +165,28 @@ pair_from limit ps name ls b c v = by (b == 44) (b == 125) (is_whitespace b) ref
     by false false true e f g h = (h.0, h.1, more_pairs_blank _ (b ∷ c) h.0 h.1 b c refl g h.2, h.3)
     by false false false e f g h = absurd h
 
-behind_same : (limit : ℕ) (levels : List Level) (b : ℕ) (c : List ℕ) (v : Json) → Same (OfBehind limit levels (b ∷ c) v) (Goes limit (behind_in levels b) c v)
+behind_same : (limit : ℕ) (levels : List Unclosed) (b : ℕ) (c : List ℕ) (v : Json) → Same (OfBehind limit levels (b ∷ c) v) (Goes limit (behind_in levels b) c v)
 behind_same limit [] b c v = (λ h. absurd h, λ h. absurd h)
 behind_same limit (LevelOfList xs ∷ ls) b c v = (λ h. item_to limit xs ls b c v h.0 h.1 h.2 h.3, item_from limit xs ls b c v)
 behind_same limit (LevelOfMap ps name ∷ ls) b c v = (λ h. pair_to limit ps name ls b c v h.0 h.1 h.2 h.3, pair_from limit ps name ls b c v)
 
 -- ---- behind the whole value
-done_same : (limit : ℕ) (levels : List Level) (x : Json) (b : ℕ) (c : List ℕ) (v : Json) → Same (OfDone levels x (b ∷ c) v) (Goes limit (at_end levels x b) c v)
+done_same : (limit : ℕ) (levels : List Unclosed) (x : Json) (b : ℕ) (c : List ℕ) (v : Json) → Same (OfDone levels x (b ∷ c) v) (Goes limit (at_end levels x b) c v)
 done_same limit [] x b c v = (λ h. skipped_to limit [] (done x) b c v h.0.0 (h.0.1, h.1), λ h. let k = skipped_from limit [] (done x) b c v h in ((k.0, k.1.0), k.1.1))
 done_same limit (l ∷ ls) x b c v = (λ h. absurd h, λ h. absurd h)
 
 -- behind a value
-follow_same : (limit : ℕ) (levels : List Level) (x : Json) (b : ℕ) (c : List ℕ) (v : Json) → Same (Rest limit levels x (b ∷ c) v) (Goes limit (behind_placed levels x b) c v)
+follow_same : (limit : ℕ) (levels : List Unclosed) (x : Json) (b : ℕ) (c : List ℕ) (v : Json) → Same (Rest limit levels x (b ∷ c) v) (Goes limit (behind_placed levels x b) c v)
 follow_same limit [] x b c v = done_same limit [] x b c v
 follow_same limit (LevelOfList xs ∷ ls) x b c v = behind_same limit (LevelOfList (xs ++ (x ∷ [])) ∷ ls) b c v
 follow_same limit (LevelOfMap ps name ∷ ls) x b c v = behind_same limit (LevelOfMap (ps ++ ((name, x) ∷ [])) [] ∷ ls) b c v
 
 -- ---- in a word
-word_to : (limit : ℕ) (levels : List Level) (x : Json) (w : ℕ) (left : List ℕ) (b : ℕ) (c : List ℕ) (v : Json) (rest : List ℕ) → b ∷ c ≡ w ∷ (left ++ rest) → Rest limit levels x rest v → Goes limit (in_word levels x (w ∷ left) b) c v
+word_to : (limit : ℕ) (levels : List Unclosed) (x : Json) (w : ℕ) (left : List ℕ) (b : ℕ) (c : List ℕ) (v : Json) (rest : List ℕ) → b ∷ c ≡ w ∷ (left ++ rest) → Rest limit levels x rest v → Goes limit (in_word levels x (w ∷ left) b) c v
 word_to limit levels x w [] b c v rest e h = let t : (b == w) ≡ true = same_is b w (head_same e) in rw t (placed_to limit levels x c v (subst (λ y. Rest limit levels x y v) (sym (tail_same e)) h))
 word_to limit levels x w (d ∷ left) b c v rest e h = let t : (b == w) ≡ true = same_is b w (head_same e) in rw t (rest, tail_same e, h)
 
-word_from : (limit : ℕ) (levels : List Level) (x : Json) (w : ℕ) (left : List ℕ) (b : ℕ) (c : List ℕ) (v : Json) → Goes limit (in_word levels x (w ∷ left) b) c v → OfWord limit levels x (w ∷ left) (b ∷ c) v
+word_from : (limit : ℕ) (levels : List Unclosed) (x : Json) (w : ℕ) (left : List ℕ) (b : ℕ) (c : List ℕ) (v : Json) → Goes limit (in_word levels x (w ∷ left) b) c v → OfWord limit levels x (w ∷ left) (b ∷ c) v
 word_from limit levels x w [] b c v = by (b == w) refl
   where
     by : (p : Bool) → (b == w) ≡ p → Goes limit (cond p (Ok (placed levels x)) (Err Syntax)) c v → OfWord limit levels x (w ∷ []) (b ∷ c) v
@@ -198,12 +198,12 @@ word_from limit levels x w (d ∷ left) b c v = by (b == w) refl
     by true e h = (h.0, ap (λ y. y ∷ c) (is_byte b w e) ∙ ap (λ y. w ∷ y) h.1, h.2)
     by false e h = absurd h
 
-word_same : (limit : ℕ) (levels : List Level) (x : Json) (left : List ℕ) (b : ℕ) (c : List ℕ) (v : Json) → Same (OfWord limit levels x left (b ∷ c) v) (Goes limit (in_word levels x left b) c v)
+word_same : (limit : ℕ) (levels : List Unclosed) (x : Json) (left : List ℕ) (b : ℕ) (c : List ℕ) (v : Json) → Same (OfWord limit levels x left (b ∷ c) v) (Goes limit (in_word levels x left b) c v)
 word_same limit levels x [] b c v = (λ h. absurd h, λ h. absurd h)
 word_same limit levels x (w ∷ left) b c v = (λ h. word_to limit levels x w left b c v h.0 h.1 h.2, word_from limit levels x w left b c v)
 
 -- ---- in a numeral
-after_more : (limit : ℕ) (ls : List Level) (xs : List Json) (b : ℕ) (c : List ℕ) (others : List Json) (rest : List ℕ) → MoreItems limit (b ∷ c) others rest → NotNumber b
+after_more : (limit : ℕ) (ls : List Unclosed) (xs : List Json) (b : ℕ) (c : List ℕ) (others : List Json) (rest : List ℕ) → MoreItems limit (b ∷ c) others rest → NotNumber b
 after_more limit ls xs b c others rest (more_items_blank r bytes items rest' d m e f k) =
     at_blank NotNumber b (ap is_whitespace (head_same e) ∙ f) (refl, refl, refl, refl, refl) (refl, refl, refl, refl, refl) (refl, refl, refl, refl, refl) (refl, refl, refl, refl, refl)
 after_more limit ls xs b c others rest (more_items_done r bytes items rest' e f) = not_number b 93 (refl, refl, refl, refl, refl) (head_same e)
@@ -215,12 +215,12 @@ after_pairs room b c others rest (more_pairs_blank r bytes items rest' d m e f k
 after_pairs room b c others rest (more_pairs_done r bytes items rest' e f) = not_number b 125 (refl, refl, refl, refl, refl) (head_same e)
 after_pairs room b c others rest (more_pairs_next r bytes items rest' m mid n x others' e f k l) = not_number b 44 (refl, refl, refl, refl, refl) (head_same e)
 
-after_value : (limit : ℕ) (levels : List Level) (x : Json) (b : ℕ) (c : List ℕ) (v : Json) → Rest limit levels x (b ∷ c) v → NotNumber b
+after_value : (limit : ℕ) (levels : List Unclosed) (x : Json) (b : ℕ) (c : List ℕ) (v : Json) → Rest limit levels x (b ∷ c) v → NotNumber b
 after_value limit [] x b c v h = at_blank NotNumber b h.0.0 (refl, refl, refl, refl, refl) (refl, refl, refl, refl, refl) (refl, refl, refl, refl, refl) (refl, refl, refl, refl, refl)
 after_value limit (LevelOfList xs ∷ ls) x b c v h = after_more (limit - suc (length ls)) ls xs b c h.0 h.1 h.2
 after_value limit (LevelOfMap ps name ∷ ls) x b c v h = after_pairs (limit - suc (length ls)) b c h.0 h.1 h.2
 
-number_to : (limit : ℕ) (levels : List Level) (t : List ℕ) (place : Place) (b : ℕ) (c : List ℕ) (v : Json) → IsUtf8 t → (more rest : List ℕ) → b ∷ c ≡ more ++ rest → Completes (Some place) more → Rest limit levels (Num (t ++ more)) rest v
+number_to : (limit : ℕ) (levels : List Unclosed) (t : List ℕ) (place : Place) (b : ℕ) (c : List ℕ) (v : Json) → IsUtf8 t → (more rest : List ℕ) → b ∷ c ≡ more ++ rest → Completes (Some place) more → Rest limit levels (Num (t ++ more)) rest v
     → Goes limit (in_number levels t place b) c v
 number_to limit levels t place b c v u [] rest e k h =
     let h' : Rest limit levels (Num t) (b ∷ c) v = subst (λ y. Rest limit levels (Num t) y v) (sym e) (subst (λ y. Rest limit levels (Num y) rest v) (append-nil t) h) in
@@ -239,7 +239,7 @@ number_to limit levels t place b c v u (x ∷ more) rest e k h = by (next_place 
       subst (λ y. Rest limit levels (Num y) rest v) (sym (append_assoc t (b ∷ []) more)) (subst (λ y. Rest limit levels (Num (t ++ (y ∷ more))) rest v) (sym (head_same e)) h),
     )
 
-number_from : (limit : ℕ) (levels : List Level) (t : List ℕ) (place : Place) (b : ℕ) (c : List ℕ) (v : Json) → IsUtf8 t → Goes limit (in_number levels t place b) c v → OfNumber limit levels t place (b ∷ c) v
+number_from : (limit : ℕ) (levels : List Unclosed) (t : List ℕ) (place : Place) (b : ℕ) (c : List ℕ) (v : Json) → IsUtf8 t → Goes limit (in_number levels t place b) c v → OfNumber limit levels t place (b ∷ c) v
 number_from limit levels t place b c v u = by (next_place place b) refl
   where
     ended : (p : Bool) → ends place ≡ p → Goes limit (cond p (cond (is_utf8 t) (behind_placed levels (Num t) b) (Err Syntax)) (Err Syntax)) c v → OfNumber limit levels t place (b ∷ c) v
@@ -259,10 +259,10 @@ number_from limit levels t place b c v u = by (next_place place b) refl
     by None e h = ended (ends place) refl h
 
 -- ---- a value begins
-opened_to : (limit : ℕ) (levels : List Level) (level : Level) (hand : Hand) (c : List ℕ) (v : Json) → length levels < limit → Finishes limit (level ∷ levels) hand c v → Goes limit (opened limit levels level hand) c v
+opened_to : (limit : ℕ) (levels : List Unclosed) (level : Unclosed) (hand : Hand) (c : List ℕ) (v : Json) → length levels < limit → Finishes limit (level ∷ levels) hand c v → Goes limit (opened limit levels level hand) c v
 opened_to limit levels level hand c v l h = rw (below_is (length levels) limit l) h
 
-opened_from : (limit : ℕ) (levels : List Level) (level : Level) (hand : Hand) (c : List ℕ) (v : Json) → Goes limit (opened limit levels level hand) c v → (length levels < limit) × Finishes limit (level ∷ levels) hand c v
+opened_from : (limit : ℕ) (levels : List Unclosed) (level : Unclosed) (hand : Hand) (c : List ℕ) (v : Json) → Goes limit (opened limit levels level hand) c v → (length levels < limit) × Finishes limit (level ∷ levels) hand c v
 opened_from limit levels level hand c v = by (nat_lt (length levels) limit) refl
   where
     by : (p : Bool) → nat_lt (length levels) limit ≡ p → Goes limit (cond p (Ok (state (level ∷ levels) hand)) (Err Depth)) c v → (length levels < limit) × Finishes limit (level ∷ levels) hand c v
@@ -279,7 +279,7 @@ room_made : (limit n : ℕ) → n < limit → limit - n ≡ suc (limit - suc n)
 room_made limit n h = omega arith
 
 -- a first byte of a numeral
-first_number : (limit : ℕ) (levels : List Level) (stay : Hand) (b : ℕ) (c : List ℕ) (v : Json) (more rest : List ℕ) → Completes (first_place b) more → c ≡ more ++ rest → Rest limit levels (Num (b ∷ more)) rest v
+first_number : (limit : ℕ) (levels : List Unclosed) (stay : Hand) (b : ℕ) (c : List ℕ) (v : Json) (more rest : List ℕ) → Completes (first_place b) more → c ≡ more ++ rest → Rest limit levels (Num (b ∷ more)) rest v
     → Goes limit (begin limit levels stay b) c v
 first_number limit levels stay b c v more rest k e h = by (either (b == 45) (Some Minus) (cond (b == 48) (Some Nought) (cond (is_ascii_digit b) (Some Whole) None)) more k)
   where
@@ -307,10 +307,10 @@ first_number limit levels stay b c v more rest k e h = by (either (b == 45) (Som
     by (inl p) = let n = is_byte b 45 p.0 in moved limit (begin limit levels stay) c v n (more, rest, e, p.1, subst (λ y. Rest limit levels (Num (y ∷ more)) rest v) n h)
     by (inr p) = by₁ p.0 (either (b == 48) (Some Nought) (cond (is_ascii_digit b) (Some Whole) None) more p.1)
 
-pub begin_blank : (limit : ℕ) (levels : List Level) (stay : Hand) (b : ℕ) → is_whitespace b ≡ true → begin limit levels stay b ≡ Ok (state levels stay)
+pub begin_blank : (limit : ℕ) (levels : List Unclosed) (stay : Hand) (b : ℕ) → is_whitespace b ≡ true → begin limit levels stay b ≡ Ok (state levels stay)
 begin_blank limit levels stay b e = at_blank (λ x. begin limit levels stay x ≡ Ok (state levels stay)) b e refl refl refl refl
 
-begin_to : (limit : ℕ) (levels : List Level) (stay : Hand) (b : ℕ) (c : List ℕ) (v : Json) (x : Json) (rest : List ℕ) → Value (limit - length levels) (b ∷ c) x rest → Rest limit levels x rest v
+begin_to : (limit : ℕ) (levels : List Unclosed) (stay : Hand) (b : ℕ) (c : List ℕ) (v : Json) (x : Json) (rest : List ℕ) → Value (limit - length levels) (b ∷ c) x rest → Rest limit levels x rest v
     → (Value (limit - length levels) c x rest → Finishes limit levels stay c v) → Goes limit (begin limit levels stay b) c v
 begin_to limit levels stay b c v x rest (blank r bytes y rest' d m e f k) h keeps =
     let is = ap is_whitespace (head_same e) ∙ f in
@@ -343,7 +343,7 @@ begin_to limit levels stay b c v x rest (map_of r bytes y rest' inner m pairs n 
     ))
 
 -- what a step at the start of a value comes from: a value, or white space
-module _ (limit : ℕ) (levels : List Level) (stay : Hand) (b : ℕ) (c : List ℕ) (v : Json) where
+module _ (limit : ℕ) (levels : List Unclosed) (stay : Hand) (b : ℕ) (c : List ℕ) (v : Json) where
   a_number : (place : Place) → first_place b ≡ Some place → OfNumber limit levels (b ∷ []) place c v → OfValue limit levels (b ∷ c) v
   a_number place e h =
       (Num (b ∷ h.0), h.1, number_of _ (b ∷ c) (Num (b ∷ h.0)) h.1 (b ∷ h.0) (ap (λ y. b ∷ y) h.2) refl (numeral_from (b ∷ h.0) (subst (λ o. Completes o h.0) (sym e) h.3)), h.4)
@@ -387,7 +387,7 @@ module _ (limit : ℕ) (levels : List Level) (stay : Hand) (b : ℕ) (c : List �
       by false false true e f g h = let o = opened_from limit levels (LevelOfMap [] []) first_name c v h in inl (a_map (is_byte b 123 g) o.0 o.1)
       by false false false e f g h = word_began h
 
-value_same : (limit : ℕ) (levels : List Level) (b : ℕ) (c : List ℕ) (v : Json) → Same (OfValue limit levels (b ∷ c) v) (Goes limit (begin limit levels value b) c v)
+value_same : (limit : ℕ) (levels : List Unclosed) (b : ℕ) (c : List ℕ) (v : Json) → Same (OfValue limit levels (b ∷ c) v) (Goes limit (begin limit levels value b) c v)
 value_same limit levels b c v = (λ h. begin_to limit levels value b c v h.0 h.1 h.2 h.3 (λ k. (h.0, h.1, k, h.3)), λ g. from (began limit levels value b c v g))
   where
     from : OfValue limit levels (b ∷ c) v ⊎ ((is_whitespace b ≡ true) × OfValue limit levels c v) → OfValue limit levels (b ∷ c) v
@@ -409,7 +409,7 @@ not_bracket room b c x rest (string_of r bytes y rest' m t e f k) = ap (λ z. z 
 not_bracket room b c x rest (list_of r bytes y rest' inner m items n e f k) = ap (λ z. z == 93) (head_same e)
 not_bracket room b c x rest (map_of r bytes y rest' inner m pairs n e f k) = ap (λ z. z == 93) (head_same e)
 
-first_item_to : (limit : ℕ) (xs : List Json) (ls : List Level) (b : ℕ) (c : List ℕ) (v : Json) (items : List Json) (rest : List ℕ)
+first_item_to : (limit : ℕ) (xs : List Json) (ls : List Unclosed) (b : ℕ) (c : List ℕ) (v : Json) (items : List Json) (rest : List ℕ)
     → Items (limit - suc (length ls)) (b ∷ c) items rest → Rest limit ls (JsonOfList (xs ++ items)) rest v → Goes limit (item_first limit (LevelOfList xs ∷ ls) b) c v
 first_item_to limit xs ls b c v items rest (items_blank r bytes is rest' d m e f k) h =
     let i = ap is_whitespace (head_same e) ∙ f in
@@ -424,7 +424,7 @@ first_item_to limit xs ls b c v items rest (items_some r bytes is rest' mid firs
     (others, rest, l, subst (λ x. Rest limit ls (JsonOfList x) rest v) (ap (λ x. xs ++ x) f ∙ more_one xs first others) h)
     (λ k'. (items, rest, items_some _ c items rest mid first others f k' l, h)))
 
-first_item_from : (limit : ℕ) (xs : List Json) (ls : List Level) (b : ℕ) (c : List ℕ) (v : Json) → Goes limit (item_first limit (LevelOfList xs ∷ ls) b) c v → OfFirstItem limit (LevelOfList xs ∷ ls) (b ∷ c) v
+first_item_from : (limit : ℕ) (xs : List Json) (ls : List Unclosed) (b : ℕ) (c : List ℕ) (v : Json) → Goes limit (item_first limit (LevelOfList xs ∷ ls) b) c v → OfFirstItem limit (LevelOfList xs ∷ ls) (b ∷ c) v
 first_item_from limit xs ls b c v = by (b == 93) refl
   where
     from : OfValue limit (LevelOfList xs ∷ ls) (b ∷ c) v ⊎ ((is_whitespace b ≡ true) × OfFirstItem limit (LevelOfList xs ∷ ls) c v) → OfFirstItem limit (LevelOfList xs ∷ ls) (b ∷ c) v
@@ -440,13 +440,13 @@ first_item_from limit xs ls b c v = by (b == 93) refl
     )
     by false e h = from (began limit (LevelOfList xs ∷ ls) first_item b c v h)
 
-first_item_same : (limit : ℕ) (levels : List Level) (b : ℕ) (c : List ℕ) (v : Json) → Same (OfFirstItem limit levels (b ∷ c) v) (Goes limit (item_first limit levels b) c v)
+first_item_same : (limit : ℕ) (levels : List Unclosed) (b : ℕ) (c : List ℕ) (v : Json) → Same (OfFirstItem limit levels (b ∷ c) v) (Goes limit (item_first limit levels b) c v)
 first_item_same limit [] b c v = (λ h. absurd h, λ h. absurd h)
 first_item_same limit (LevelOfMap ps name ∷ ls) b c v = (λ h. absurd h, λ h. absurd h)
 first_item_same limit (LevelOfList xs ∷ ls) b c v = (λ h. first_item_to limit xs ls b c v h.0 h.1 h.2 h.3, first_item_from limit xs ls b c v)
 
 -- ---- names
-named_to : (limit : ℕ) (ps : List (List ℕ × Json)) (old : List ℕ) (ls : List Level) (stay : Hand) (b : ℕ) (c : List ℕ) (v : Json) (name : List ℕ) (x : Json) (mid : List ℕ)
+named_to : (limit : ℕ) (ps : List (List ℕ × Json)) (old : List ℕ) (ls : List Unclosed) (stay : Hand) (b : ℕ) (c : List ℕ) (v : Json) (name : List ℕ) (x : Json) (mid : List ℕ)
     → Pair (limit - suc (length ls)) (b ∷ c) name x mid → Rest limit (LevelOfMap ps name ∷ ls) x mid v → (Pair (limit - suc (length ls)) c name x mid → Finishes limit (LevelOfMap ps old ∷ ls) stay c v)
     → Goes limit (name_begins (LevelOfMap ps old ∷ ls) stay b) c v
 named_to limit ps old ls stay b c v name x mid (pair_blank r bytes n y rest d m e f k) h keeps =
@@ -456,7 +456,7 @@ named_to limit ps old ls stay b c v name x mid (pair_blank r bytes n y rest d m 
 named_to limit ps old ls stay b c v name x mid (pair_named r bytes n y rest m behind_name after e chars at val) h keeps =
     moved limit (name_begins (LevelOfMap ps old ∷ ls) stay) c v (head_same e) (name, behind_name, subst (λ z. Chars z name behind_name) (sym (tail_same e)) chars, (after, x, mid, at, val, h))
 
-named_from : (limit : ℕ) (ps : List (List ℕ × Json)) (old : List ℕ) (ls : List Level) (stay : Hand) (b : ℕ) (c : List ℕ) (v : Json) → Goes limit (name_begins (LevelOfMap ps old ∷ ls) stay b) c v
+named_from : (limit : ℕ) (ps : List (List ℕ × Json)) (old : List ℕ) (ls : List Unclosed) (stay : Hand) (b : ℕ) (c : List ℕ) (v : Json) → Goes limit (name_begins (LevelOfMap ps old ∷ ls) stay b) c v
     → OfNextName limit (LevelOfMap ps old ∷ ls) (b ∷ c) v ⊎ ((is_whitespace b ≡ true) × Finishes limit (LevelOfMap ps old ∷ ls) stay c v)
 named_from limit ps old ls stay b c v = by (b == 34) refl
   where
@@ -465,12 +465,12 @@ named_from limit ps old ls stay b c v = by (b == 34) refl
     by true e (name, mid, chars, (after, x, rest, at, val, h)) = inl (name, x, rest, pair_named _ (b ∷ c) name x rest c mid after (ap (λ z. z ∷ c) (is_byte b 34 e)) chars at val, h)
     by false e h = inr (skipped_from limit (LevelOfMap ps old ∷ ls) stay b c v h)
 
-next_name_from : (limit : ℕ) (ps : List (List ℕ × Json)) (old : List ℕ) (ls : List Level) (b : ℕ) (c : List ℕ) (v : Json)
+next_name_from : (limit : ℕ) (ps : List (List ℕ × Json)) (old : List ℕ) (ls : List Unclosed) (b : ℕ) (c : List ℕ) (v : Json)
     → OfNextName limit (LevelOfMap ps old ∷ ls) (b ∷ c) v ⊎ ((is_whitespace b ≡ true) × OfNextName limit (LevelOfMap ps old ∷ ls) c v) → OfNextName limit (LevelOfMap ps old ∷ ls) (b ∷ c) v
 next_name_from limit ps old ls b c v (inl h) = h
 next_name_from limit ps old ls b c v (inr (e, (name, x, rest, k, h))) = (name, x, rest, pair_blank _ (b ∷ c) name x rest b c refl e k, h)
 
-next_name_same : (limit : ℕ) (levels : List Level) (b : ℕ) (c : List ℕ) (v : Json) → Same (OfNextName limit levels (b ∷ c) v) (Goes limit (name_next levels b) c v)
+next_name_same : (limit : ℕ) (levels : List Unclosed) (b : ℕ) (c : List ℕ) (v : Json) → Same (OfNextName limit levels (b ∷ c) v) (Goes limit (name_next levels b) c v)
 next_name_same limit [] b c v = (λ h. absurd h, by (b == 34) (is_whitespace b))
   where
     by : (p q : Bool) → Goes limit (cond p (Ok (state [] (text Name [] plain))) (cond q (Ok (state [] next_name)) (Err Syntax))) c v → ⊥
@@ -488,7 +488,7 @@ next_name_same limit (LevelOfMap ps old ∷ ls) b c v = (
   λ g. next_name_from limit ps old ls b c v (named_from limit ps old ls next_name b c v g),
 )
 
-first_name_to : (limit : ℕ) (ps : List (List ℕ × Json)) (old : List ℕ) (ls : List Level) (b : ℕ) (c : List ℕ) (v : Json) (pairs : List (List ℕ × Json)) (rest : List ℕ)
+first_name_to : (limit : ℕ) (ps : List (List ℕ × Json)) (old : List ℕ) (ls : List Unclosed) (b : ℕ) (c : List ℕ) (v : Json) (pairs : List (List ℕ × Json)) (rest : List ℕ)
     → Pairs (limit - suc (length ls)) (b ∷ c) pairs rest → Rest limit ls (JsonOfMap (merged (ps ++ pairs))) rest v → Goes limit (name_first (LevelOfMap ps old ∷ ls) b) c v
 first_name_to limit ps old ls b c v pairs rest (pairs_blank r bytes is rest' d m e f k) h =
     let i = ap is_whitespace (head_same e) ∙ f in
@@ -508,7 +508,7 @@ first_name_to limit ps old ls b c v pairs rest (pairs_some r bytes is rest' mid 
     no_brace room (pair_blank r' bytes' n y rest₂ d m e f' k') = blank_not b 125 (ap is_whitespace (head_same e) ∙ f') refl
     no_brace room (pair_named r' bytes' n y rest₂ m bn after e chars at val) = ap (λ z. z == 125) (head_same e)
 
-first_name_from : (limit : ℕ) (ps : List (List ℕ × Json)) (old : List ℕ) (ls : List Level) (b : ℕ) (c : List ℕ) (v : Json) → Goes limit (name_first (LevelOfMap ps old ∷ ls) b) c v → OfFirstName limit (LevelOfMap ps old ∷ ls) (b ∷ c) v
+first_name_from : (limit : ℕ) (ps : List (List ℕ × Json)) (old : List ℕ) (ls : List Unclosed) (b : ℕ) (c : List ℕ) (v : Json) → Goes limit (name_first (LevelOfMap ps old ∷ ls) b) c v → OfFirstName limit (LevelOfMap ps old ∷ ls) (b ∷ c) v
 first_name_from limit ps old ls b c v = by (b == 125) refl
   where
     from : OfNextName limit (LevelOfMap ps old ∷ ls) (b ∷ c) v ⊎ ((is_whitespace b ≡ true) × OfFirstName limit (LevelOfMap ps old ∷ ls) c v) → OfFirstName limit (LevelOfMap ps old ∷ ls) (b ∷ c) v
@@ -525,13 +525,13 @@ first_name_from limit ps old ls b c v = by (b == 125) refl
     )
     by false e h = from (named_from limit ps old ls first_name b c v h)
 
-first_name_same : (limit : ℕ) (levels : List Level) (b : ℕ) (c : List ℕ) (v : Json) → Same (OfFirstName limit levels (b ∷ c) v) (Goes limit (name_first levels b) c v)
+first_name_same : (limit : ℕ) (levels : List Unclosed) (b : ℕ) (c : List ℕ) (v : Json) → Same (OfFirstName limit levels (b ∷ c) v) (Goes limit (name_first levels b) c v)
 first_name_same limit [] b c v = (λ h. absurd h, λ h. absurd h)
 first_name_same limit (LevelOfList xs ∷ ls) b c v = (λ h. absurd h, λ h. absurd h)
 first_name_same limit (LevelOfMap ps old ∷ ls) b c v = (λ h. first_name_to limit ps old ls b c v h.0 h.1 h.2 h.3, first_name_from limit ps old ls b c v)
 
 -- ---- behind a name
-colon_to : (limit : ℕ) (levels : List Level) (b : ℕ) (c : List ℕ) (v : Json) (mid : List ℕ) (x : Json) (rest : List ℕ) → Colon (b ∷ c) mid → Value (limit - length levels) mid x rest → Rest limit levels x rest v → Goes limit (at_colon levels b) c v
+colon_to : (limit : ℕ) (levels : List Unclosed) (b : ℕ) (c : List ℕ) (v : Json) (mid : List ℕ) (x : Json) (rest : List ℕ) → Colon (b ∷ c) mid → Value (limit - length levels) mid x rest → Rest limit levels x rest v → Goes limit (at_colon levels b) c v
 colon_to limit levels b c v mid x rest (colon_blank bytes rest' d m e f k) val h =
     let is = ap is_whitespace (head_same e) ∙ f in
     let p = blank_not b 58 is refl in
@@ -539,7 +539,7 @@ colon_to limit levels b c v mid x rest (colon_blank bytes rest' d m e f k) val h
 colon_to limit levels b c v mid x rest (colon_here bytes rest' e) val h =
     moved limit (at_colon levels) c v (head_same e) (x, rest, subst (λ z. Value (limit - length levels) z x rest) (sym (tail_same e)) val, h)
 
-colon_from : (limit : ℕ) (levels : List Level) (b : ℕ) (c : List ℕ) (v : Json) → Goes limit (at_colon levels b) c v → OfColon limit levels (b ∷ c) v
+colon_from : (limit : ℕ) (levels : List Unclosed) (b : ℕ) (c : List ℕ) (v : Json) → Goes limit (at_colon levels b) c v → OfColon limit levels (b ∷ c) v
 colon_from limit levels b c v = by (b == 58) refl
   where
     later : (is_whitespace b ≡ true) × OfColon limit levels c v → OfColon limit levels (b ∷ c) v
@@ -550,7 +550,7 @@ colon_from limit levels b c v = by (b == 58) refl
     by false e h = later (skipped_from limit levels colon b c v h)
 
 -- One step: what the state finishes with a byte and more is what the next state finishes with more, and where there is none, nothing.
-pub step_same : (limit : ℕ) (levels : List Level) (hand : Hand) (b : ℕ) (c : List ℕ) (v : Json) → IsState levels hand → Same (Finishes limit levels hand (b ∷ c) v) (Goes limit (step limit levels hand b) c v)
+pub step_same : (limit : ℕ) (levels : List Unclosed) (hand : Hand) (b : ℕ) (c : List ℕ) (v : Json) → IsState levels hand → Same (Finishes limit levels hand (b ∷ c) v) (Goes limit (step limit levels hand b) c v)
 step_same limit levels value b c v is = value_same limit levels b c v
 step_same limit levels first_item b c v is = first_item_same limit levels b c v
 step_same limit levels first_name b c v is = first_name_same limit levels b c v

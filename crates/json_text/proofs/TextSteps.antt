@@ -15,8 +15,8 @@ use Rattle.json_text.specs.declared.state.Digits.{Digits}
 use Rattle.json_text.specs.declared.state.Digits.TheVariants.{Zero as NoDigit, One, Two, Three}
 use Rattle.json_text.specs.declared.state.Role.{Role}
 use Rattle.json_text.specs.declared.state.Role.TheVariants.{Name, Content}
-use Rattle.json_text.specs.declared.state.Level.{Level}
-use Rattle.json_text.specs.declared.state.Level.TheVariants.{List as LevelOfList, Map as LevelOfMap}
+use Rattle.json_text.specs.declared.state.Unclosed.{Unclosed}
+use Rattle.json_text.specs.declared.state.Unclosed.TheVariants.{List as LevelOfList, Map as LevelOfMap}
 use Rattle.json_text.proofs.Basics.{head_same, tail_same, is_byte, is_other, other_is, is_below, is_least, below_is, least_is, same_is}
 use Rattle.json_text.proofs.Utf8Lemmas.{Within, IsWide, wide_of, of_wide, order}
 use Rattle.json_text.proofs.Finishes.{IsHalf, Ends, OfText, Goes, raw, IsPart}
@@ -29,7 +29,7 @@ one_more : (t : List ℕ) (b : ℕ) (more : List ℕ) → t ++ (b ∷ more) ≡ 
 one_more t b more = sym (append_assoc t (b ∷ []) more)
 
 -- what ends at a text ends at the same text
-along : (limit : ℕ) (levels : List Level) (role : Role) (rest : List ℕ) (v : Json) {s t : List ℕ} → s ≡ t → Ends limit levels role s rest v → Ends limit levels role t rest v
+along : (limit : ℕ) (levels : List Unclosed) (role : Role) (rest : List ℕ) (v : Json) {s t : List ℕ} → s ≡ t → Ends limit levels role s rest v → Ends limit levels role t rest v
 along limit levels role rest v e h = subst (λ x. Ends limit levels role x rest v) e h
 
 -- a character's first byte
@@ -37,7 +37,7 @@ pub byte_of : (c : ℕ) → c < 128 → encode_utf8 c ≡ c ∷ []
 byte_of c h = encode_ascii c h
 
 -- ---- the end of a string
-ends_to : (limit : ℕ) (levels : List Level) (role : Role) (t rest : List ℕ) (v : Json) → is_utf8 t ≡ true → Ends limit levels role t rest v → Goes limit (text_ends levels role t) rest v
+ends_to : (limit : ℕ) (levels : List Unclosed) (role : Role) (t rest : List ℕ) (v : Json) → is_utf8 t ≡ true → Ends limit levels role t rest v → Goes limit (text_ends levels role t) rest v
 ends_to limit [] Content t rest v u h = rw u h
 ends_to limit (LevelOfList xs ∷ ls) Content t rest v u h = rw u h
 ends_to limit (LevelOfMap ps name ∷ ls) Content t rest v u h = rw u h
@@ -45,7 +45,7 @@ ends_to limit [] Name t rest v u h = absurd h
 ends_to limit (LevelOfList xs ∷ ls) Name t rest v u h = absurd h
 ends_to limit (LevelOfMap ps name ∷ ls) Name t rest v u h = rw u h
 
-ends_from : (limit : ℕ) (levels : List Level) (role : Role) (t rest : List ℕ) (v : Json) → is_utf8 t ≡ true → Goes limit (text_ends levels role t) rest v → Ends limit levels role t rest v
+ends_from : (limit : ℕ) (levels : List Unclosed) (role : Role) (t rest : List ℕ) (v : Json) → is_utf8 t ≡ true → Goes limit (text_ends levels role t) rest v → Ends limit levels role t rest v
 ends_from limit [] Content t rest v u h = rw u at h
 ends_from limit (LevelOfList xs ∷ ls) Content t rest v u h = rw u at h
 ends_from limit (LevelOfMap ps name ∷ ls) Content t rest v u h = rw u at h
@@ -54,7 +54,7 @@ ends_from limit (LevelOfList xs ∷ ls) Name t rest v u h = absurd h
 ends_from limit (LevelOfMap ps name ∷ ls) Name t rest v u h = rw u at h
 
 -- ---- between characters
-module _ (limit : ℕ) (levels : List Level) (role : Role) (t : List ℕ) (v : Json) where
+module _ (limit : ℕ) (levels : List Unclosed) (role : Role) (t : List ℕ) (v : Json) where
   plain_ascii : (b : ℕ) (c : List ℕ) (more rest : List ℕ) (d : ℕ) (m after : List ℕ) → d < 128 → 32 ≤ d → d ≢ 34 → d ≢ 92 → b ∷ c ≡ d ∷ m → more ≡ d ∷ after → Chars m after rest
       → Ends limit levels role (t ++ more) rest v → Goes limit (in_plain levels role t b) c v
   plain_ascii b c more rest d m after under least nq ns e f chars h =
@@ -186,7 +186,7 @@ opens_code m more rest chars = by (opens (117 ∷ m) more rest chars)
     by (in_code_of c n mid after e f g k l) = one_code c mid after (subst (λ x. FourDigits x c mid) (sym (tail_same e)) f) g k l
     by (in_pair h n mid e f g k) = half_code h mid (subst (λ x. FourDigits x h mid) (sym (tail_same e)) f) g k
 
-module _ (limit : ℕ) (levels : List Level) (role : Role) (t : List ℕ) (v : Json) where
+module _ (limit : ℕ) (levels : List Unclosed) (role : Role) (t : List ℕ) (v : Json) where
   -- the byte that an escape wants
   wanted_to : (w : ℕ) (part : StringPlace) (b : ℕ) (c : List ℕ) → b ≡ w → OfText limit levels role t part c v → Goes limit (wanted levels w (text role t part) b) c v
   wanted_to w part b c e h = rw (same_is b w e) h
@@ -288,7 +288,7 @@ pub digits_of : (m more rest : List ℕ) → Coded m more rest → (k : ℕ) × 
 digits_of m more rest (one_code k mid after f s e chars) = (k, mid, f, unit_range k (inl s))
 digits_of m more rest (half_code k mid f h i) = (k, mid, f, unit_range k (inr h))
 
-module _ (limit : ℕ) (levels : List Level) (role : Role) (t : List ℕ) (v : Json) where
+module _ (limit : ℕ) (levels : List Unclosed) (role : Role) (t : List ℕ) (v : Json) where
   not_high : (k : ℕ) → IsScalar k → is_in_range 0xD800 0xDBFF k ≡ false
   not_high k s = by (scalar_cases k s)
     where

@@ -17,8 +17,8 @@ use Rattle.json_text.specs.declared.state.Digits.{Digits}
 use Rattle.json_text.specs.declared.state.Digits.TheVariants.{Zero as NoDigit, One, Two, Three}
 use Rattle.json_text.specs.declared.state.Role.{Role}
 use Rattle.json_text.specs.declared.state.Role.TheVariants.{Name, Content}
-use Rattle.json_text.specs.declared.state.Level.{Level}
-use Rattle.json_text.specs.declared.state.Level.TheVariants.{List as LevelOfList, Map as LevelOfMap}
+use Rattle.json_text.specs.declared.state.Unclosed.{Unclosed}
+use Rattle.json_text.specs.declared.state.Unclosed.TheVariants.{List as LevelOfList, Map as LevelOfMap}
 use Rattle.json_text.proofs.Basics.{both, head_same, tail_same, is_byte, other_is, is_below, is_least, chosen}
 use Rattle.json_text.proofs.Utf8Lemmas.{Within, wide_of, of_wide, order}
 use Rattle.json_text.proofs.TextSteps.{Same}
@@ -163,13 +163,13 @@ abbrev Between : ℕ → ℕ → Result MachineState Stop → Type 0
 Between limit b r = TextStep limit IsUtf8 b r
 
 module _ (limit b : ℕ) where
-  plainly : (levels : List Level) (hand : Hand) → length levels ≤ limit → b < 128 → IsWhole hand → TextStep limit IsUtf8 b (Ok (state levels hand))
+  plainly : (levels : List Unclosed) (hand : Hand) → length levels ≤ limit → b < 128 → IsWhole hand → TextStep limit IsUtf8 b (Ok (state levels hand))
   plainly levels hand f h w = on limit IsUtf8 b (state levels hand) (λ more. let p = ascii_same b more h in let q = whole_rest hand more w in (λ u. q.0 (p.0 u), λ u. p.1 (q.1 u))) f
 
   syntax_ascii : b < 128 → TextStep limit IsUtf8 b (Err Syntax)
   syntax_ascii h = off_syntax limit IsUtf8 b [] (one_utf8 b h)
 
-  placed_plainly : (levels : List Level) (x : Json) → length levels ≤ limit → b < 128 → TextStep limit IsUtf8 b (Ok (placed levels x))
+  placed_plainly : (levels : List Unclosed) (x : Json) → length levels ≤ limit → b < 128 → TextStep limit IsUtf8 b (Ok (placed levels x))
   placed_plainly [] x f h = plainly [] (done x) f h tt
   placed_plainly (LevelOfList xs ∷ ls) x f h = plainly (LevelOfList (xs ++ (x ∷ [])) ∷ ls) behind f h tt
   placed_plainly (LevelOfMap ps name ∷ ls) x f h = plainly (LevelOfMap (ps ++ ((name, x) ∷ [])) [] ∷ ls) behind f h tt
@@ -181,7 +181,7 @@ module _ (limit b : ℕ) where
       by [] e h = off_utf8 limit IsUtf8 b (λ more u. no_lead b more e h u)
       by (r ∷ rs) e h = let k = lead_begins b r rs e h in off_syntax limit IsUtf8 b k.0 k.1
 
-  module _ (levels : List Level) (role : Role) (t : List ℕ) (f : length levels ≤ limit) where
+  module _ (levels : List Unclosed) (role : Role) (t : List ℕ) (f : length levels ≤ limit) where
     to_part : (u : List ℕ) (part : StringPlace) → b < 128 → IsWhole (text role u part) → TextStep limit IsUtf8 b (text_goes levels role u part)
     to_part u part h w = plainly levels (text role u part) f h w
 
@@ -245,7 +245,7 @@ module _ (limit b : ℕ) where
         by (Some c) e = to_part (t ++ (c ∷ [])) plain (escaped_low c e) tt
         by None e = wanted_step 117 (code NoDigit) (omega arith) tt
 
-  ends_step : (levels : List Level) (role : Role) (t : List ℕ) → length levels ≤ limit → IsUtf8 t → b < 128 → TextStep limit IsUtf8 b (text_ends levels role t)
+  ends_step : (levels : List Unclosed) (role : Role) (t : List ℕ) → length levels ≤ limit → IsUtf8 t → b < 128 → TextStep limit IsUtf8 b (text_ends levels role t)
   ends_step [] Content t f u h = let k = is_utf8-from_IsUtf8 t u in rw k (placed_plainly [] (Str t) f h)
   ends_step (LevelOfList xs ∷ ls) Content t f u h = let k = is_utf8-from_IsUtf8 t u in rw k (placed_plainly (LevelOfList xs ∷ ls) (Str t) f h)
   ends_step (LevelOfMap ps name ∷ ls) Content t f u h = let k = is_utf8-from_IsUtf8 t u in rw k (placed_plainly (LevelOfMap ps name ∷ ls) (Str t) f h)
@@ -253,14 +253,14 @@ module _ (limit b : ℕ) where
   ends_step (LevelOfList xs ∷ ls) Name t f u h = syntax_ascii h
   ends_step (LevelOfMap ps name ∷ ls) Name t f u h = let k = is_utf8-from_IsUtf8 t u in rw k (plainly (LevelOfMap ps t ∷ ls) colon f h tt)
 
-  plain_step : (levels : List Level) (role : Role) (t : List ℕ) → length levels ≤ limit → IsUtf8 t → TextStep limit IsUtf8 b (in_plain levels role t b)
+  plain_step : (levels : List Unclosed) (role : Role) (t : List ℕ) → length levels ≤ limit → IsUtf8 t → TextStep limit IsUtf8 b (in_plain levels role t b)
   plain_step levels role t f u =
       chosen (TextStep limit IsUtf8 b) (b == 34) (λ e. let n = is_byte b 34 e in ends_step levels role t f u (omega arith)) (λ e.
       chosen (TextStep limit IsUtf8 b) (b == 92) (λ e. let n = is_byte b 92 e in to_part levels role t f t escape (omega arith) tt) (λ e.
       chosen (TextStep limit IsUtf8 b) (nat_lt b 32) (λ e. let n = is_below b 32 e in syntax_ascii (omega arith)) (λ e.
       chosen (TextStep limit IsUtf8 b) (nat_lt b 128) (λ e. to_part levels role t f (t ++ (b ∷ [])) plain (is_below b 128 e) tt) (λ e. wide_step levels role t f (tails b) refl (is_least b 128 e)))))
 
-  tail_step : (levels : List Level) (role : Role) (t : List ℕ) → length levels ≤ limit → (r : ℕ × ℕ) (rs : List (ℕ × ℕ)) → TextStep limit (Inside (r ∷ rs)) b (in_tail levels role t (r ∷ rs) b)
+  tail_step : (levels : List Unclosed) (role : Role) (t : List ℕ) → length levels ≤ limit → (r : ℕ × ℕ) (rs : List (ℕ × ℕ)) → TextStep limit (Inside (r ∷ rs)) b (in_tail levels role t (r ∷ rs) b)
   tail_step levels role t f r rs = chosen (TextStep limit (Inside (r ∷ rs)) b) (is_in_range r.0 r.1 b) (λ e. by rs e) (λ e. off_utf8 limit (Inside (r ∷ rs)) b (λ more i. wrong e more i.own i.rest i.is i.within))
     where
       wrong : is_in_range r.0 r.1 b ≡ false → (more own rest : List ℕ) → b ∷ more ≡ own ++ rest → Within (r ∷ rs) own → ⊥
@@ -281,7 +281,7 @@ module _ (limit b : ℕ) where
       by (q ∷ qs) e = on limit (Inside (r ∷ q ∷ qs)) b (state levels (text role (t ++ (b ∷ [])) (tail (q ∷ qs)))) (λ more.
           (λ i. next_to q qs more i.own i.rest i.is i.within i.utf8, λ i. record { own = b ∷ i.own; rest = i.rest; is = ap (λ x. b ∷ x) i.is; within = (e, i.within); utf8 = i.utf8 })) f
 
-  pub text_step : (levels : List Level) (role : Role) (t : List ℕ) (part : StringPlace) → length levels ≤ limit → IsPart part t → TextStep limit (PartRest part) b (in_text levels role t part b)
+  pub text_step : (levels : List Unclosed) (role : Role) (t : List ℕ) (part : StringPlace) → length levels ≤ limit → IsPart part t → TextStep limit (PartRest part) b (in_text levels role t part b)
   text_step levels role t plain f h = plain_step levels role t f h
   text_step levels role t escape f h = escape_step levels role t f
   text_step levels role t (code digits) f h = code_step levels role t f digits

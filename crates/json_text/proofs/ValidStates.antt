@@ -20,8 +20,8 @@ use Rattle.json_text.specs.declared.state.Place.{Place}
 use Rattle.json_text.specs.declared.state.Place.TheVariants.{Minus, Nought, Whole}
 use Rattle.json_text.specs.declared.state.Role.{Role}
 use Rattle.json_text.specs.declared.state.Role.TheVariants.{Name, Content}
-use Rattle.json_text.specs.declared.state.Level.{Level}
-use Rattle.json_text.specs.declared.state.Level.TheVariants.{List as LevelOfList, Map as LevelOfMap}
+use Rattle.json_text.specs.declared.state.Unclosed.{Unclosed}
+use Rattle.json_text.specs.declared.state.Unclosed.TheVariants.{List as LevelOfList, Map as LevelOfMap}
 use Rattle.json_text.proofs.Basics.{is_byte, is_below, is_least, same_is, chosen}
 use Rattle.json_text.proofs.Utf8Lemmas.{Within, of_wide}
 use Rattle.json_text.proofs.NumberLemmas.{NotNumber, no_place}
@@ -78,12 +78,12 @@ escaped_short b =
     chosen IsShort (b == 116) (λ e. short 9 (omega arith)) (λ e. record { is = λ c k. cc k }))))))))
 
 -- ---- steps
-sound_placed : (levels : List Level) (x : Json) → Sound (Ok (placed levels x))
+sound_placed : (levels : List Unclosed) (x : Json) → Sound (Ok (placed levels x))
 sound_placed [] x = went _ tt
 sound_placed (LevelOfList xs ∷ ls) x = went _ tt
 sound_placed (LevelOfMap ps name ∷ ls) x = went _ tt
 
-sound_skipped : (levels : List Level) (stay : Hand) (b : ℕ) → IsState levels stay → Sound (skipped levels stay b)
+sound_skipped : (levels : List Unclosed) (stay : Hand) (b : ℕ) → IsState levels stay → Sound (skipped levels stay b)
 sound_skipped levels stay b h = chosen Sound (is_whitespace b) (λ e. went (state levels stay) h) (λ e. stopped Syntax)
 
 sound_refused : (b : ℕ) → Sound (refused b)
@@ -96,7 +96,7 @@ sound_refused b = chosen Sound (nat_lt b 128) (λ e. stopped Syntax) (λ e. by (
 one_ascii : (b : ℕ) → b < 128 → IsUtf8 (b ∷ [])
 one_ascii b h = ascii_more [] b IsUtf8-nil h
 
-sound_begin : (limit : ℕ) (levels : List Level) (stay : Hand) (b : ℕ) → IsState levels stay → Sound (begin limit levels stay b)
+sound_begin : (limit : ℕ) (levels : List Unclosed) (stay : Hand) (b : ℕ) → IsState levels stay → Sound (begin limit levels stay b)
 sound_begin limit levels stay b h =
     chosen Sound (b == 34) (λ e. went (state levels (text Content [] plain)) (tt, IsUtf8-nil)) (λ e.
     chosen Sound (b == 91) (λ e. opens (LevelOfList []) first_item tt) (λ e.
@@ -108,24 +108,24 @@ sound_begin limit levels stay b h =
     chosen Sound (b == 48) (λ e. let n = is_byte b 48 e in went (state levels (number (b ∷ []) Nought)) (one_ascii b (omega arith))) (λ e.
     chosen Sound (is_ascii_digit b) (λ e. went (state levels (number (b ∷ []) Whole)) (one_ascii b (digit_low e))) (λ e. sound_skipped levels stay b h)))))))))
   where
-    opens : (level : Level) (hand : Hand) → IsState (level ∷ levels) hand → Sound (opened limit levels level hand)
+    opens : (level : Unclosed) (hand : Hand) → IsState (level ∷ levels) hand → Sound (opened limit levels level hand)
     opens level hand k = chosen Sound (nat_lt (length levels) limit) (λ e. went (state (level ∷ levels) hand) k) (λ e. stopped Depth)
 
     digit_low : is_ascii_digit b ≡ true → b < 128
     digit_low e = grind (arith, nat_tests)
 
-sound_behind : (levels : List Level) (b : ℕ) → Sound (behind_in levels b)
+sound_behind : (levels : List Unclosed) (b : ℕ) → Sound (behind_in levels b)
 sound_behind [] b = stopped Syntax
 sound_behind (LevelOfList xs ∷ ls) b =
     chosen Sound (b == 44) (λ e. went _ tt) (λ e. chosen Sound (b == 93) (λ e. sound_placed ls (JsonOfList xs)) (λ e. chosen Sound (is_whitespace b) (λ e. went _ tt) (λ e. stopped Syntax)))
 sound_behind (LevelOfMap ps name ∷ ls) b =
     chosen Sound (b == 44) (λ e. went _ tt) (λ e. chosen Sound (b == 125) (λ e. sound_placed ls (JsonOfMap (merged ps))) (λ e. chosen Sound (is_whitespace b) (λ e. went _ tt) (λ e. stopped Syntax)))
 
-sound_end : (levels : List Level) (x : Json) (b : ℕ) → Sound (at_end levels x b)
+sound_end : (levels : List Unclosed) (x : Json) (b : ℕ) → Sound (at_end levels x b)
 sound_end [] x b = sound_skipped [] (done x) b tt
 sound_end (l ∷ ls) x b = stopped Syntax
 
-sound_follow : (levels : List Level) (x : Json) (b : ℕ) → Sound (behind_placed levels x b)
+sound_follow : (levels : List Unclosed) (x : Json) (b : ℕ) → Sound (behind_placed levels x b)
 sound_follow [] x b = sound_end [] x b
 sound_follow (LevelOfList xs ∷ ls) x b = sound_behind (LevelOfList (xs ++ (x ∷ [])) ∷ ls) b
 sound_follow (LevelOfMap ps name ∷ ls) x b = sound_behind (LevelOfMap (ps ++ ((name, x) ∷ [])) [] ∷ ls) b
@@ -140,14 +140,14 @@ place_low place next b e = by (nat_lt b 128) refl
     by true f = is_below b 128 f
     by false f = let g : None ≡ Some next = sym (no_place place b (high_number b (is_least b 128 f))) ∙ e in cc g
 
-sound_number : (levels : List Level) (t : List ℕ) (place : Place) (b : ℕ) → IsUtf8 t → Sound (in_number levels t place b)
+sound_number : (levels : List Unclosed) (t : List ℕ) (place : Place) (b : ℕ) → IsUtf8 t → Sound (in_number levels t place b)
 sound_number levels t place b u = by (next_place place b) refl
   where
     by : (o : Option Place) → next_place place b ≡ o → Sound (number_goes levels t place b o)
     by (Some next) e = went _ (ascii_more t b u (place_low place next b e))
     by None e = chosen Sound (ends place) (λ e. chosen Sound (is_utf8 t) (λ e. sound_follow levels (Num t) b) (λ e. stopped Syntax)) (λ e. stopped Syntax)
 
-sound_ends : (levels : List Level) (role : Role) (t : List ℕ) → Sound (text_ends levels role t)
+sound_ends : (levels : List Unclosed) (role : Role) (t : List ℕ) → Sound (text_ends levels role t)
 sound_ends [] Content t = chosen Sound (is_utf8 t) (λ e. sound_placed [] (Str t)) (λ e. stopped Utf8)
 sound_ends (LevelOfList xs ∷ ls) Content t = chosen Sound (is_utf8 t) (λ e. sound_placed (LevelOfList xs ∷ ls) (Str t)) (λ e. stopped Utf8)
 sound_ends (LevelOfMap ps name ∷ ls) Content t = chosen Sound (is_utf8 t) (λ e. sound_placed (LevelOfMap ps name ∷ ls) (Str t)) (λ e. stopped Utf8)
@@ -155,7 +155,7 @@ sound_ends [] Name t = stopped Syntax
 sound_ends (LevelOfList xs ∷ ls) Name t = stopped Syntax
 sound_ends (LevelOfMap ps name ∷ ls) Name t = chosen Sound (is_utf8 t) (λ e. went _ tt) (λ e. stopped Utf8)
 
-module _ (levels : List Level) (role : Role) (t : List ℕ) (r : IsRole levels role) where
+module _ (levels : List Unclosed) (role : Role) (t : List ℕ) (r : IsRole levels role) where
   goes : (u : List ℕ) (part : StringPlace) → IsPart part u → Sound (text_goes levels role u part)
   goes u part h = went (state levels (text role u part)) (r, h)
 
@@ -228,15 +228,15 @@ module _ (levels : List Level) (role : Role) (t : List ℕ) (r : IsRole levels r
   sound_text (tail []) b h = absurd h
   sound_text (tail (q ∷ rs)) b h = sound_tail q rs b h
 
-sound_name : (levels : List Level) (stay : Hand) (b : ℕ) → InMap levels → IsState levels stay → Sound (name_begins levels stay b)
+sound_name : (levels : List Unclosed) (stay : Hand) (b : ℕ) → InMap levels → IsState levels stay → Sound (name_begins levels stay b)
 sound_name levels stay b m h = chosen Sound (b == 34) (λ e. went (state levels (text Name [] plain)) (m, IsUtf8-nil)) (λ e. sound_skipped levels stay b h)
 
-sound_word : (levels : List Level) (x : Json) (left : List ℕ) (b : ℕ) → IsState levels (word x left) → Sound (in_word levels x left b)
+sound_word : (levels : List Unclosed) (x : Json) (left : List ℕ) (b : ℕ) → IsState levels (word x left) → Sound (in_word levels x left b)
 sound_word levels x [] b h = stopped Syntax
 sound_word levels x (w ∷ []) b h = chosen Sound (b == w) (λ e. sound_placed levels x) (λ e. stopped Syntax)
 sound_word levels x (w ∷ d ∷ ws) b h = chosen Sound (b == w) (λ e. went (state levels (word x (d ∷ ws))) h.2) (λ e. stopped Syntax)
 
-pub sound_step : (limit : ℕ) (levels : List Level) (hand : Hand) (b : ℕ) → IsState levels hand → Sound (step limit levels hand b)
+pub sound_step : (limit : ℕ) (levels : List Unclosed) (hand : Hand) (b : ℕ) → IsState levels hand → Sound (step limit levels hand b)
 sound_step limit levels value b h = sound_begin limit levels value b tt
 sound_step limit [] first_item b h = absurd h
 sound_step limit (LevelOfMap ps name ∷ ls) first_item b h = absurd h

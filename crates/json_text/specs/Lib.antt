@@ -1,8 +1,10 @@
--- What must be believed stands in Numeral, Grammar, Strings and Faults. `Reader` says what a reader
--- was fed, and `State` holds the words for what it keeps.
+-- Definitions of the text of a JSON value, as it is read and as it is laid out.
 pub mod Numeral
 pub mod Grammar
 pub mod Strings
 pub mod Faults
 pub mod State
 pub mod Reader
+pub mod StringTexts
+pub mod Layout
+pub mod Levels

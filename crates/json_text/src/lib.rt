@@ -1,9 +1,11 @@
-//! The reader of JSON text: RFC 8259 in UTF-8, in pieces of any size.
+//! JSON text (RFC 8259) in UTF-8: read in pieces of any size, and written.
 //!
 //! [`JsonReader`] takes a text piece by piece and keeps of it only the values that it builds and
-//! the token at hand. It reads exactly the texts of the grammar with at most 127 levels and
-//! 33 554 432 bytes, gives each one's only value, and names the first byte after which no
-//! continuation is such a text.
+//! the token at hand. It reads exactly the texts of the grammar with at most 127 levels and 33 554
+//! 432 bytes, gives each one's only value, and names the first byte after which no continuation is
+//! such a text.
+//!
+//! A value is written laid out, with four spaces a level.
 #![tactic(auto)]
 
 ghost use Rattle.std.specs.Prelude.{◌≡◌, ℕ, ◌≤◌, List, length};
@@ -16,14 +18,21 @@ ghost use Rattle.json_text.specs.declared.faults.JsonFault.{JsonFault};
 mod bytes;
 mod escapes;
 mod faults;
+mod level;
 mod machine;
+mod quote;
 mod reader;
 mod runs;
+mod shallow;
 mod state;
 mod strings;
+mod value;
 
 pub use faults::JsonFault;
+pub use level::{Level, inside, put_line, top};
+pub use quote::{put_escaped, put_name, put_string};
 pub use reader::JsonReader;
+pub use value::{put_object, put_value, write_json};
 
 /// Law: bytes are a text of at most one value, or have at most one fault, and never both. It does
 /// nothing.

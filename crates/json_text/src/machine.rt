@@ -4,7 +4,7 @@ ghost use Rattle.std.specs.Prelude.{◌≡◌, ◌++◌, ◌∷◌, [], List, �
 ghost use Rattle.json_text.specs.State.Machine as spec;
 
 use crate::bytes::{ends, is_whitespace, next_place, text_from};
-use crate::state::{Hand, Level, Part, Place, Role, Stop, Taken, Word};
+use crate::state::{Hand, Part, Place, Role, Stop, Taken, Unclosed, Word};
 use json_value::{Json, JsonList, Members};
 use sequences::{Sequence, Text};
 use std::alloc::{AllocError, Global};
@@ -18,9 +18,9 @@ pub(crate) const LEVELS: usize = 127;
 pub(crate) struct Machine {
     pub(crate) alloc: Global,
     /// The innermost open list or object.
-    pub(crate) inner: Option<Level>,
+    pub(crate) inner: Option<Unclosed>,
     /// Those around it, outermost first.
-    pub(crate) outer: Vec<Level>,
+    pub(crate) outer: Vec<Unclosed>,
     /// Empty lists, whose memory serves the next list.
     pub(crate) lists: Vec<JsonList>,
     /// Empty lists of pairs, whose memory serves the next object.
@@ -87,7 +87,7 @@ impl Machine {
     }
 
     /// Opens a list or an object.
-    fn open(&mut self, level: Level, hand: Hand) -> Result<Taken, AllocError>
+    fn open(&mut self, level: Unclosed, hand: Hand) -> Result<Taken, AllocError>
         ensures { IfOk result (λ taken. IsTaken taken
             (spec.opened 127 (levels_of self.old) level
             (hand_of hand self.old.text.items self.old.root)) (state_of self.new)) }
@@ -105,21 +105,21 @@ impl Machine {
     /// Opens a list.
     fn open_list(&mut self) -> Result<Taken, AllocError>
         ensures { IfOk result (λ taken. IsTaken taken
-            (spec.opened 127 (levels_of self.old) (Level.List []) spec.first_item)
+            (spec.opened 127 (levels_of self.old) (Unclosed.List []) spec.first_item)
             (state_of self.new)) }
     {
         let items = empty(self.alloc, self.lists.pop());
-        self.open(Level::List(items), Hand::FirstItem)
+        self.open(Unclosed::List(items), Hand::FirstItem)
     }
 
     /// Opens an object.
     fn open_map(&mut self) -> Result<Taken, AllocError>
         ensures { IfOk result (λ taken. IsTaken taken
-            (spec.opened 127 (levels_of self.old) (Level.Map [] []) spec.first_name)
+            (spec.opened 127 (levels_of self.old) (Unclosed.Map [] []) spec.first_name)
             (state_of self.new)) }
     {
         let pairs = empty(self.alloc, self.maps.pop());
-        self.open(Level::Map(pairs, no_name()), Hand::FirstName)
+        self.open(Unclosed::Map(pairs, no_name()), Hand::FirstName)
     }
 
     /// How many lists and objects are open.
@@ -199,7 +199,7 @@ impl Machine {
             (spec.item_first 127 (levels_of self.old) byte) (state_of self.new)) }
     {
         match self.inner {
-            Some(Level::List(_)) => {}
+            Some(Unclosed::List(_)) => {}
             _ => return Ok(Taken::Stops(Stop::Syntax)),
         }
         if byte == b']' {
@@ -225,17 +225,17 @@ impl Machine {
 
     /// The value of a list or an object that ends. Its memory serves again where the value takes
     /// memory of its own.
-    fn whole(&mut self, level: Level) -> Result<Json, AllocError>
+    fn whole(&mut self, level: Unclosed) -> Result<Json, AllocError>
         ensures value { IfOk result (λ value. value ≡ spec.whole level) }
         ensures levels { levels_of self.new ≡ levels_of self.old }
     {
         match level {
-            Level::List(mut items) => {
+            Unclosed::List(mut items) => {
                 let list = items.take_fitted(self.alloc)?;
                 self.lists.push(items)?;
                 Ok(Json::List(Sequence::of(list)))
             }
-            Level::Map(mut pairs, _name) => {
+            Unclosed::Map(mut pairs, _name) => {
                 let list = pairs.take_fitted(self.alloc)?;
                 self.maps.push(pairs)?;
                 Ok(Json::Map(Members::of_pairs(self.alloc, list)?))
@@ -248,7 +248,7 @@ impl Machine {
         ensures { IfOk result (λ taken. IsTaken taken (spec.name_first (levels_of self.old) byte)
             (state_of self.new)) }
     {
-        let Some(Level::Map(_, _)) = self.inner else {
+        let Some(Unclosed::Map(_, _)) = self.inner else {
             return Ok(Taken::Stops(Stop::Syntax));
         };
         if byte == b'}' {
@@ -296,8 +296,8 @@ impl Machine {
     {
         let (next, end) = match self.inner {
             None => return Ok(Taken::Stops(Stop::Syntax)),
-            Some(Level::List(_)) => (Hand::Value, b']'),
-            Some(Level::Map(_, _)) => (Hand::NextName, b'}'),
+            Some(Unclosed::List(_)) => (Hand::Value, b']'),
+            Some(Unclosed::Map(_, _)) => (Hand::NextName, b'}'),
         };
         if byte == b',' {
             Ok(self.goes(next))
@@ -383,13 +383,13 @@ impl Machine {
 }
 
 /// Adds a value to a list, or to an object under the name at hand, which `none` replaces.
-fn add(level: &mut Level, value: Json, none: Text) -> Result<(), AllocError>
+fn add(level: &mut Unclosed, value: Json, none: Text) -> Result<(), AllocError>
     requires { none ≡ [] }
     ensures { OnOk result (level.new ≡ spec.added level.old value) }
 {
     match level {
-        Level::List(items) => items.push(value),
-        Level::Map(pairs, name) => pairs.push((mem::replace(name, none), value)),
+        Unclosed::List(items) => items.push(value),
+        Unclosed::Map(pairs, name) => pairs.push((mem::replace(name, none), value)),
     }
 }
 

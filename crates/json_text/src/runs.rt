@@ -13,7 +13,7 @@ use crate::bytes::{
 };
 use crate::escapes::gathered;
 use crate::machine::Machine;
-use crate::state::{Hand, Level, Part, Place, Ran, Role, Taken};
+use crate::state::{Hand, Part, Place, Ran, Role, Taken, Unclosed};
 use json_value::Json;
 use sequences::{Text, TextRoom};
 use std::alloc::AllocError;
@@ -73,12 +73,12 @@ impl Machine {
         };
         match self.hand {
             Hand::FirstItem => match level {
-                Level::List(_) => blank_count(bytes),
-                Level::Map(_, _) => 0,
+                Unclosed::List(_) => blank_count(bytes),
+                Unclosed::Map(_, _) => 0,
             },
             Hand::FirstName => match level {
-                Level::Map(_, _) => blank_count(bytes),
-                Level::List(_) => 0,
+                Unclosed::Map(_, _) => blank_count(bytes),
+                Unclosed::List(_) => 0,
             },
             Hand::Behind => blank_count(bytes),
             _ => 0,
@@ -143,8 +143,8 @@ impl Machine {
             return Ok(0);
         };
         match level {
-            Level::Map(_, _) => {}
-            Level::List(_) => return Ok(0),
+            Unclosed::Map(_, _) => {}
+            Unclosed::List(_) => return Ok(0),
         }
         let Some(text) = text_from(self.alloc, before(bytes, count))? else {
             return Ok(0);

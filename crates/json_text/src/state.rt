@@ -85,7 +85,7 @@ pub(crate) enum Hand {
 /// A list or an object that isn't closed yet, with what it holds so far; of an object also the name
 /// whose value is to come.
 #[derive(Drop)]
-pub(crate) enum Level {
+pub(crate) enum Unclosed {
     List(JsonList),
     Map(Sequence<(Text, Json)>, Text),
 }

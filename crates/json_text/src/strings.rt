@@ -7,7 +7,7 @@ ghost use Rattle.json_text.specs.State.Stands.{state_of, levels_of, hand_of, par
 
 use crate::bytes::{digit_value, escaped, of_digits16, push_char, tails, text_from};
 use crate::machine::Machine;
-use crate::state::{Digits, Hand, Level, Part, Role, Stop, Taken};
+use crate::state::{Digits, Hand, Part, Role, Stop, Taken, Unclosed};
 use json_value::Json;
 use sequences::Text;
 use std::alloc::AllocError;
@@ -135,7 +135,7 @@ impl Machine {
             (state_of self.new)) }
     {
         match self.inner {
-            Some(Level::Map(_, _)) => {}
+            Some(Unclosed::Map(_, _)) => {}
             _ => return Ok(Taken::Stops(Stop::Syntax)),
         }
         match text_from(self.alloc, self.text.as_slice())? {
@@ -149,7 +149,7 @@ impl Machine {
         ensures { IsTaken result (spec.named (levels_of self.old) text) (state_of self.new) }
     {
         match &mut self.inner {
-            Some(Level::Map(_, name)) => put_text(name, text),
+            Some(Unclosed::Map(_, name)) => put_text(name, text),
             _ => return Taken::Stops(Stop::Syntax),
         }
         self.goes(Hand::Colon)

@@ -18,7 +18,7 @@ pub type JsonList = Sequence<Json>;
 pub type Members = NamedValues<Json>;
 
 /// A value of JSON (RFC 8259).
-#[derive(Debug, Drop)]
+#[derive(Drop)]
 pub enum Json {
     /// The word `null`.
     Null,

@@ -1,9 +1,26 @@
--- Lemmas of the listings.
+-- What is proved of shows and listings.
+mod Euclid
+mod FarInstants
+mod MediaTicks
+pub mod PrintTexts
+mod Roots
+mod ShowLemmas
+mod SoundnessFacts
+mod Steps
+mod Walk
+pub mod SeatLemmas
+pub mod ReachedItems
+pub mod SpareLemmas
+pub mod Starts
+pub mod FrameCounts
+pub mod EndFrames
+pub mod Pieces
+pub mod SentLines
 pub mod PlaceLemmas
 pub mod SpotLemmas
 pub mod SpotPlaces
 pub mod SpotOrder
 pub mod TrackLemmas
 pub mod CountLemmas
-pub mod SpareLemmas
+pub mod SpareListings
 pub mod WorkedLemmas

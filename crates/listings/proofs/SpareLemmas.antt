@@ -1,9 +1,13 @@
 -- What is listed doesn't depend on the memory that a timeline keeps to spare.
-use Rattle.std.proofs.Common.{◌≡◌, Bool, ap}
+use Rattle.std.proofs.Common.{◌≡◌, ℕ, ap, Option}
 use Rattle.otio_model.specs.declared.timelines.Timeline.{Timeline}
 use Rattle.otio_model.specs.Timelines.{bare}
-use Rattle.listings.specs.Texts.{listed_text}
+use Rattle.smpte_tc.specs.declared.points.RecordPoint.{RecordPoint}
+use Rattle.listings.specs.declared.listing.Listing.{Listing}
+use Rattle.listings.specs.Rows.{listing_of, listing_text}
 
-pub listed_bare : (a b : Timeline) (tracks clips media stats : Bool) → bare a ≡ bare b
-    → listed_text a tracks clips media stats ≡ listed_text b tracks clips media stats
-listed_bare a b tracks clips media stats e = ap (λ (t : Timeline). listed_text t tracks clips media stats) e
+pub listing_bare : (a b : Timeline) (child : Option ℕ) (start : Option RecordPoint) (count : Option ℕ) → bare a ≡ bare b → listing_of a child start count ≡ listing_of b child start count
+listing_bare a b child start count e = ap (λ (t : Timeline). listing_of t child start count) e
+
+pub text_bare : (a b : Timeline) (l : Listing) → bare a ≡ bare b → listing_text a l ≡ listing_text b l
+text_bare a b l e = ap (λ (t : Timeline). listing_text t l) e

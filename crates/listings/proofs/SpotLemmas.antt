@@ -10,9 +10,9 @@ use Rattle.otio_model.specs.declared.compositions.Listed.TheFolds.{fold-roll-Lis
 use Rattle.otio_model.specs.declared.compositions.Listed.TheViews.{roll-out-Listed}
 use Rattle.otio_model.specs.Trees.{items_of}
 use Rattle.coord.proofs.Members.{next, none_left}
-use Rattle.listings.specs.declared.clips.Told.{Told}
+use Rattle.listings.specs.declared.clip_rows.Told.{Told}
 use Rattle.listings.specs.Spots.{Spot, from_place, below_index, spots_from, spots_step, spots, spots_of}
-use Rattle.listings.specs.Texts.{spot_line, spot_lines}
+use Rattle.listings.specs.ListingTexts.{spot_line, spot_lines}
 
 same_spots : (i : ℕ) (xs : List (ItemOf Listed))
     → spots_from (λ (s : List Spot). s) i (map-Listed Listed (List Spot) spots (record { list = xs })).list

@@ -3,7 +3,7 @@ use Rattle.std.proofs.Common.{◌≡◌, ℕ, ◌+◌, ◌≤◌, List, [], ◌+
 use Rattle.otio_model.specs.declared.compositions.ItemOf.{ItemOf}
 use Rattle.otio_model.specs.declared.compositions.Listed.{Listed}
 use Rattle.coord.proofs.Members.{next, none_left}
-use Rattle.listings.specs.Texts.{line, track_line, track_lines}
+use Rattle.listings.specs.ListingTexts.{line, track_line, track_lines}
 
 -- the line of the next child, and those behind it
 pub tracks_next : (xs : List (ItemOf Listed)) (i : ℕ) (x : ItemOf Listed) → slice_get xs i ≡ Some x

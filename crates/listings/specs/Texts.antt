@@ -1,106 +1,36 @@
--- The lines of the listings.
-use Rattle.std.specs.Prelude.{ℕ, ◌+◌, ◌==◌, pos, unsigned_abs, Bool, cond, if◌then◌else◌}
-use Rattle.std.specs.Prelude.{List, [], ◌∷◌, ◌++◌, codes, decimal}
-use Rattle.std.specs.Int.{div_ceil}
+-- How what is seen is written.
+use Rattle.std.specs.Prelude.{ℕ, ◌+◌, ◌/◌, ◌%◌, List, [], ◌∷◌, ◌++◌, codes}
 use Rattle.std.specs.Fmt.{signed_decimal}
-use Rattle.std.specs.List.{flat_map}
-use Rattle.tick_time.specs.Texts.{relative_text, rate_millionths}
-use Rattle.json_layout.specs.Strings.{quoted}
-use Rattle.otio_model.specs.declared.compositions.ItemOf.{ItemOf}
-use Rattle.otio_model.specs.declared.compositions.ItemOf.TheVariants.{Clip, Gap, Transition, Stack}
-use Rattle.otio_model.specs.declared.compositions.ItemOf.TheVariants.{Track}
-use Rattle.otio_model.specs.declared.timelines.Timeline.{Timeline}
-use Rattle.otio_model.specs.Lengths.{lengths}
-use Rattle.otio_model.specs.Sums.{greatest}
-use Rattle.otio_model.specs.Trees.{items_of}
-use Rattle.schema_write.specs.Texts.{decimal_text}
-use Rattle.coord.specs.Looks.{FrameRate}
-use Rattle.coord.specs.Keys.{key_of}
-use Rattle.coord.specs.Programs.{record_rate, start_frame, frame_ticks}
-use Rattle.show_prog.specs.Texts.{key_text}
-use Rattle.listings.specs.declared.clips.Told.{Told}
-use Rattle.listings.specs.declared.clips.Told.TheVariants.{Name, Key}
-use Rattle.listings.specs.declared.counting.Counts.{Counts}
-use Rattle.listings.specs.Places.{place_text}
-use Rattle.listings.specs.Spots.{Spot, spots, from_place}
-use Rattle.listings.specs.Counted.{counts}
+use Rattle.json_text.specs.StringTexts.{quoted}
+use Rattle.coord.specs.Looks.{Key, Url, Sequence, Generator, Reel, Name, Weight}
+use Rattle.coord.specs.Images.{Kind, Dissolve, Wipe, Other, Image, Empty, Single, Mixture}
 
--- a word, a space, what it is said of, a space, what is said, and a line feed
-abbrev pub line : List ℕ → List ℕ → List ℕ → List ℕ
-line word at said = word ++ (codes " " ++ (at ++ (codes " " ++ (said ++ codes "\n"))))
+-- what a key is, a colon, and its text as a JSON string; the number of an image stands as `#`
+-- between the texts of a sequence
+abbrev pub key_text : Key → List ℕ
+key_text (Url url) = codes "url:" ++ quoted url
+key_text (Sequence base prefix suffix) = codes "seq:" ++ quoted (base ++ (prefix ++ (35 ∷ suffix)))
+key_text (Generator generator) = codes "gen:" ++ quoted generator
+key_text (Reel reel) = codes "reel:" ++ quoted reel
+key_text (Name name) = codes "name:" ++ quoted name
 
--- the line of a root child of this index that is a track: its kind and its name, as JSON strings;
--- none of any other
-abbrev pub track_line : {C : Type 0} → ℕ → ItemOf C → List ℕ
-track_line k (Clip c) = []
-track_line k (Gap g) = []
-track_line k (Transition t) = []
-track_line k (Stack s) = []
-track_line k (Track t) =
-    line (codes "track") (decimal k) (quoted t.kind ++ (codes " " ++ quoted t.name))
+-- the last three digits of a number, which are the code of a wipe
+abbrev pub three : ℕ → List ℕ
+three n = (((n / 100) % 10) + 48) ∷ (((n / 10) % 10) + 48) ∷ ((n % 10) + 48) ∷ []
 
--- the lines of root children of which the first has this index
-abbrev pub track_lines : {C : Type 0} → ℕ → List (ItemOf C) → List ℕ
-track_lines k [] = []
-track_lines k (x ∷ xs) = track_line k x ++ track_lines (k + 1) xs
+abbrev pub kind_text : Kind → List ℕ
+kind_text Dissolve = codes "dissolve"
+kind_text (Wipe code) = codes "wipe " ++ three code
+kind_text (Other type) = quoted type
 
--- a line for each root child that is a track
-abbrev pub tracks_text : Timeline → List ℕ
-tracks_text t = track_lines 0 (items_of t.tracks.children)
+abbrev pub weight_text : Weight → List ℕ
+weight_text w = signed_decimal w.num ++ (codes "/" ++ signed_decimal w.den)
 
--- the line of a clip: its place, and its name as a JSON string or the key of its media
-abbrev pub spot_line : Told → Spot → List ℕ
-spot_line Name s = line (codes "clip") (place_text s.place) (quoted s.clip.name)
-spot_line Key s = line (codes "media") (place_text s.place) (key_text (key_of s.clip))
-
--- the lines of clips that are seen from a place
-abbrev pub spot_lines : Told → List ℕ → List Spot → List ℕ
-spot_lines told place found = flat_map (λ s. spot_line told (from_place place s)) found
-
--- a line for each clip, with its name
-abbrev pub clips_text : Timeline → List ℕ
-clips_text t = spot_lines Name [] (spots t.tracks.children)
-
--- a line for each clip, with the key of its media
-abbrev pub media_text : Timeline → List ℕ
-media_text t = spot_lines Key [] (spots t.tracks.children)
-
--- a rate as JSON has it: a 1001 relative by its own text, any other by its decimal
-abbrev pub rate_text : FrameRate → List ℕ
-rate_text r =
-    if unsigned_abs r.den == 1001 then relative_text (unsigned_abs r.num) else decimal_text
-    (pos (rate_millionths r.num r.den))
-
--- how many record frames the longest root child takes, rounded up to whole ones
-abbrev pub whole_frames : Timeline → ℕ
-whole_frames t = div_ceil (greatest (lengths t.tracks.children)) (frame_ticks (record_rate t))
-
--- a word, a space, a number and a line feed
-abbrev pub number_line : List ℕ → List ℕ → List ℕ
-number_line word number = word ++ (codes " " ++ (number ++ codes "\n"))
-
--- a line for the number of items of each kind
-abbrev pub counts_text : Counts → List ℕ
-counts_text c = number_line (codes "tracks") (decimal c.tracks)
-    ++ (number_line (codes "stacks") (decimal c.stacks)
-    ++ (number_line (codes "clips") (decimal c.clips)
-    ++ (number_line (codes "gaps") (decimal c.gaps)
-    ++ number_line (codes "transitions") (decimal c.transitions))))
-
--- the record rate, the first record frame, how many record frames the longest root child takes, and
--- how many items of each kind there are below the root
-abbrev pub stats_text : Timeline → List ℕ
-stats_text t = number_line (codes "rate") (rate_text (record_rate t))
-    ++ (number_line (codes "start") (signed_decimal (start_frame t))
-    ++ (number_line (codes "length") (decimal (whole_frames t))
-    ++ counts_text (counts t.tracks.children)))
-
--- a text where it is asked for
-abbrev pub where_asked : Bool → List ℕ → List ℕ
-where_asked asked text = cond asked text []
-
--- the listings that are asked for: tracks, clips, media and numbers, in this order
-abbrev pub listed_text : Timeline → (tracks clips media stats : Bool) → List ℕ
-listed_text t tracks clips media stats = where_asked tracks (tracks_text t)
-    ++ (where_asked clips (clips_text t)
-    ++ (where_asked media (media_text t) ++ where_asked stats (stats_text t)))
+-- nothing as `-`, a frame as its key, `@` and its number, and a mix as its kind, its weight and its
+-- two sides
+abbrev pub image_text : Image → List ℕ
+image_text Empty = codes "-"
+image_text (Single key number) = key_text key ++ (codes "@" ++ signed_decimal number)
+image_text (Mixture kind from to weight) =
+    codes "mix(" ++ (kind_text kind ++ (codes " " ++ (weight_text weight
+    ++ (codes " " ++ (image_text from ++ (codes " " ++ (image_text to ++ codes ")")))))))

@@ -4,11 +4,11 @@ use Rattle.otio_model.specs.declared.sources.Media.TheVariants as M
 use Rattle.otio_model.specs.declared.compositions.ItemOf.{ItemOf}
 use Rattle.otio_model.specs.declared.compositions.ItemOf.TheVariants.{Clip, Gap, Transition, Stack}
 use Rattle.otio_model.specs.declared.compositions.ItemOf.TheVariants.{Track}
-use Rattle.listings.specs.declared.clips.Told.TheVariants.{Name, Key}
+use Rattle.listings.specs.declared.clip_rows.Told.TheVariants.{Name, Key}
 use Rattle.listings.specs.declared.counting.Counts.{Counts}
 use Rattle.listings.specs.Spots.{Spot, spots_from}
 use Rattle.listings.specs.Counted.{counts_in}
-use Rattle.listings.specs.Texts.{track_lines, spot_lines, counts_text, rate_text}
+use Rattle.listings.specs.ListingTexts.{track_lines, spot_lines, counts_text, rate_text}
 
 -- a clip of a file
 abbrev pub shot : {C : Type 0} → (name url : List ℕ) → ItemOf C

@@ -1,7 +1,7 @@
 //! Which listings are asked for.
 
 /// Which listings are asked for.
-#[derive(Clone, Copy, Debug, PartialEq, Eq)]
+#[derive(Clone, Copy, PartialEq, Eq)]
 pub struct Listings {
     /// A line for each root child that is a track: `track K KIND NAME`.
     pub tracks: bool,

@@ -1,126 +1,83 @@
-//! The lines of clips.
+//! What clips show: their keys and the numbers of their frames.
 
-ghost use Rattle.std.specs.Prelude.{◌++◌, ◌∷◌, [], codes};
-ghost use Rattle.dev_io.specs.Buffer.{HandsOver};
-ghost use Rattle.json_layout.specs.Strings.{quoted};
+ghost use Rattle.std.specs.Prelude.{◌≡◌, ℕ, List, cond};
 ghost use Rattle.coord.specs.Keys as keys;
-ghost use Rattle.show_prog.specs.Texts.{key_text};
-ghost use Rattle.listings.specs.Places.{place_of, place_text};
-ghost use Rattle.listings.specs.Spots.{below_index, spots, spots_of};
-ghost use Rattle.listings.specs.Texts.{line, spot_line, spot_lines};
+ghost use Rattle.coord.specs.Looks.{Blank};
+ghost use Rattle.coord.specs.Sights.{exact, framed};
+ghost use Rattle.coord.specs.Images as images;
+ghost use Rattle.listings.specs.Pictures as pictures;
 
-use crate::ways::{Way, child_way, put_place};
-use dev_io::{Out, OutBuffer};
-use json_layout::put_string;
-use otio_model::{Children, Clip, Item, ItemOf};
-use show_prog::{key_of, put_key};
+use crate::picture::{KeyRef, MixKind, Picture};
+use coord::{media_rate, own_reel, wipe_code};
+use otio_model::{Clip, Media};
+use sequences::Text;
+use tick_time::Rate;
 
-/// What is told of a clip beside its place.
-#[derive(Clone, Copy)]
-pub(crate) enum Told {
-    /// Its name.
-    Name,
-    /// What its frames are known by.
-    Key,
-}
-
-/// Hands over the lines of the clips among children and below them, in document order. The way
-/// leads to their composition.
-#[cycle(clips)]
-pub(crate) fn put_clips<W: Out>(
-    buffer: &mut OutBuffer,
-    out: &mut W,
-    told: Told,
-    way: &Way<'_>,
-    children: &Children,
-)
-    ensures { HandsOver W.known W.faults out.old out.new buffer.old buffer.new
-        (spot_lines told (place_of way.now) (spots children.now)) }
+/// The clip's reel, else its name.
+fn reel_or_name(clip: &Clip) -> KeyRef<'_>
+    ensures { pictures.key_of result ≡ keys.reel_or_name (keys.reel_of clip.now) clip.now.name }
 {
-    'children: for index in 0..children.len() {
-        put_item(buffer, out, told, way, index, children.child(index));
+    match own_reel(clip) {
+        Some(reel) => KeyRef::Reel(reel),
+        None => KeyRef::Name(&clip.name),
     }
 }
 
-// Hands over the lines of the clips of an item, itself or those below it. The way leads to its
-// composition, of which it is the child of that index.
-#[cycle(clips)]
-fn put_item<W: Out>(
-    buffer: &mut OutBuffer,
-    out: &mut W,
-    told: Told,
-    way: &Way<'_>,
-    index: usize,
-    item: &Item,
-)
-    ensures { HandsOver W.known W.faults out.old out.new buffer.old buffer.new
-        (spot_lines told (place_of way.now) (below_index index (spots_of item.now))) }
+/// What the clip's frames are known by.
+pub fn key_of(clip: &Clip) -> KeyRef<'_>
+    ensures { pictures.key_of result ≡ keys.key_of clip.now }
 {
-    match item {
-        ItemOf::Clip(clip) => put_clip(buffer, out, told, way, index, clip),
-        ItemOf::Gap(_) => {}
-        ItemOf::Transition(_) => {}
-        ItemOf::Stack(stack) => {
-            put_clips(buffer, out, told, &child_way(&*way, index), &stack.children);
-        }
-        ItemOf::Track(track) => {
-            put_clips(buffer, out, told, &child_way(&*way, index), &track.children);
-        }
+    match clip.media() {
+        Some(media) => match media {
+            Media::External(media) => KeyRef::Url(&media.target_url),
+            Media::Missing(_) => reel_or_name(clip),
+            Media::Generator(media) => KeyRef::Generator(&media.generator_kind),
+            Media::Sequence(media) => KeyRef::Sequence(
+                &media.target_url_base,
+                &media.name_prefix,
+                &media.name_suffix,
+            ),
+            Media::Kept(_) => reel_or_name(clip),
+        },
+        None => reel_or_name(clip),
     }
 }
 
-// Hands over the line of a clip.
-fn put_clip<W: Out>(
-    buffer: &mut OutBuffer,
-    out: &mut W,
-    told: Told,
-    way: &Way<'_>,
-    index: usize,
-    clip: &Clip,
-)
-    ensures { HandsOver W.known W.faults out.old out.new buffer.old buffer.new
-        (spot_line told (record { place = place_of way.now ++ index ∷ []; clip = clip.now })) }
+/// The number of the frame that holds an instant of media.
+fn frame_number(at: i128, rate: Rate) -> i128
+    ensures { result ≡ images.frame_number at (keys.frame_rate rate) }
 {
-    match told {
-        Told::Name => put_name_line(buffer, out, way, index, clip),
-        Told::Key => put_key_line(buffer, out, way, index, clip),
+    at.div_euclid(rate.frame_ticks())
+}
+
+/// What a clip shows at an instant of its media.
+pub(crate) fn show_clip(clip: &Clip, at: i128) -> Picture<'_>
+    ensures { (kind : List ℕ) → pictures.image_of result ≡
+        images.image (cond clip.now.enabled
+        (framed (exact kind) (keys.key_of clip.now) at (keys.media_rate clip.now)) Blank) }
+{
+    if !clip.enabled {
+        return Picture::Blank;
+    }
+    match media_rate(clip) {
+        Some(rate) => Picture::Frame {
+            key: key_of(clip),
+            number: frame_number(at, rate),
+        },
+        None => Picture::Blank,
     }
 }
 
-// Hands over the line of a clip's name.
-fn put_name_line<W: Out>(
-    buffer: &mut OutBuffer,
-    out: &mut W,
-    way: &Way<'_>,
-    index: usize,
-    clip: &Clip,
-)
-    ensures { HandsOver W.known W.faults out.old out.new buffer.old buffer.new
-        (line (codes "clip") (place_text (place_of way.now ++ index ∷ []))
-        (quoted clip.now.name)) }
+/// The kind of mix that a transition of a type makes.
+pub(crate) fn mix_kind(type_name: &Text) -> MixKind<'_>
+    ensures { pictures.kind_of result ≡ images.kind_of type_name.now }
 {
-    buffer.put(out, b"clip ");
-    put_place(buffer, out, way, index);
-    buffer.put(out, b" ");
-    put_string(buffer, out, clip.name.as_str().as_bytes());
-    buffer.put(out, b"\n");
-}
-
-// Hands over the line of the key of a clip's media.
-fn put_key_line<W: Out>(
-    buffer: &mut OutBuffer,
-    out: &mut W,
-    way: &Way<'_>,
-    index: usize,
-    clip: &Clip,
-)
-    ensures { HandsOver W.known W.faults out.old out.new buffer.old buffer.new
-        (line (codes "media") (place_text (place_of way.now ++ index ∷ []))
-        (key_text (keys.key_of clip.now))) }
-{
-    buffer.put(out, b"media ");
-    put_place(buffer, out, way, index);
-    buffer.put(out, b" ");
-    put_key(buffer, out, &key_of(clip));
-    buffer.put(out, b"\n");
+    let text = type_name.as_str();
+    if text == "SMPTE_Dissolve" {
+        return MixKind::Dissolve;
+    }
+    match wipe_code(text.as_bytes()) {
+        Some(code) => MixKind::Wipe(code),
+        None => MixKind::Other(type_name),
+    }
 }

@@ -11,7 +11,7 @@ ghost use Rattle.schema_write.specs.Texts as written;
 ghost use Rattle.coord.specs.Keys.{frame_rate};
 ghost use Rattle.coord.specs.Soundness.{Precedes};
 ghost use Rattle.listings.specs.Spots.{Spot, spots};
-ghost use Rattle.listings.specs.Texts.{listed_text, rate_text};
+ghost use Rattle.listings.specs.ListingTexts.{listed_text, rate_text};
 ghost use Rattle.listings.specs.Worked.{AreWorked};
 
 /// Law: of timelines that differ in their spare memory alone the listings are the same.

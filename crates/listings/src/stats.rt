@@ -8,8 +8,8 @@ ghost use Rattle.otio_model.specs.Counts.{count};
 ghost use Rattle.coord.specs.Keys.{frame_rate};
 ghost use Rattle.coord.specs.Programs as programs;
 ghost use Rattle.listings.specs.Counted.{counts};
-ghost use Rattle.listings.specs.Texts.{counts_text, number_line, rate_text};
-ghost use Rattle.listings.specs.Texts.{stats_text, whole_frames};
+ghost use Rattle.listings.specs.ListingTexts.{counts_text, number_line, rate_text};
+ghost use Rattle.listings.specs.ListingTexts.{stats_text, whole_frames};
 
 use crate::counting::{Counts, count_children};
 use crate::numbers::{put_large, put_number, put_signed};

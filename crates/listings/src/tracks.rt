@@ -2,13 +2,13 @@
 
 ghost use Rattle.std.specs.Prelude.{◌++◌, codes, decimal};
 ghost use Rattle.dev_io.specs.Buffer.{HandsOver};
-ghost use Rattle.json_layout.specs.Strings.{quoted};
+ghost use Rattle.json_text.specs.StringTexts.{quoted};
 ghost use Rattle.otio_model.specs.Trees.{items_of};
-ghost use Rattle.listings.specs.Texts.{line, track_line, track_lines};
+ghost use Rattle.listings.specs.ListingTexts.{line, track_line, track_lines};
 
 use crate::numbers::put_number;
 use dev_io::{Out, OutBuffer};
-use json_layout::put_string;
+use json_text::put_string;
 use otio_model::{Children, Item, ItemOf, Track};
 use sequences::Text;
 

@@ -6,11 +6,11 @@ ghost use Rattle.dev_io.specs.Calls.{Tells, SendsAll};
 ghost use Rattle.dev_io.specs.Causes.{HasCause};
 ghost use Rattle.otio_model.specs.Counts.{count};
 ghost use Rattle.listings.specs.Spots.{spots};
-ghost use Rattle.listings.specs.Texts.{listed_text, spot_lines, stats_text, tracks_text};
-ghost use Rattle.listings.specs.Texts.{where_asked};
+ghost use Rattle.listings.specs.ListingTexts.{listed_text, spot_lines, stats_text, tracks_text};
+ghost use Rattle.listings.specs.ListingTexts.{where_asked};
 
 use crate::asked::Listings;
-use crate::clips::{Told, put_clips};
+use crate::clip_rows::{Told, put_clips};
 use crate::stats::put_stats;
 use crate::tracks::put_tracks;
 use crate::ways::Way;
@@ -25,7 +25,7 @@ use otio_model::Timeline;
 /// - Clips: `clip PLACE NAME` for each clip at all levels, in document order. PLACE is its indexes
 ///   from the root on, with `/` between them.
 /// - Media: `media PLACE KEY` for each of these clips, with the KEY of its frames as
-///   [`show_prog::print_show`] has it.
+///   [`print_show`](crate::print_show) has it.
 /// - Stats: `rate R`, `start G`, `length N`, `tracks N`, `stacks N`, `clips N`, `gaps N` and
 ///   `transitions N`: the record rate, the first record frame, how many record frames the longest
 ///   root child takes, rounded up to whole ones, and how many items of each kind there are at all

@@ -6,12 +6,12 @@ use Rattle.text_lines.specs.Lines.{lines_of}
 use Rattle.media_rows.specs.Rows.{by_reel, by_url, AreRows}
 use Rattle.media_rows.specs.declared.row.MediaRow.{MediaRow}
 use Rattle.media_list.specs.Lines.{Fields, IsSkipped, IsForm, IsRow, LineSays, nothing, one, HasNoRate, HasNoSpan, IsSpan, IsNew, IsOwnFault, IsTwice, IsLineFault, own, twice}
-use Rattle.rate_words.specs.RateWords.{IsRateWord}
+use Rattle.smpte_tc.specs.RateWords.{IsRateWord}
 use Rattle.media_list.specs.Lists.{LinesSay, IsMediaList, IsFirstFault, IsFault}
 use Rattle.media_list.specs.declared.faults.MediaFault.{MediaFault}
 use Rattle.media_list.specs.declared.faults.MediaFault.TheVariants.{Line, Rate as NoRate, Range, ReelTwice, UrlTwice, Large, Memory}
 use Rattle.media_list.proofs.LookUps.{earlier_new}
-use Rattle.rate_words.proofs.RateLemmas.{rate_once}
+use Rattle.smpte_tc.proofs.RateLemmas.{rate_once}
 use Rattle.media_list.proofs.SpanLemmas.{span_once}
 
 abbrev fields_back : List (List ℕ) → Fields

@@ -2,18 +2,35 @@
 use Rattle.std.proofs.Common.{◌≡◌, FitsSigned, w64, ◌≤◌, ◌*◌, ◌≤ℤ◌, ◌+◌, ◌+ℤ◌, ◌*ℤ◌, ℕ, ℤ, pos, Bool, true, false, cond, List, Option, Some, None, sym, subst, ◌∙◌, arith}
 use Rattle.std.proofs.lemmas.Int.{ints, fits_signed_from_abs}
 use Rattle.std.specs.Option.{option_map}
+use Rattle.std.specs.Prelude.{◌↔◌, IsTrue, Result, Ok, Err, IfOk, IfErr}
+use Rattle.std.specs.Result.{is_ok}
+use Rattle.std.proofs.lemmas.Bool.{false≢true}
+use Rattle.tick_time.specs.declared.times.Time.{Time}
 use Rattle.std.proofs.lemmas.Nat.{mul-le}
 use Rattle.std.specs.Str.Parse.{digits_value}
 use Rattle.tick_time.specs.Rates.{frame}
 use Rattle.tick_time.specs.Times.{IsInRange}
 use Rattle.tick_time.specs.declared.rates.Rate.{Rate}
 use Rattle.smpte_tc.specs.Frames.{label_frame}
-use Rattle.record_points.specs.Words.{is_label_form}
-use Rattle.record_points.specs.Frames.{IsFrame}
+use Rattle.smpte_tc.specs.Words.{is_label_form}
+use Rattle.smpte_tc.specs.PointFrames.{IsFrame}
 use Rattle.media_rows.specs.Rows.{IsRowInRange}
 use Rattle.media_rows.specs.declared.row.MediaRow.{MediaRow}
 use Rattle.media_list.specs.Words.{start_frame}
 use Rattle.media_list.specs.Lines.{Fields, IsSpanInRange, IsSpan, IsRow}
+
+-- whether so many ticks lie in range is told by whether they make a time
+pub range_told : {E : Type 0} (X : E → Type 0) (ticks : ℤ) (r : Result Time E) (b : Bool)
+    → b ≡ is_ok r → IfOk r (λ time. time.ticks ≡ ticks)
+    → IfErr r (λ e. X e × (IsInRange ticks → ⊥)) → (IsTrue b ↔ IsInRange ticks)
+range_told X ticks (Ok time) b same made fault = (
+  λ _. subst IsInRange made (record { low = time.low; high = time.high }),
+  λ _. same,
+)
+range_told X ticks (Err e) b same made fault = (
+  λ yes. absurd (false≢true (sym same ∙ yes)),
+  λ range. absurd (fault.1 range),
+)
 
 same_some : (a b : ℤ) → Some a ≡ Some b → a ≡ b
 same_some a b e = cc

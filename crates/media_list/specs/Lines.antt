@@ -8,7 +8,7 @@ use Rattle.tick_time.specs.Times.{IsInRange}
 use Rattle.tick_time.specs.declared.rates.Rate.{Rate}
 use Rattle.media_rows.specs.Rows.{by_reel, by_url}
 use Rattle.media_rows.specs.declared.row.MediaRow.{MediaRow}
-use Rattle.rate_words.specs.RateWords.{IsRateWord}
+use Rattle.smpte_tc.specs.RateWords.{IsRateWord}
 use Rattle.text_lines.specs.ReelNames.{IsReelName}
 use Rattle.media_list.specs.Words.{IsNumber, IsStartForm, start_frame}
 use Rattle.media_list.specs.declared.faults.MediaFault.{MediaFault}

@@ -4,7 +4,7 @@ use Rattle.std.specs.Option.{option_map}
 use Rattle.std.specs.Str.Parse.{IsNumeral as IsDigits, digits_value}
 use Rattle.tick_time.specs.declared.rates.Rate.{Rate}
 use Rattle.smpte_tc.specs.Frames.{label_frame}
-use Rattle.record_points.specs.Words.{is_label_form}
+use Rattle.smpte_tc.specs.Words.{is_label_form}
 
 -- how many digits a number has at most
 abbrev pub most_digits : ℕ

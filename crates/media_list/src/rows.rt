@@ -3,7 +3,7 @@
 ghost use Rattle.std.specs.Prelude.{◌≡◌, ◌⊎◌, ◌+ℤ◌, ◌*ℤ◌, ◌↔◌, ℤ, pos, Some, IsTrue, IsUtf8, IfOk, IfErr, MatchOption};
 ghost use Rattle.tick_time.specs.Rates.{frame};
 ghost use Rattle.tick_time.specs.Times.{IsInRange};
-ghost use Rattle.record_points.specs.Frames.{IsFrame};
+ghost use Rattle.smpte_tc.specs.PointFrames.{IsFrame};
 ghost use Rattle.media_list.specs.Lines.{IsSpanInRange, IsSpan, IsSkipped, IsRow, IsOwnFault};
 ghost use Rattle.media_list.specs.Views.{fields_in, row_of_fields};
 ghost use Rattle.text_lines.specs.ReelNames.{IsReelName};
@@ -13,8 +13,8 @@ use crate::faults::MediaFault;
 use crate::fields::{LineFields, form_of, is_comment};
 use crate::words::{number_of, start_of};
 use media_rows::MediaRow;
-use rate_words::rate_of;
 use sequences::Text;
+use smpte_tc::rate_of;
 use std::alloc::{AllocError, Global};
 use tick_time::{Rate, Time};
 

@@ -2,11 +2,11 @@
 
 ghost use Rattle.std.specs.Prelude.{◌≡◌, ◌≤◌, ◌<◌, ◌↔◌, ◌^◌, pos, IsTrue, IfSome, length};
 ghost use Rattle.std.specs.Str.Parse.{AllDigits, digits_value};
-ghost use Rattle.record_points.specs.Frames.{IsFrame};
+ghost use Rattle.smpte_tc.specs.PointFrames.{IsFrame};
 ghost use Rattle.text_lines.specs.ReelNames.{IsReelName};
 ghost use Rattle.media_list.specs.Words.{IsNumber, IsStartForm, start_frame};
 
-use record_points::{frame_of_label, is_label_form};
+use smpte_tc::{frame_of_label, is_label_form};
 use text_lines::{are_within, reel_name};
 use tick_time::Rate;
 

@@ -6,10 +6,10 @@ ghost use Rattle.otio_model.specs.Counts.{count, count_of};
 use crate::trees::{frames, gap, one, played, rate_25, span, timeline_of, track, two};
 use coord::sound;
 use dev_io::MemOut;
-use frame_rows::{Listing, RowFault, listing_of, write_rows};
+use listings::{Listing, RowFault, listing_of, write_rows};
 use otio_model::{Children, Effects, Item, ItemOf, Items, MediaMap, Timeline};
-use record_points::RecordPoint;
 use sequences::Text;
+use smpte_tc::RecordPoint;
 use std::alloc::{AllocError, Global};
 use std::process::Abort;
 use std::test::Fail;
@@ -53,7 +53,7 @@ fn lists(
     count: Option<u32>,
     wanted: Option<Listing>,
 ) -> Result<(), Fail> {
-    assert_eq!(rt; listed(alloc, start, count)?, wanted);
+    assert!(rt; listed(alloc, start, count)? == wanted);
     Ok(())
 }
 
@@ -93,7 +93,7 @@ fn ends(
     sent: Result<Option<Result<(), RowFault>>, AllocError>,
     wanted: Result<(), RowFault>,
 ) -> Result<(), Fail> {
-    assert_eq!(rt; sent?, Some(wanted));
+    assert!(rt; sent? == Some(wanted));
     Ok(())
 }
 
@@ -101,7 +101,7 @@ fn ends(
 fn writes(rt: &impl Abort, alloc: Global, listing: &Listing, wanted: &[u8]) -> Result<(), Fail> {
     let mut out = MemOut::new(alloc, 200)?;
     ends(rt, written(alloc, listing, &mut out), Ok(()))?;
-    assert_eq!(rt; out.sent(), wanted);
+    assert!(rt; out.sent() == wanted);
     drop(out);
     Ok(())
 }
@@ -199,7 +199,7 @@ fn a_stream_that_fails_ends_the_lines(rt: HostRuntime) -> Result<(), Fail> {
     ends(&rt, stopped, Err(RowFault::Sink))?;
     // the lines of frames 0 to 255, of which the first 10, 90 and 156 have one, two and three
     // digits
-    assert_eq!(rt; out.sent().len(), 10 * 6 + 90 * 7 + 156 * 8);
+    assert!(rt; out.sent().len() == 10 * 6 + 90 * 7 + 156 * 8);
     drop(out);
     Ok(())
 }

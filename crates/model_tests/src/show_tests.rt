@@ -1,7 +1,7 @@
 // Texts of some pictures.
 use dev_io::MemOut;
+use listings::{KeyRef, MixKind, Picture, print_show};
 use sequences::Text;
-use show_prog::{KeyRef, MixKind, Picture, print_show};
 use std::alloc::{AllocError, Global};
 use std::process::Abort;
 use std::test::Fail;
@@ -30,7 +30,7 @@ fn mix<'a>(
 fn prints(rt: &impl Abort, alloc: Global, picture: &Picture<'_>, want: &str) -> Result<(), Fail> {
     let mut out = MemOut::new(alloc, 200)?;
     let printed = print_show(picture, &mut out);
-    assert_eq!(rt; out.sent(), want.as_bytes());
+    assert!(rt; out.sent() == want.as_bytes());
     drop(out);
     printed?;
     Ok(())

@@ -1,3 +1,20 @@
+-- Lemmas on objects and what is written of them.
+pub mod Spellings
+pub mod Values
+pub mod Decimals
+pub mod SeenValues
+pub mod GivenCases
+pub mod Objects
+pub mod Lists
+pub mod OneGiven
+pub mod Levels
+pub mod OneValue
+pub mod RefusedCases
+pub mod ClashLemmas
+pub mod GivenOrRefused
+pub mod OneFault
+pub mod FirstFaults
+pub mod Verdicts
 pub mod FoundMembers
 pub mod NamedSchemas
 pub mod Leaves

@@ -12,7 +12,6 @@ use std::marker::Model;
 
 /// The effects of an item, in order. Contracts see the list of them; the speed that they come to is
 /// kept beside it, so that no call looks at each of them again.
-#[derive(Debug)]
 pub struct Effects {
     list: Sequence<Effect>,
     /// The speed after them, in millionths; `None` where it passes 1000 times on the way.

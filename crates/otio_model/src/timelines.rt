@@ -21,7 +21,6 @@ use tick_time::Time;
 ///
 /// Besides the fields of its schema it keeps memory to spare. Contracts see that as the room that
 /// it has, and compare two timelines by the word `bare`, which sets it aside.
-#[derive(Debug)]
 pub struct Timeline {
     /// Metadata, kept as it is.
     pub metadata: Members,

@@ -3,21 +3,20 @@
 ghost use Rattle.std.specs.Prelude.{IfSome};
 ghost use Rattle.schema_rows.specs.Numerals.{HasNumerals};
 
+use json_law::read_has_numerals;
 use json_text::JsonReader;
 use json_value::Json;
-use object_law::{patched_is_writable, written_is_read};
+use object_law::{one_answer, patched_is_writable, written_is_read};
 use otio_model::Place;
-use schema_law::one_answer;
 use schema_rows::{EFFECTS, ITEMS, MEDIA, Schema, SchemaFault, Value, named, names_are_distinct};
 use schema_tab::read_fields;
 use schema_write::{texts_are_read, written_by_tables};
 use std::alloc::Global;
 use std::mem::forget;
 use std::process::Abort;
-use upgrade_law::read_has_numerals;
 
 fn finds(rt: &impl Abort, family: &[Schema], name: &str, wanted: Option<Schema>) {
-    assert_eq!(rt; named(family, name), wanted, "{name}");
+    assert!(rt; named(family, name) == wanted, "{name}");
 }
 
 #[test]
@@ -26,8 +25,8 @@ fn schemas_are_found_in_their_family(rt: HostRuntime) {
     finds(&rt, &EFFECTS, "Gap", None);
     let images = "ImageSequenceReference";
     finds(&rt, &MEDIA, images, Some(Schema::Images));
-    assert_eq!(rt; Schema::Clip.text(), "Clip.2");
-    assert_eq!(rt; Schema::Track.version(), 1);
+    assert!(rt; Schema::Clip.text() == "Clip.2");
+    assert!(rt; Schema::Track.version() == 1);
 }
 
 /// The value of a text; none where it has none.
@@ -72,7 +71,7 @@ fn row_count(alloc: Global, value: &Json) -> usize
 fn each_row_has_a_value(rt: HostRuntime) {
     let alloc = rt.alloc();
     match value_of(alloc, r#"{"name":"s"}"#) {
-        Some(value) => assert_eq!(rt; row_count(alloc, &value), 3),
+        Some(value) => assert!(rt; row_count(alloc, &value) == 3),
         None => assert!(rt; false),
     }
 }

@@ -147,7 +147,7 @@ fn check_rows(rt: &impl Abort, alloc: Global, files: &mut MemFiles) -> Result<()
     let answer = done(rt, alloc, files, "frames -o rows.txt x.otio")?;
     is_aimed(rt, &answer.out, "rows.txt");
     has_rows(rt, answer.out.sent());
-    assert_eq!(rt; line_count(answer.out.sent()), 288);
+    assert!(rt; line_count(answer.out.sent()) == 288);
     drop(answer);
     Ok(())
 }

@@ -4,7 +4,7 @@
 use crate::runs::{Case, Manner, WHOLE, answer_to, check_case_over, ended, put_text, was_sent};
 use crate::texts::{REFUSED, REWRITTEN};
 use dev_io::{MemFiles, MemOut};
-use json_layout::write_json;
+use json_text::write_json;
 use otio_model::Object;
 use otio_tools::Status;
 use schema_write::json_of;

@@ -133,11 +133,11 @@ pub fn answer_to(alloc: Global, files: &mut MemFiles, line: &str) -> Result<Answ
 
 /// Holds how a command line ended.
 pub fn ended(rt: &impl Abort, line: &str, answer: &Answer, status: Status) {
-    assert_eq!(rt; answer.status, status, "{line}");
+    assert!(rt; answer.status == status, "{line}");
 }
 
 fn has_sent(rt: &impl Abort, line: &str, stream: &MemOut, bytes: &[u8]) {
-    assert_eq!(rt; stream.sent(), bytes, "{line}");
+    assert!(rt; stream.sent() == bytes, "{line}");
 }
 
 /// Holds that these bytes were sent, and that no name was aimed at.
@@ -253,7 +253,7 @@ pub fn put_output(
 
 /// Holds that a stream is aimed at that name.
 pub fn is_aimed(rt: &impl Abort, stream: &MemOut, name: &str) {
-    assert_eq!(rt; stream.target(), Some(name));
+    assert!(rt; stream.target() == Some(name));
 }
 
 /// Holds that a command line is done over these files, and sends these bytes to that name.
@@ -295,7 +295,7 @@ fn check_usage(
         told.starts_with(b"otio: usage\n  otio convert ["),
         "{line}"
     );
-    assert_eq!(rt; line_count(told), USAGE_LINES, "{line}");
+    assert!(rt; line_count(told) == USAGE_LINES, "{line}");
     drop(answer);
     Ok(())
 }

@@ -11,9 +11,9 @@ use coord::sound;
 use dev_io::{MemFiles, MemOut};
 use edit_plans::{down, edit_rate};
 use flat_timelines::join;
+use listings::{print_show, show};
 use otio_model::{Item, ItemOf, Place, Timeline};
 use pieces::{CutFault, back, cuts_whole, front, strip};
-use show_prog::{print_show, show};
 use source_files::{Content, Kind, Source, read_source};
 use std::alloc::{AllocError, Global};
 use std::mem::forget;
@@ -91,7 +91,7 @@ fn check_shown(
 {
     let mut out = MemOut::new(alloc, 200)?;
     print_at(rt, alloc, timeline, child, frame, &mut out)?;
-    assert_eq!(rt; out.sent(), text);
+    assert!(rt; out.sent() == text);
     drop(out);
     Ok(())
 }
@@ -172,7 +172,7 @@ fn is_reached(
         Some(frame) => Some(ticks_of(frame)),
         None => None,
     };
-    assert_eq!(rt; found, there);
+    assert!(rt; found == there);
     Ok(())
 }
 
@@ -219,7 +219,7 @@ fn is_long(rt: &impl Abort, piece: Result<Vec<Item>, CutFault>, ticks: i128) {
         Ok(items) => {
             let found = range_ticks(&items);
             forget(items);
-            assert_eq!(rt; found, Some(ticks));
+            assert!(rt; found == Some(ticks));
         }
         Err(_) => assert!(rt; false),
     }
@@ -239,7 +239,7 @@ fn check_cut(rt: &impl Abort, alloc: Global, timeline: &Timeline, track: &Item) 
     let items = strip(alloc, list, four, four)?;
     let len = items.len();
     forget(items);
-    assert_eq!(rt; len, 1);
+    assert!(rt; len == 1);
     Ok(())
 }
 
@@ -315,6 +315,6 @@ fn timelines_are_joined(rt: HostRuntime) -> Result<(), Fail> {
         },
         None => None,
     };
-    assert_eq!(rt; len, Some(2));
+    assert!(rt; len == Some(2));
     Ok(())
 }

@@ -3,12 +3,12 @@ use Rattle.std.proofs.Common.{◌≡◌, ℕ, List, [], ◌∷◌, ◌++◌, Som
 use Rattle.std.specs.declared.option.Option.{Option}
 use Rattle.std.specs.Global.{Vec}
 use Rattle.tick_time.specs.declared.rates.Rate.{Rate}
-use Rattle.json_layout.specs.Layout.{layout}
+use Rattle.json_text.specs.Layout.{layout}
 use Rattle.otio_model.specs.declared.timelines.Timeline.{Timeline}
 use Rattle.otio_model.specs.Timelines.{bare}
 use Rattle.coord.specs.Soundness.{IsFaultless}
 use Rattle.undo_log.specs.States.{state_of}
-use Rattle.script_text.specs.declared.commands.Command as script
+use Rattle.edit_script.specs.declared.commands.Command as script
 use Rattle.edl_list.specs.declared.list.EventList.{EventList}
 use Rattle.media_rows.specs.Rows.{MediaRows}
 use Rattle.source_files.specs.Order.{EachIs}
@@ -17,7 +17,7 @@ use Rattle.source_files.specs.Reading.{Source, IsRefused}
 use Rattle.source_files.specs.declared.kinds.Kind.TheVariants as kinds
 use Rattle.source_files.specs.declared.kinds.Content.{Content}
 use Rattle.source_files.specs.declared.kinds.Content.TheVariants as content
-use Rattle.source_files.specs.declared.faults.Refusal.{Refusal}
+use Rattle.source_files.specs.declared.file_faults.Refusal.{Refusal}
 use Rattle.source_files.proofs.Handing.{refused_by}
 use Rattle.command_words.specs.declared.requests.Command.{Command}
 use Rattle.command_words.specs.declared.requests.Command.TheVariants.{ListToList, ListToObjects, TimelineToList, ToObjects, ToJson, Frames, ListFrames, Edit, ListEdit}

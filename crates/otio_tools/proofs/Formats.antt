@@ -11,19 +11,19 @@ use Rattle.otio_model.specs.declared.roots.Object.TheFolds.{fold-roll-Object}
 use Rattle.otio_model.specs.declared.roots.Collection.{Collection}
 use Rattle.otio_model.specs.declared.timelines.Timeline.{Timeline}
 use Rattle.otio_model.specs.Timelines.{bare}
-use Rattle.schema_up.specs.Upgrades.{upgraded}
+use Rattle.schema_rows.specs.Upgrades.{upgraded}
 use Rattle.schema_rows.specs.Stands.{Stands}
 use Rattle.schema_rows.specs.Faults.{IsFirstFault}
 use Rattle.schema_write.specs.Objects.{json_of, object_step, collection_step}
-use Rattle.schema_law.proofs.SeenValues.{Folded, of_object}
-use Rattle.schema_law.proofs.Verdicts.{folded_once, has_one_fault, is_never_both}
+use Rattle.object_law.proofs.SeenValues.{Folded, of_object}
+use Rattle.object_law.proofs.Verdicts.{folded_once, has_one_fault, is_never_both}
 use Rattle.media_list.specs.Lists.{IsMediaList}
 use Rattle.media_list.proofs.OneOutcome.{fault_once as media_fault_once, list_or_fault as media_or_fault}
 use Rattle.media_rows.specs.declared.row.MediaRow.{MediaRow}
-use Rattle.fault_text.specs.Faults.{json_fault_text, list_fault_text, media_fault_text, fault_text, script_fault_text}
-use Rattle.script_text.specs.Scripts.{IsScript}
-use Rattle.script_text.specs.declared.commands.Command.{Command}
-use Rattle.script_text.proofs.Once.{fault_once as script_fault_once, never_both as script_or_fault}
+use Rattle.source_files.specs.Faults.{json_fault_text, list_fault_text, media_fault_text, fault_text, script_fault_text}
+use Rattle.edit_script.specs.Scripts.{IsScript}
+use Rattle.edit_script.specs.declared.commands.Command.{Command}
+use Rattle.edit_script.proofs.Once.{fault_once as script_fault_once, never_both as script_or_fault}
 use Rattle.source_files.specs.Formats.{IsJson, IsObject, IsTimeline, IsNoTimeline, Holds, Refuses, RefusesJson, RefusesObject, RefusesTimeline, RefusesList, RefusesMedia, RefusesScript}
 use Rattle.source_files.specs.declared.kinds.Kind.{Kind}
 use Rattle.source_files.specs.declared.kinds.Kind.TheVariants as kinds

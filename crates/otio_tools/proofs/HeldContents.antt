@@ -10,8 +10,8 @@ use Rattle.otio_model.specs.declared.roots.Object.{Object}
 use Rattle.otio_model.specs.declared.timelines.Timeline.{Timeline}
 use Rattle.media_rows.specs.declared.row.MediaRow.{MediaRow}
 use Rattle.media_list.specs.Lists.{IsMediaList}
-use Rattle.script_text.specs.declared.commands.Command as script
-use Rattle.script_text.specs.Scripts.{IsScript}
+use Rattle.edit_script.specs.declared.commands.Command as script
+use Rattle.edit_script.specs.Scripts.{IsScript}
 use Rattle.source_files.specs.Formats.{IsJson, IsObject, IsTimeline, Holds}
 use Rattle.source_files.specs.declared.kinds.Kind.TheVariants as kinds
 use Rattle.source_files.specs.declared.kinds.Content.{Content}

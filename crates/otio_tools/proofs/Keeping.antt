@@ -4,8 +4,8 @@ use Rattle.dev_io.specs.Known.{KnownFiles}
 use Rattle.dev_io.specs.Calls.{Tells}
 use Rattle.otio_model.specs.declared.timelines.Timeline.{Timeline}
 use Rattle.media_rows.specs.Rows.{MediaRows}
-use Rattle.edl_frames_law.specs.Premises.{AreListed}
-use Rattle.edl_layout.specs.Spelling.{spelling}
+use Rattle.edl_law.specs.Premises.{AreListed}
+use Rattle.edl_text.specs.Spelling.{spelling}
 use Rattle.source_files.specs.Order.{FirstIsNot}
 use Rattle.source_files.specs.Formats.{IsTimeline}
 use Rattle.source_files.specs.Reading.{Held, Source, IsRead, AreRead}

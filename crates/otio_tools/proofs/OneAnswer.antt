@@ -7,14 +7,14 @@ use Rattle.dev_io.specs.Known.{KnownFiles}
 use Rattle.dev_io.specs.Calls.{Tells}
 use Rattle.json_value.specs.declared.Json.{Json}
 use Rattle.json_text.proofs.OneText.{text_once}
-use Rattle.json_layout.specs.Layout.{layout}
+use Rattle.json_text.specs.Layout.{layout}
 use Rattle.tick_time.specs.declared.rates.Rate.{Rate}
 use Rattle.edl_list.specs.declared.list.Event.{Event}
 use Rattle.edl_list.specs.declared.list.EventList.{EventList}
 use Rattle.edl_list.specs.Labelled.{IsLabelled}
 use Rattle.edl_list.specs.Layouts.{narrow, layout_of, FitsEvent}
-use Rattle.edl_layout.specs.Labelled.{IsFirstNot}
-use Rattle.edl_layout.specs.Wide.{IsFirstWide}
+use Rattle.edl_text.specs.Labelled.{IsFirstNot}
+use Rattle.edl_text.specs.Wide.{IsFirstWide}
 use Rattle.edl_text.specs.Lists.{IsList}
 use Rattle.edl_text.proofs.OneList.{one_list}
 use Rattle.otio_model.specs.declared.roots.Object.{Object}
@@ -23,10 +23,10 @@ use Rattle.otio_model.specs.Timelines.{bare}
 use Rattle.schema_write.specs.Objects.{json_of}
 use Rattle.coord.proofs.OneFault.{same_fault, no_fault_of}
 use Rattle.coord.proofs.SpareLemmas.{faultless_bare, fault_bare}
-use Rattle.fault_text.specs.Faults.{coord_fault_text, conform_fault_text, reel_text, day_text}
-use Rattle.frame_rows.specs.Rows.{listing_of, listing_text}
-use Rattle.frame_rows.specs.declared.listing.Listing.{Listing}
-use Rattle.frame_rows.proofs.SpareLemmas.{listing_bare, text_bare}
+use Rattle.source_files.specs.Faults.{coord_fault_text, conform_fault_text, reel_text, day_text}
+use Rattle.listings.specs.Rows.{listing_of, listing_text}
+use Rattle.listings.specs.declared.listing.Listing.{Listing}
+use Rattle.listings.proofs.SpareLemmas.{listing_bare, text_bare}
 use Rattle.source_files.specs.Formats.{IsJson, IsObject, IsTimeline, Holds, Refuses}
 use Rattle.source_files.specs.Reading.{Held, Source, IsRead, AreRead}
 use Rattle.source_files.specs.declared.kinds.Kind.TheVariants as kinds
@@ -43,9 +43,9 @@ use Rattle.drill.proofs.OneTally.{one_tally}
 use Rattle.drill.specs.Lines.{tally_text}
 use Rattle.drill.specs.declared.tally.Tally.{Tally}
 use Rattle.undo_log.specs.States.{State}
-use Rattle.script_text.specs.declared.commands.Command as script
-use Rattle.script_text.specs.Scripts.{IsScript}
-use Rattle.script_text.proofs.Once.{script_once}
+use Rattle.edit_script.specs.declared.commands.Command as script
+use Rattle.edit_script.specs.Scripts.{IsScript}
+use Rattle.edit_script.proofs.Once.{script_once}
 use Rattle.edit_script.specs.Runs.{Runs, Halts}
 use Rattle.edit_script.proofs.Outcomes.{one_state, one_halt, never_both}
 use Rattle.command_words.specs.declared.requests.FramesAsked.{FramesAsked}
@@ -53,9 +53,9 @@ use Rattle.media_rows.specs.declared.row.MediaRow.{MediaRow}
 use Rattle.media_list.specs.Lists.{IsMediaList}
 use Rattle.media_list.proofs.OneOutcome.{list_once as media_list_once}
 use Rattle.media_rows.specs.Rows.{MediaRows}
-use Rattle.edl_frames_law.proofs.OneTimeline.{one_timeline}
+use Rattle.edl_law.proofs.OneTimeline.{one_timeline}
 use Rattle.otio_tools.proofs.OneCarried.{carried_once}
-use Rattle.edl_frames_law.proofs.OneFault.{one_fault as one_conform_fault, no_fault as no_conform_fault}
+use Rattle.edl_law.proofs.OneFault.{one_fault as one_conform_fault, no_fault as no_conform_fault}
 use Rattle.otio_tools.specs.Asked.{Asked, Asks, asked_alone, asked_for, files_alone, files_of, kind_of, media_source, script_source, read_as, takes_several}
 use Rattle.otio_tools.specs.Edited.{command_fault_text, AnswersEdited, Faulted, Halted, Edited}
 use Rattle.script_law.specs.Shown.{opened}

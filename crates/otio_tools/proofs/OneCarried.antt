@@ -5,14 +5,14 @@ use Rattle.otio_model.specs.Timelines.{bare}
 use Rattle.coord.proofs.OneFault.{same_fault, no_fault_of}
 use Rattle.coord.proofs.SpareLemmas.{faultless_bare, fault_bare}
 use Rattle.edl_list.specs.declared.list.EventList.{EventList}
-use Rattle.edl_layout.specs.Spelling.{spelling}
+use Rattle.edl_text.specs.Spelling.{spelling}
 use Rattle.media_rows.specs.Rows.{MediaRows}
 use Rattle.edl_frames.specs.Carried.{not_carried, IsListOf, IsNotCarried}
 use Rattle.edl_frames.specs.declared.reasons.NotCarried.{NotCarried}
 use Rattle.edl_frames.specs.declared.reasons.NotCarried.TheVariants as carried
-use Rattle.edl_frames_law.proofs.OneList.{one_list}
-use Rattle.edl_frames_law.proofs.OneReason.{one_reason, no_reason}
-use Rattle.fault_text.specs.Faults.{coord_fault_text, not_carried_text}
+use Rattle.edl_law.proofs.OneList.{one_list}
+use Rattle.edl_law.proofs.OneReason.{one_reason, no_reason}
+use Rattle.source_files.specs.Faults.{coord_fault_text, not_carried_text}
 use Rattle.otio_tools.specs.Forms.{Answer, done, refused}
 use Rattle.otio_tools.specs.Carried.{AnswersCarried, NotSound, Left, Carried}
 

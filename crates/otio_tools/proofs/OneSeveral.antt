@@ -1,6 +1,6 @@
 -- There is one answer to several inputs.
 use Rattle.std.proofs.Common.{◌≡◌, ◌++◌, ℕ, Option, List, [], ◌∷◌, Some, None, map, refl, sym, ap, ap₂, cond, subst, ◌∙◌, inl, inr}
-use Rattle.json_layout.specs.Layout.{layout}
+use Rattle.json_text.specs.Layout.{layout}
 use Rattle.edl_list.specs.declared.list.EventList.{EventList}
 use Rattle.edl_text.specs.Lists.{IsList}
 use Rattle.edl_text.proofs.OneList.{one_list}
@@ -11,9 +11,9 @@ use Rattle.coord.specs.Soundness.{IsFaultless}
 use Rattle.coord.proofs.OneFault.{same_fault, no_fault_of}
 use Rattle.coord.proofs.SpareLemmas.{faultless_bare, fault_bare}
 use Rattle.media_rows.specs.Rows.{MediaRows}
-use Rattle.edl_frames_law.proofs.OneTimeline.{one_timeline}
-use Rattle.edl_frames_law.proofs.OneFault.{one_fault as one_conform_fault, no_fault as no_conform_fault}
-use Rattle.fault_text.specs.Faults.{coord_fault_text, conform_fault_text}
+use Rattle.edl_law.proofs.OneTimeline.{one_timeline}
+use Rattle.edl_law.proofs.OneFault.{one_fault as one_conform_fault, no_fault as no_conform_fault}
+use Rattle.source_files.specs.Faults.{coord_fault_text, conform_fault_text}
 use Rattle.source_files.specs.Formats.{Holds, IsTimeline}
 use Rattle.source_files.specs.Order.{EachIs, FirstIsNot}
 use Rattle.source_files.specs.Reading.{Held, Source, IsRead, AreRead}
@@ -32,9 +32,9 @@ use Rattle.otio_tools.proofs.HeldContents.{list_held, media_held, object_held, s
 use Rattle.otio_tools.proofs.OneText.{same_listings, same_text}
 use Rattle.media_rows.specs.declared.row.MediaRow.{MediaRow}
 use Rattle.media_list.proofs.OneOutcome.{list_once as media_list_once}
-use Rattle.tool_steps.specs.declared.faults.ToolFault.{ToolFault}
-use Rattle.tool_steps.proofs.OneGathered.{concat_sure}
-use Rattle.tool_steps.proofs.OneOutcome.{one_result, never_both, one_fault}
+use Rattle.flat_timelines.specs.declared.step_faults.ToolFault.{ToolFault}
+use Rattle.flat_timelines.proofs.OneGathered.{concat_sure}
+use Rattle.flat_timelines.proofs.OneOutcome.{one_result, never_both, one_fault}
 
 -- ---- why there is no timeline of what a file holds, in one way
 

@@ -1,6 +1,6 @@
 -- What is written of a timeline doesn't depend on its spare memory.
 use Rattle.std.proofs.Common.{◌≡◌, ap}
-use Rattle.json_layout.specs.Layout.{layout}
+use Rattle.json_text.specs.Layout.{layout}
 use Rattle.otio_model.specs.declared.roots.Object.{Object}
 use Rattle.otio_model.specs.declared.timelines.Timeline.{Timeline}
 use Rattle.otio_model.specs.Timelines.{bare}

@@ -2,7 +2,7 @@
 use Rattle.std.proofs.Common.{◌≡◌, ◌≢◌, List, [], ◌∷◌, ◌++◌, Some, None, length, refl, sym, ap, ◌∙◌, arith}
 use Rattle.std.specs.Global.{Vec}
 use Rattle.media_rows.specs.declared.row.MediaRow.{MediaRow}
-use Rattle.script_text.specs.declared.commands.Command as script
+use Rattle.edit_script.specs.declared.commands.Command as script
 use Rattle.media_rows.specs.Rows.{MediaRows}
 use Rattle.source_files.specs.declared.kinds.Content.{Content}
 use Rattle.source_files.specs.declared.kinds.Content.TheVariants as content

@@ -6,7 +6,7 @@ use Rattle.dev_io.specs.Calls.{Tells}
 use Rattle.otio_model.specs.declared.roots.Object.{Object, Timeline as ObjectOfTimeline}
 use Rattle.schema_write.specs.Objects.{json_of, timeline_json}
 use Rattle.schema_write.proofs.Trees.{json_of-Timeline}
-use Rattle.fault_text.specs.Reasons.{reason_text}
+use Rattle.source_files.specs.Reasons.{reason_text}
 use Rattle.tick_time.specs.declared.rates.Rate.{Rate}
 use Rattle.source_files.specs.Order.{EachIs, FirstIsNot}
 use Rattle.source_files.specs.Formats.{Suits}
@@ -14,11 +14,11 @@ use Rattle.source_files.specs.Reading.{Source, IsRead, IsUnread, IsRefused, Stop
 use Rattle.source_files.specs.declared.kinds.Kind.TheVariants as kinds
 use Rattle.source_files.specs.declared.kinds.Content.{Content}
 use Rattle.source_files.specs.declared.kinds.Content.TheVariants as content
-use Rattle.source_files.specs.declared.faults.Refusal.{Refusal}
-use Rattle.source_files.specs.declared.faults.Refusal.TheVariants.{Broken, Memory}
-use Rattle.source_files.specs.declared.faults.ReadFault.{ReadFault}
-use Rattle.source_files.specs.declared.faults.ReadFault.TheVariants.{Absent, Failed, Refused}
-use Rattle.source_files.specs.declared.faults.SourceFault.{SourceFault}
+use Rattle.source_files.specs.declared.file_faults.Refusal.{Refusal}
+use Rattle.source_files.specs.declared.file_faults.Refusal.TheVariants.{Broken, Memory}
+use Rattle.source_files.specs.declared.file_faults.ReadFault.{ReadFault}
+use Rattle.source_files.specs.declared.file_faults.ReadFault.TheVariants.{Absent, Failed, Refused}
+use Rattle.source_files.specs.declared.file_faults.SourceFault.{SourceFault}
 use Rattle.source_files.proofs.Handing.{refused_by}
 use Rattle.source_files.proofs.Order.{first_for}
 use Rattle.command_words.specs.declared.requests.Command.{Command}
@@ -30,18 +30,18 @@ use Rattle.edl_frames.specs.Counted.{item_count}
 use Rattle.edl_frames.specs.Faults.{IsConformFault}
 use Rattle.edl_frames.specs.declared.faults.ConformFault.{ConformFault}
 use Rattle.edl_frames.specs.declared.faults.ConformFault.TheVariants as conform
-use Rattle.fault_text.specs.Faults.{conform_fault_text, coord_fault_text, not_carried_text}
+use Rattle.source_files.specs.Faults.{conform_fault_text, coord_fault_text, not_carried_text}
 use Rattle.coord.specs.Soundness.{IsFaultless, IsFaultOf}
 use Rattle.coord.specs.declared.faults.CoordFault.{CoordFault}
 use Rattle.coord.specs.declared.faults.CoordFault.TheVariants as coord
 use Rattle.edl_frames.specs.Carried.{not_carried, IsListOf, IsNotCarried}
-use Rattle.edl_frames_law.specs.Premises.{AreListed}
+use Rattle.edl_law.specs.Premises.{AreListed}
 use Rattle.edl_frames.specs.declared.reasons.NotCarried.{NotCarried}
 use Rattle.edl_frames.specs.declared.reasons.NotCarried.TheVariants as carried
 use Rattle.command_words.specs.declared.requests.FramesAsked.{FramesAsked}
 use Rattle.otio_tools.specs.Frames.{AnswersTimeline, Unsound}
 use Rattle.otio_tools.specs.Carried.{AnswersCarried, NotSound, Left}
-use Rattle.edl_frames_law.proofs.ItemCounts.{timeline_count}
+use Rattle.edl_law.proofs.ItemCounts.{timeline_count}
 use Rattle.limits.specs.Limits.{most_items}
 use Rattle.otio_model.specs.Counts.{count as count_below}
 use Rattle.otio_tools.specs.Asked.{Asked, one_file, media_source, kind_of}

@@ -3,13 +3,13 @@ use Rattle.std.proofs.Common.{◌≡◌, ◌≢◌, ℕ, List, [], Some, None, R
 use Rattle.std.specs.declared.option.Option.{Option}
 use Rattle.dev_io.specs.Known.{KnownFiles, KnownOut}
 use Rattle.dev_io.specs.Calls.{Tells, Adds, AddsPrefix, SendsAll, Aims}
-use Rattle.frame_rows.specs.declared.listing.RowFault.{RowFault}
-use Rattle.frame_rows.specs.declared.listing.RowFault.TheVariants.{Sink, Memory as NoMemory}
+use Rattle.listings.specs.declared.listing.RowFault.{RowFault}
+use Rattle.listings.specs.declared.listing.RowFault.TheVariants.{Sink, Memory as NoMemory}
 use Rattle.source_files.specs.Reading.{Held, RaisedAt, RaisedBy, EndsWith}
-use Rattle.source_files.specs.declared.faults.Refusal.TheVariants.{Broken, Memory as WantOfMemory}
-use Rattle.source_files.specs.declared.faults.ReadFault.{ReadFault}
-use Rattle.source_files.specs.declared.faults.ReadFault.TheVariants as fault
-use Rattle.source_files.specs.declared.faults.SourceFault.{SourceFault}
+use Rattle.source_files.specs.declared.file_faults.Refusal.TheVariants.{Broken, Memory as WantOfMemory}
+use Rattle.source_files.specs.declared.file_faults.ReadFault.{ReadFault}
+use Rattle.source_files.specs.declared.file_faults.ReadFault.TheVariants as fault
+use Rattle.source_files.specs.declared.file_faults.SourceFault.{SourceFault}
 use Rattle.command_words.specs.Asked.{Ask, AskNothing, NoRequest, OtherNames}
 use Rattle.command_words.specs.declared.faults.WordsFault.{WordsFault}
 use Rattle.command_words.specs.declared.requests.Command.{Command}

@@ -8,7 +8,7 @@ use Rattle.dev_io.specs.Known.{KnownFiles}
 use Rattle.dev_io.specs.Calls.{Tells}
 use Rattle.otio_model.specs.declared.timelines.Timeline.{Timeline}
 use Rattle.media_rows.specs.Rows.{MediaRows}
-use Rattle.fault_text.specs.Reasons.{reason_text}
+use Rattle.source_files.specs.Reasons.{reason_text}
 use Rattle.media_rows.specs.declared.row.MediaRow.{MediaRow}
 use Rattle.source_files.specs.Order.{EachIs, FirstIsNot}
 use Rattle.source_files.specs.Formats.{Suits}
@@ -18,11 +18,11 @@ use Rattle.source_files.specs.declared.kinds.Kind.{Kind}
 use Rattle.source_files.specs.declared.kinds.Kind.TheVariants as kinds
 use Rattle.source_files.specs.declared.kinds.Content.{Content}
 use Rattle.source_files.specs.declared.kinds.Content.TheVariants as content
-use Rattle.source_files.specs.declared.faults.Refusal.{Refusal}
-use Rattle.source_files.specs.declared.faults.Refusal.TheVariants.{Broken, Memory}
-use Rattle.source_files.specs.declared.faults.ReadFault.{ReadFault}
-use Rattle.source_files.specs.declared.faults.ReadFault.TheVariants.{Absent, Failed, Refused}
-use Rattle.source_files.specs.declared.faults.SourceFault.{SourceFault}
+use Rattle.source_files.specs.declared.file_faults.Refusal.{Refusal}
+use Rattle.source_files.specs.declared.file_faults.Refusal.TheVariants.{Broken, Memory}
+use Rattle.source_files.specs.declared.file_faults.ReadFault.{ReadFault}
+use Rattle.source_files.specs.declared.file_faults.ReadFault.TheVariants.{Absent, Failed, Refused}
+use Rattle.source_files.specs.declared.file_faults.SourceFault.{SourceFault}
 use Rattle.source_files.proofs.Order.{each_more, first_behind, first_for}
 use Rattle.command_words.specs.Asked.{OtherNames}
 use Rattle.command_words.specs.Names.{IsListName}
@@ -36,12 +36,12 @@ use Rattle.otio_tools.specs.Opened.{AnswersOpened, AnswersUnopened, Input, IsOpe
 use Rattle.otio_tools.specs.Plan.{IsDesk, IsEditable, IsRefusedAs, LeavesWork, Plans, PlansAs, PlansHeld, media_content, text_planned}
 use Rattle.otio_tools.specs.Several.{AnswersTimelines, AreInputs, HasJoining, IsOpening, IsRefusedAt, StopsOpening, named_inputs, names_now}
 use Rattle.otio_tools.specs.Tools.{AnswersJoined, AnswersTool, Joined, NotJoined, NotWorked, Worked, name_told, tool_fault_text, tool_text}
-use Rattle.tool_steps.specs.Chains.{Told}
-use Rattle.tool_steps.specs.Gathered.{IsConcat, IsConcatFault}
-use Rattle.tool_steps.specs.Ready.{IsReady}
-use Rattle.tool_steps.specs.Tooled.{IsTooled, IsToolFault}
-use Rattle.tool_steps.specs.declared.faults.ToolFault.{ToolFault}
-use Rattle.tool_steps.specs.declared.faults.ToolFault.TheVariants as tool
+use Rattle.flat_timelines.specs.Chains.{Told}
+use Rattle.flat_timelines.specs.Gathered.{IsConcat, IsConcatFault}
+use Rattle.flat_timelines.specs.Ready.{IsReady}
+use Rattle.flat_timelines.specs.Tooled.{IsTooled, IsToolFault}
+use Rattle.flat_timelines.specs.declared.step_faults.ToolFault.{ToolFault}
+use Rattle.flat_timelines.specs.declared.step_faults.ToolFault.TheVariants as tool
 use Rattle.otio_model.specs.declared.roots.Object.{Timeline as ObjectOfTimeline}
 use Rattle.command_words.specs.declared.tools.ToolAsked.{ToolAsked}
 use Rattle.otio_tools.proofs.Planning.{held_planned, stop_planned}

@@ -4,15 +4,15 @@ use Rattle.otio_model.specs.declared.timelines.Timeline.{Timeline}
 use Rattle.coord.specs.Soundness.{IsSound}
 use Rattle.undo_log.specs.Histories.{History}
 use Rattle.undo_log.specs.States.{IsKept, State, state_of}
-use Rattle.script_text.specs.declared.commands.Command as script
+use Rattle.edit_script.specs.declared.commands.Command as script
 use Rattle.edit_script.specs.Keeping.{HoldsEdits}
 use Rattle.edit_script.specs.Runs.{Halts, Runs}
 use Rattle.edit_script.specs.declared.faults.CommandFault.{CommandFault}
 use Rattle.media_rows.specs.Rows.{MediaRows}
 use Rattle.edit_script.specs.declared.faults.CommandFault.TheVariants as command
 use Rattle.source_files.specs.Reading.{IsRefused}
-use Rattle.source_files.specs.declared.faults.Refusal.{Refusal}
-use Rattle.source_files.specs.declared.faults.Refusal.TheVariants.{Broken, Memory}
+use Rattle.source_files.specs.declared.file_faults.Refusal.{Refusal}
+use Rattle.source_files.specs.declared.file_faults.Refusal.TheVariants.{Broken, Memory}
 use Rattle.script_law.specs.Shown.{opened}
 use Rattle.script_law.proofs.Starting.{start_holds, start_state}
 use Rattle.script_law.proofs.Steps.{commands_follow}

@@ -4,10 +4,10 @@ use Rattle.std.specs.declared.option.Option.{Option}
 use Rattle.dev_io.specs.Known.{KnownFiles}
 use Rattle.dev_io.specs.Calls.{Tells}
 use Rattle.source_files.specs.Reading.{Held}
-use Rattle.source_files.specs.declared.faults.Refusal.TheVariants.{Broken, Memory as WantOfMemory}
-use Rattle.source_files.specs.declared.faults.ReadFault.{ReadFault}
-use Rattle.source_files.specs.declared.faults.ReadFault.TheVariants as fault
-use Rattle.source_files.specs.declared.faults.SourceFault.{SourceFault}
+use Rattle.source_files.specs.declared.file_faults.Refusal.TheVariants.{Broken, Memory as WantOfMemory}
+use Rattle.source_files.specs.declared.file_faults.ReadFault.{ReadFault}
+use Rattle.source_files.specs.declared.file_faults.ReadFault.TheVariants as fault
+use Rattle.source_files.specs.declared.file_faults.SourceFault.{SourceFault}
 use Rattle.command_words.specs.Asked.{Ask, IsRequest, OtherNames}
 use Rattle.command_words.specs.Given.{Given}
 use Rattle.command_words.specs.declared.names.Verb.{Verb}

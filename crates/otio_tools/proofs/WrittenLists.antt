@@ -14,12 +14,12 @@ use Rattle.edl_frames.specs.Seats.{is_there}
 use Rattle.edl_frames.specs.Carried.{not_carried, IsListOf}
 use Rattle.edl_frames.specs.declared.reasons.Why.{Why}
 use Rattle.edl_frames.specs.declared.reasons.Why.TheVariants as why
-use Rattle.edl_frames_law.specs.Premises.{AreListed}
-use Rattle.edl_frames_law.proofs.ListDays.{list_is_fine}
-use Rattle.edl_frames_law.proofs.ListShows.{carried_all}
-use Rattle.edl_layout.specs.Spelling.{spelling}
-use Rattle.edl_written_law.specs.Kept.{KeepsFrames}
-use Rattle.edl_written_law.proofs.KeptFrames.{frames_kept}
+use Rattle.edl_law.specs.Premises.{AreListed}
+use Rattle.edl_law.proofs.ListDays.{list_is_fine}
+use Rattle.edl_law.proofs.ListShows.{carried_all}
+use Rattle.edl_text.specs.Spelling.{spelling}
+use Rattle.edl_law.specs.Kept.{KeepsFrames}
+use Rattle.edl_law.proofs.KeptFrames.{frames_kept}
 use Rattle.otio_tools.specs.Carried.{HasTexts}
 use Rattle.otio_tools.specs.Plan.{IsWritableIn}
 

@@ -1,7 +1,7 @@
 -- The answer to words and files.
 use Rattle.std.specs.Prelude.{◌≡◌, ◌||◌, ℕ, List, ◌∷◌, None}
 use Rattle.std.specs.declared.option.Option.{Option}
-use Rattle.json_layout.specs.Layout.{layout}
+use Rattle.json_text.specs.Layout.{layout}
 use Rattle.source_files.specs.Order.{FirstIsNot}
 use Rattle.source_files.specs.Reading.{Held, Source, IsRead, AreRead, IsRefusedIn}
 use Rattle.source_files.specs.declared.kinds.Content.{Content}

@@ -12,8 +12,8 @@ use Rattle.edl_frames.specs.Carried.{not_carried, IsListOf, IsNotCarried}
 use Rattle.edl_frames.specs.declared.reasons.NotCarried.{NotCarried}
 use Rattle.edl_frames.specs.declared.reasons.NotCarried.TheVariants as carried
 use Rattle.edl_law.specs.Law.{HasNames}
-use Rattle.edl_layout.specs.Spelling.{spelling}
-use Rattle.fault_text.specs.Faults.{coord_fault_text, not_carried_text}
+use Rattle.edl_text.specs.Spelling.{spelling}
+use Rattle.source_files.specs.Faults.{coord_fault_text, not_carried_text}
 use Rattle.otio_tools.specs.Forms.{Answer, done, refused}
 
 -- the title and the names of clips are UTF-8, as each text is

@@ -10,7 +10,7 @@ use Rattle.edl_frames.specs.Counted.{item_count}
 use Rattle.edl_frames.specs.Faults.{IsConformFault}
 use Rattle.edl_frames.specs.declared.faults.ConformFault.{ConformFault}
 use Rattle.edl_frames.specs.declared.faults.ConformFault.TheVariants.{Memory}
-use Rattle.fault_text.specs.Faults.{conform_fault_text}
+use Rattle.source_files.specs.Faults.{conform_fault_text}
 use Rattle.source_files.specs.declared.kinds.Content.{Content}
 use Rattle.source_files.specs.declared.kinds.Content.TheVariants.{Value, Root, Film, Events, Rows, Commands}
 use Rattle.otio_tools.specs.Forms.{Answer, refused}

@@ -6,14 +6,14 @@ use Rattle.coord.specs.Soundness.{IsFaultless, IsFaultOf}
 use Rattle.coord.specs.declared.faults.CoordFault.{CoordFault}
 use Rattle.coord.specs.declared.faults.CoordFault.TheVariants as coord
 use Rattle.undo_log.specs.States.{State, IsKept, state_of}
-use Rattle.script_text.specs.declared.commands.Command.{Command}
+use Rattle.edit_script.specs.declared.commands.Command.{Command}
 use Rattle.edit_script.specs.Runs.{Runs, Halts}
 use Rattle.edit_script.specs.Keeping.{HoldsEdits}
 use Rattle.script_law.specs.Shown.{IsEditedFrom, opened}
 use Rattle.edit_script.specs.declared.faults.CommandFault.{CommandFault}
 use Rattle.media_rows.specs.Rows.{MediaRows}
 use Rattle.edit_script.specs.declared.faults.CommandFault.TheVariants as command
-use Rattle.fault_text.specs.Faults.{coord_fault_text, edit_fault_text, far_command_text, undo_fault_text, unlisted_text}
+use Rattle.source_files.specs.Faults.{coord_fault_text, edit_fault_text, far_command_text, undo_fault_text, unlisted_text}
 use Rattle.otio_tools.specs.Forms.{Answer, done, refused}
 use Rattle.otio_tools.specs.Written.{timeline_text}
 use Rattle.otio_tools.specs.declared.Desk.{Desk}

@@ -5,10 +5,10 @@ use Rattle.std.specs.declared.option.Option.{Option}
 use Rattle.smpte_tc.specs.Modes.{mode_of}
 use Rattle.edl_list.specs.Layouts.{layout_of, most_events, FitsLayout}
 use Rattle.edl_list.specs.declared.list.EventList.{EventList}
-use Rattle.edl_layout.specs.Labelled.{IsFirstPast}
-use Rattle.edl_layout.specs.Wide.{IsFirstWide}
-use Rattle.edl_layout.specs.Spelling.{spelling}
-use Rattle.fault_text.specs.Faults.{no_timecode_text, events_text, reel_text, day_text}
+use Rattle.edl_text.specs.Labelled.{IsFirstPast}
+use Rattle.edl_text.specs.Wide.{IsFirstWide}
+use Rattle.edl_text.specs.Spelling.{spelling}
+use Rattle.source_files.specs.Faults.{no_timecode_text, events_text, reel_text, day_text}
 use Rattle.otio_tools.specs.Forms.{Answer, done, refused}
 
 -- The rate of the list has timecode in that mode, and the layout has a number for each event and

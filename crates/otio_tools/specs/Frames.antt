@@ -7,9 +7,9 @@ use Rattle.command_words.specs.declared.requests.FramesAsked.{FramesAsked}
 use Rattle.coord.specs.Soundness.{IsFaultless, IsFaultOf}
 use Rattle.coord.specs.declared.faults.CoordFault.{CoordFault}
 use Rattle.coord.specs.declared.faults.CoordFault.TheVariants.{Memory}
-use Rattle.fault_text.specs.Faults.{coord_fault_text, range_text}
-use Rattle.frame_rows.specs.Rows.{listing_of, listing_text}
-use Rattle.frame_rows.specs.declared.listing.Listing.{Listing}
+use Rattle.source_files.specs.Faults.{coord_fault_text, range_text}
+use Rattle.listings.specs.Rows.{listing_of, listing_text}
+use Rattle.listings.specs.declared.listing.Listing.{Listing}
 use Rattle.otio_tools.specs.Forms.{Answer, done, refused}
 
 -- The first fault of a timeline that isn't sound, told of the file of that name; then a start that

@@ -6,7 +6,7 @@ use Rattle.dev_io.specs.Known.{KnownFiles}
 use Rattle.otio_model.specs.declared.timelines.Timeline.{Timeline}
 use Rattle.media_list.specs.Lists.{IsMediaList}
 use Rattle.media_rows.specs.Rows.{MediaRows}
-use Rattle.edl_written_law.specs.Kept.{KeepsFrames}
+use Rattle.edl_law.specs.Kept.{KeepsFrames}
 use Rattle.source_files.specs.Formats.{IsTimeline}
 use Rattle.source_files.specs.Reading.{Held}
 use Rattle.command_words.specs.Asked.{Ask, OtherNames}

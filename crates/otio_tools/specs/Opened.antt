@@ -13,7 +13,7 @@ use Rattle.edl_frames.specs.Counted.{item_count}
 use Rattle.edl_frames.specs.Faults.{IsConformFault}
 use Rattle.edl_frames.specs.declared.faults.ConformFault.{ConformFault}
 use Rattle.edl_frames.specs.declared.faults.ConformFault.TheVariants as conform
-use Rattle.fault_text.specs.Faults.{coord_fault_text, conform_fault_text}
+use Rattle.source_files.specs.Faults.{coord_fault_text, conform_fault_text}
 use Rattle.source_files.specs.Order.{EachIs, FirstIsNot}
 use Rattle.source_files.specs.Reading.{Source}
 use Rattle.source_files.specs.declared.kinds.Content.{Content}

@@ -2,39 +2,39 @@
 use Rattle.std.specs.Prelude.{◌≡◌, ◌≢◌, ◌⊎◌, ◌<◌, ◌≤◌, ◌^◌, ℕ, Bool, List, [], ◌∷◌, Some, None, Result, Ok, Err, MatchResult}
 use Rattle.std.specs.declared.option.Option.{Option}
 use Rattle.std.specs.Global.{Vec}
-use Rattle.json_layout.specs.Layout.{layout}
+use Rattle.json_text.specs.Layout.{layout}
 use Rattle.edl_list.specs.Formed.{IsWellFormed}
 use Rattle.edl_list.specs.declared.list.EventList.{EventList}
-use Rattle.edl_layout.specs.Labelled.{IsFirstPast}
-use Rattle.edl_layout.specs.Spelling.{spelling}
+use Rattle.edl_text.specs.Labelled.{IsFirstPast}
+use Rattle.edl_text.specs.Spelling.{spelling}
 use Rattle.otio_model.specs.Counts.{count as count_below}
 use Rattle.otio_model.specs.declared.timelines.Timeline.{Timeline}
 use Rattle.coord.specs.Soundness.{IsFaultless}
 use Rattle.undo_log.specs.States.{State}
 use Rattle.edit_script.specs.Runs.{Halts}
 use Rattle.edit_script.specs.declared.faults.CommandFault.{CommandFault}
-use Rattle.script_text.specs.declared.commands.Command as script
+use Rattle.edit_script.specs.declared.commands.Command as script
 use Rattle.source_files.specs.Formats.{IsOfTables, Suits}
-use Rattle.frame_rows.specs.Rows.{listing_text}
-use Rattle.frame_rows.specs.declared.listing.RowFault.{RowFault}
-use Rattle.frame_rows.specs.declared.listing.RowFault.TheVariants.{Sink, Memory as NoMemory}
-use Rattle.fault_text.specs.Reasons.{reason_text}
+use Rattle.listings.specs.Rows.{listing_text}
+use Rattle.listings.specs.declared.listing.RowFault.{RowFault}
+use Rattle.listings.specs.declared.listing.RowFault.TheVariants.{Sink, Memory as NoMemory}
+use Rattle.source_files.specs.Reasons.{reason_text}
 use Rattle.source_files.specs.Order.{FirstIsNot}
 use Rattle.source_files.specs.Reading.{Held, Source, IsRead, AreRead, IsRefused, EndsWith}
 use Rattle.source_files.specs.declared.kinds.Content.{Content}
 use Rattle.source_files.specs.declared.kinds.Content.TheVariants as content
-use Rattle.source_files.specs.declared.faults.Refusal.{Refusal}
-use Rattle.source_files.specs.declared.faults.Refusal.TheVariants.{Broken, Memory}
-use Rattle.source_files.specs.declared.faults.ReadFault.{ReadFault}
-use Rattle.source_files.specs.declared.faults.ReadFault.TheVariants.{Absent, Failed, Refused}
-use Rattle.source_files.specs.declared.faults.SourceFault.{SourceFault}
+use Rattle.source_files.specs.declared.file_faults.Refusal.{Refusal}
+use Rattle.source_files.specs.declared.file_faults.Refusal.TheVariants.{Broken, Memory}
+use Rattle.source_files.specs.declared.file_faults.ReadFault.{ReadFault}
+use Rattle.source_files.specs.declared.file_faults.ReadFault.TheVariants.{Absent, Failed, Refused}
+use Rattle.source_files.specs.declared.file_faults.SourceFault.{SourceFault}
 use Rattle.command_words.specs.declared.requests.Command.{Command}
 use Rattle.command_words.specs.declared.requests.Command.TheVariants.{Edit, ListEdit}
 use Rattle.dev_io.specs.Known.{KnownFiles, KnownOut}
 use Rattle.dev_io.specs.Causes.{Rose}
 use Rattle.media_rows.specs.Rows.{MediaRows}
 use Rattle.edl_frames.specs.Carried.{not_carried, IsListOf}
-use Rattle.edl_frames_law.specs.Premises.{AreListed}
+use Rattle.edl_law.specs.Premises.{AreListed}
 use Rattle.otio_tools.specs.Asked.{Asked, EditsTimeline, ListsFrames, kind_of}
 use Rattle.otio_tools.specs.Forms.{Answer, done, refused, absent, message_of, read_failed}
 use Rattle.otio_tools.specs.Events.{CanBeWritten}

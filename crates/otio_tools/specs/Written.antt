@@ -2,11 +2,11 @@
 use Rattle.std.specs.Prelude.{◌≡◌, ℕ, List}
 use Rattle.std.specs.declared.option.Option.{Option}
 use Rattle.json_value.specs.declared.Json.{Json}
-use Rattle.json_layout.specs.Layout.{layout}
+use Rattle.json_text.specs.Layout.{layout}
 use Rattle.otio_model.specs.declared.roots.Object.{Object, Timeline as ObjectOfTimeline}
 use Rattle.otio_model.specs.declared.timelines.Timeline.{Timeline}
 use Rattle.schema_write.specs.Objects.{json_of}
-use Rattle.listings.specs.Texts.{listed_text}
+use Rattle.listings.specs.ListingTexts.{listed_text}
 use Rattle.listings.specs.declared.asked.Listings.{Listings}
 use Rattle.otio_tools.specs.Forms.{Answer, done}
 

@@ -2,7 +2,7 @@
 ghost use Rattle.std.specs.Prelude.{◌≡◌, ◌≢◌, ◌<◌, ◌^◌, ℕ, List, IfOk, IfErr};
 ghost use Rattle.otio_model.specs.Counts.{count as count_below};
 ghost use Rattle.edl_list.specs.Formed.{IsWellFormed};
-ghost use Rattle.fault_text.specs.Faults.{conform_fault_text};
+ghost use Rattle.source_files.specs.Faults.{conform_fault_text};
 ghost use Rattle.source_files.specs.Reading.{IsRefused};
 ghost use Rattle.edl_frames.specs.Faults.{IsConformFault};
 ghost use Rattle.otio_tools.specs.Conformed.{AnswersConformed};
@@ -17,10 +17,9 @@ use command_words::FramesAsked;
 use edl_conform::conform;
 use edl_frames::ConformFault;
 use edl_list::EventList;
-use fault_text::conform_reason;
 use media_list::MediaList;
 use otio_model::{Object, Timeline};
-use source_files::Refusal;
+use source_files::{Refusal, conform_reason};
 use std::alloc::Global;
 use std::mem;
 

@@ -12,7 +12,7 @@ use crate::{Desk, Status};
 use command_words::DrillAsked;
 use dev_io::Out;
 use drill::{Drilled, Tally, drill, write_tally};
-use frame_rows::RowFault;
+use listings::RowFault;
 use std::alloc::Global;
 use std::mem;
 

@@ -4,7 +4,7 @@ ghost use Rattle.std.specs.Option.{option_copied};
 ghost use Rattle.otio_model.specs.Counts.{count as count_below};
 ghost use Rattle.coord.specs.Soundness.{IsSound, IsCalm};
 ghost use Rattle.edl_list.specs.Formed.{IsWellFormed};
-ghost use Rattle.fault_text.specs.Reasons.{reason_text};
+ghost use Rattle.source_files.specs.Reasons.{reason_text};
 ghost use Rattle.source_files.specs.Reading.{IsRefused};
 ghost use Rattle.object_law.specs.Writable.{IsTimeline as IsWritable};
 ghost use Rattle.otio_tools.specs.Edited.{IsWorkOn, command_fault_text};
@@ -15,14 +15,14 @@ use crate::Desk;
 use crate::conformed::not_conformed;
 use crate::frames::unsound;
 use coord::sound;
-use edit_script::{CommandFault, apply_script};
+use edit_script::{Command, CommandFault, apply_script};
 use edl_conform::conform;
 use edl_list::EventList;
-use fault_text::{Reason, edit_reason, far_command_reason, undo_reason, unlisted_reason};
 use media_list::MediaList;
 use otio_model::{EditFault, Timeline};
-use script_text::Command;
-use source_files::{Content, Refusal};
+use source_files::{
+    Content, Reason, Refusal, edit_reason, far_command_reason, undo_reason, unlisted_reason,
+};
 use std::alloc::Global;
 use std::mem;
 use undo_log::Log;

@@ -2,7 +2,7 @@
 ghost use Rattle.std.specs.Prelude.{◌≡◌, ◌≢◌, ◌<◌, ◌^◌, ℕ, List, IfOk};
 ghost use Rattle.otio_model.specs.Counts.{count as count_below};
 ghost use Rattle.coord.specs.Soundness.{IsFaultless};
-ghost use Rattle.fault_text.specs.Faults.{coord_fault_text};
+ghost use Rattle.source_files.specs.Faults.{coord_fault_text};
 ghost use Rattle.source_files.specs.Reading.{IsRefused};
 ghost use Rattle.otio_tools.specs.Frames.{AnswersTimeline};
 ghost use Rattle.otio_tools.specs.Plan.{Fits, IsDesk, Suffices};
@@ -10,10 +10,9 @@ ghost use Rattle.otio_tools.specs.Plan.{Fits, IsDesk, Suffices};
 use crate::planned::Planned;
 use command_words::FramesAsked;
 use coord::{CoordFault, sound};
-use fault_text::{coord_reason, range_reason};
-use frame_rows::listing_of;
+use listings::listing_of;
 use otio_model::Timeline;
-use source_files::Refusal;
+use source_files::{Refusal, coord_reason, range_reason};
 use std::alloc::Global;
 use std::mem;
 

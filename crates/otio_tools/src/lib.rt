@@ -38,7 +38,7 @@ pub struct Desk {
 }
 
 /// How a run ended. The number beside each is the exit status of the program.
-#[derive(Clone, Copy, Debug, PartialEq, Eq)]
+#[derive(Clone, Copy, PartialEq, Eq)]
 pub enum Status {
     /// 0: all input was read to its end, and all output was taken.
     Done,

@@ -3,16 +3,15 @@ ghost use Rattle.std.specs.Prelude.{◌≡◌, ◌↔◌, ◌||◌, ℕ, List, S
 ghost use Rattle.smpte_tc.specs.Modes.{mode_of};
 ghost use Rattle.edl_list.specs.Formed.{IsWellFormed};
 ghost use Rattle.edl_list.specs.Layouts.{layout_of, FitsEvent};
-ghost use Rattle.edl_layout.specs.Wide.{IsFirstWide};
+ghost use Rattle.edl_text.specs.Wide.{IsFirstWide};
 ghost use Rattle.otio_tools.specs.Events.{AnswersEvents, CanBeWritten};
 ghost use Rattle.otio_tools.specs.Plan.{AreRows, Fits, IsDesk, Suffices};
 
 use crate::planned::Planned;
-use edl_layout::{first_label_past_day, first_wide_reel};
 use edl_list::{EventList, most_events};
-use fault_text::{day_reason, events_reason, no_timecode_reason, reel_reason};
+use edl_text::{first_label_past_day, first_wide_reel};
 use smpte_tc::{TcFault, label};
-use source_files::Refusal;
+use source_files::{Refusal, day_reason, events_reason, no_timecode_reason, reel_reason};
 use std::mem;
 use tick_time::Rate;
 

@@ -2,10 +2,10 @@
 ghost use Rattle.std.specs.Prelude.{◌≡◌, ◌≢◌, ◌<◌, ◌^◌, ◌++◌, ◌∷◌, [], ℕ, List, Option, All, true, IfErr, IfOk, IfSome, get_or, length, map, suc};
 ghost use Rattle.std.specs.Vec.Iter.{into_iter_items};
 ghost use Rattle.otio_model.specs.Counts.{count as count_below};
-ghost use Rattle.tool_steps.specs.Ready.{IsReady};
+ghost use Rattle.flat_timelines.specs.Ready.{IsReady};
 ghost use Rattle.std.specs.Option.{option_copied};
 ghost use Rattle.dev_io.specs.Calls.{Tells};
-ghost use Rattle.fault_text.specs.Reasons.{reason_text};
+ghost use Rattle.source_files.specs.Reasons.{reason_text};
 ghost use Rattle.source_files.specs.Order.{EachIs, FirstIsNot};
 ghost use Rattle.source_files.specs.Formats.{Suits};
 ghost use Rattle.source_files.specs.Reading.{IsRefused, RaisedAt, source_of};
@@ -23,15 +23,17 @@ use crate::edited::opened_timeline;
 use crate::planned::Planned;
 use command_words::{Command, Others, ToolAsked, is_list_name};
 use dev_io::Files;
-use fault_text::{Reason, coord_reason, flat_reason, items_reason};
+use flat_timelines::{ToolFault, concatenated, tooled};
 use listings::Listings;
 use media_list::MediaList;
 use otio_model::{Object, Timeline};
-use source_files::{Content, Kind, ReadFault, Refusal, Source, SourceFault, read_sources};
+use source_files::{
+    Content, Kind, ReadFault, Reason, Refusal, Source, SourceFault, coord_reason, flat_reason,
+    items_reason, read_sources,
+};
 use std::alloc::{AllocError, Global};
 use std::mem;
 use std::vec::IntoIter;
-use tool_steps::{ToolFault, concatenated, tooled};
 
 /// What a command on several files is to send for the file of that name and the others: the files
 /// are read, and then the command is judged over what they hold.

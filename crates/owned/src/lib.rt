@@ -9,7 +9,6 @@ use std::alloc::{AllocError, Global};
 use std::marker::Model;
 
 /// A value in memory of its own, which contracts see as the value.
-#[derive(Debug)]
 pub struct Owned<T> {
     held: Box<T>,
 }

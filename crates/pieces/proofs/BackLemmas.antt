@@ -5,9 +5,9 @@ use Rattle.std.proofs.lemmas.Int.{ints}
 use Rattle.tick_time.specs.declared.rates.Rate.{Rate}
 use Rattle.otio_model.specs.declared.compositions.ItemOf.{ItemOf}
 use Rattle.otio_model.specs.declared.compositions.Listed.{Listed}
-use Rattle.cuts.specs.Children.{Child, Old, ticks, made, all_made, with_first}
-use Rattle.cuts.specs.Cuts.{back, right_piece, olds}
-use Rattle.cuts.specs.Children.{is_far, has_far}
+use Rattle.edits.specs.Children.{Child, Old, ticks, made, all_made, with_first}
+use Rattle.edits.specs.Cuts.{back, right_piece, olds}
+use Rattle.edits.specs.Children.{is_far, has_far}
 use Rattle.pieces.proofs.Tests.{lt_yes, lt_no, le_yes, le_no}
 use Rattle.coord.proofs.Members.{none_left}
 use Rattle.pieces.proofs.Grown.{one_more, same_map}

@@ -14,9 +14,9 @@ use Rattle.otio_model.specs.Speeds.{keeps_speed}
 use Rattle.coord.specs.declared.faults.ItemFault.{ItemFault}
 use Rattle.coord.specs.declared.faults.ItemFault.TheVariants.{NoLength, Speed, Long}
 use Rattle.coord.specs.Soundness.{fault_of, ranged_fault, is_long, media_end, most_end}
-use Rattle.cuts.specs.Children.{ticks, made, Ranged}
-use Rattle.cuts.specs.Cuts.{left_piece, right_piece}
-use Rattle.cuts.specs.Children.{is_far}
+use Rattle.edits.specs.Children.{ticks, made, Ranged}
+use Rattle.edits.specs.Cuts.{left_piece, right_piece}
+use Rattle.edits.specs.Children.{is_far}
 use Rattle.coord.proofs.ShortItems.{trimmed_near}
 use Rattle.pieces.specs.Short.{IsShort, IsCuttable}
 use Rattle.pieces.proofs.Grown.{ticks_are}

@@ -9,9 +9,9 @@ use Rattle.otio_model.specs.Lengths.{length_of}
 use Rattle.otio_model.specs.Lengths.{or_zero}
 use Rattle.coord.proofs.Members.{none_left}
 use Rattle.coord.proofs.SightLemmas.{length_seen}
-use Rattle.cuts.specs.Children.{Old, ticks, made, all_made, with_first, new_gap}
-use Rattle.cuts.specs.Cuts.{front, left_piece}
-use Rattle.cuts.specs.Children.{is_far, has_far}
+use Rattle.edits.specs.Children.{Old, ticks, made, all_made, with_first, new_gap}
+use Rattle.edits.specs.Cuts.{front, left_piece}
+use Rattle.edits.specs.Children.{is_far, has_far}
 use Rattle.pieces.proofs.SameTimes.{or_left}
 use Rattle.pieces.proofs.Tests.{lt_yes, le_yes, le_no}
 

@@ -9,9 +9,9 @@ use Rattle.otio_model.specs.declared.compositions.Listed.{Listed}
 use Rattle.otio_model.specs.Lengths.{length_of, or_zero, trimmed_start}
 use Rattle.coord.specs.Soundness.{fault_of}
 use Rattle.coord.specs.Speeds.{media_at, speed_of}
-use Rattle.cuts.specs.Children.{Ranged, has_far, is_far, plain_gap, ticks}
-use Rattle.cuts.specs.Cuts.{back, front, left_piece, olds, right_piece}
-use Rattle.cuts.specs.Finest.{in_range}
+use Rattle.edits.specs.Children.{Ranged, has_far, is_far, plain_gap, ticks}
+use Rattle.edits.specs.Cuts.{back, front, left_piece, olds, right_piece}
+use Rattle.edits.specs.Finest.{in_range}
 use Rattle.coord.proofs.ShortItems.{trimmed_near}
 use Rattle.pieces.specs.Short.{AreCuttable, IsCuttable}
 use Rattle.pieces.proofs.Faultless.{faultless, faultless_short}

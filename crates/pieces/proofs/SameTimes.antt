@@ -14,10 +14,10 @@ use Rattle.tick_time.specs.declared.times.Time.{Time}
 use Rattle.tick_time.specs.declared.spans.Span.{Span}
 use Rattle.otio_model.specs.declared.compositions.ItemOf.{ItemOf}
 use Rattle.otio_model.specs.declared.compositions.Listed.{Listed}
-use Rattle.cuts.specs.Finest.{finest, in_range}
-use Rattle.cuts.specs.Nears.{is_whole, near_by, near, span_by, span_of}
-use Rattle.cuts.specs.Children.{Ranged, with_range, made, start_rate, length_rate}
-use Rattle.cuts.specs.Children.{is_far}
+use Rattle.edits.specs.Finest.{finest, in_range}
+use Rattle.edits.specs.Nears.{is_whole, near_by, near, span_by, span_of}
+use Rattle.edits.specs.Children.{Ranged, with_range, made, start_rate, length_rate}
+use Rattle.edits.specs.Children.{is_far}
 
 -- spans
 abbrev built_span : (start len : Time) → (pos 0 ≤ℤ len.ticks) → Span

@@ -5,9 +5,9 @@ use Rattle.std.proofs.lemmas.Int.{ints}
 use Rattle.otio_model.specs.declared.compositions.ItemOf.{ItemOf}
 use Rattle.otio_model.specs.declared.compositions.Listed.{Listed}
 use Rattle.coord.specs.Sights.{overlap_of}
-use Rattle.cuts.specs.Splices.{is_stripped}
-use Rattle.cuts.specs.Children.{ticks}
-use Rattle.cuts.specs.Cuts.{strip}
+use Rattle.edits.specs.Splices.{is_stripped}
+use Rattle.edits.specs.Children.{ticks}
+use Rattle.edits.specs.Cuts.{strip}
 use Rattle.coord.proofs.Members.{none_left}
 
 pub meets_before : (a b c : ℤ) → int_lt (a -ℤ b) c ≡ int_lt (pos 0 -ℤ b) (c -ℤ a)

@@ -4,8 +4,8 @@ use Rattle.std.specs.Prelude.{int_lt, int_le}
 use Rattle.std.proofs.lemmas.Int.{ints}
 use Rattle.otio_model.specs.declared.compositions.ItemOf.{ItemOf}
 use Rattle.otio_model.specs.declared.compositions.Listed.{Listed}
-use Rattle.cuts.specs.Children.{ticks}
-use Rattle.cuts.specs.Cuts.{cuts_whole, is_whole_at}
+use Rattle.edits.specs.Children.{ticks}
+use Rattle.edits.specs.Cuts.{cuts_whole, is_whole_at}
 use Rattle.pieces.proofs.Tests.{lt_yes, lt_no, le_yes, le_no}
 use Rattle.coord.proofs.Members.{none_left}
 

@@ -5,7 +5,7 @@ use Rattle.otio_model.specs.declared.compositions.ItemOf.{ItemOf}
 use Rattle.otio_model.specs.declared.compositions.Listed.{Listed}
 use Rattle.otio_model.specs.Counts.{count_of}
 use Rattle.coord.specs.Soundness.{fault_of}
-use Rattle.cuts.specs.Children.{ticks}
+use Rattle.edits.specs.Children.{ticks}
 
 -- an item of fewer than 2^32 items that is at most a million seconds long
 pub record IsShort (x : ItemOf Listed) : Type 0 where

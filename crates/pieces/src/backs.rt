@@ -2,9 +2,9 @@
 
 ghost use Rattle.std.specs.Prelude.{◌≡◌, ◌<◌, ◌≤◌, IfErr, IfOk, Some, true};
 ghost use Rattle.std.specs.Prelude.{length, pos, ◌≤ℤ◌};
-ghost use Rattle.cuts.specs.Children as children;
-ghost use Rattle.cuts.specs.Cuts as cuts;
-ghost use Rattle.cuts.specs.Children.{has_far};
+ghost use Rattle.edits.specs.Children as children;
+ghost use Rattle.edits.specs.Cuts as cuts;
+ghost use Rattle.edits.specs.Children.{has_far};
 ghost use Rattle.pieces.specs.Short.{AreCuttable};
 
 use crate::cutting::right_piece;

@@ -5,9 +5,9 @@ ghost use Rattle.std.specs.Prelude.{◌≡◌, ◌≢◌, ◌<◌, ◌≤◌, �
 ghost use Rattle.std.specs.Prelude.{true, false, pos, unsigned_abs, ◌≤ℤ◌, ◌<ℤ◌, ◌-ℤ◌, ◌*ℤ◌};
 ghost use Rattle.std.specs.Int.{int_div_euclid};
 ghost use Rattle.coord.specs.Speeds as speeds;
-ghost use Rattle.cuts.specs.Children as children;
-ghost use Rattle.cuts.specs.Cuts as cuts;
-ghost use Rattle.cuts.specs.Children.{is_far};
+ghost use Rattle.edits.specs.Children as children;
+ghost use Rattle.edits.specs.Cuts as cuts;
+ghost use Rattle.edits.specs.Children.{is_far};
 ghost use Rattle.pieces.specs.Short.{IsCuttable};
 
 use crate::measures::{start_ticks, ticks_of};
@@ -18,7 +18,7 @@ use std::alloc::Global;
 use tick_time::Rate;
 
 /// Why an item, or a list, isn't cut.
-#[derive(Clone, Copy, Debug, PartialEq, Eq)]
+#[derive(Clone, Copy, PartialEq, Eq)]
 pub enum CutFault {
     /// The cut doesn't fall on a whole tick of the media.
     Phase,

@@ -6,7 +6,7 @@ ghost use Rattle.std.specs.Prelude.{◌-ℤ◌};
 ghost use Rattle.otio_model.specs.Counts.{count_of};
 ghost use Rattle.otio_model.specs.Lengths.{length_of};
 ghost use Rattle.otio_model.specs.Lengths as lengths;
-ghost use Rattle.cuts.specs.Children as children;
+ghost use Rattle.edits.specs.Children as children;
 ghost use Rattle.pieces.specs.Short.{IsShort, IsCuttable};
 
 use coord::trimmed_start;

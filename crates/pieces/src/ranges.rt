@@ -1,15 +1,15 @@
 //! Items with another range.
 
 ghost use Rattle.std.specs.Prelude.{◌≡◌, IfErr, IfOk, Some, pos, ◌≤ℤ◌, true};
-ghost use Rattle.cuts.specs.Children as children;
-ghost use Rattle.cuts.specs.Children.{is_far};
+ghost use Rattle.edits.specs.Children as children;
+ghost use Rattle.edits.specs.Children.{is_far};
 
 use otio_model::{Clip, Item, ItemOf, copy_item};
 use std::alloc::Global;
 use tick_time::{Rate, Span, Time};
 
 /// Why an item isn't made.
-#[derive(Clone, Copy, Debug, PartialEq, Eq)]
+#[derive(Clone, Copy, PartialEq, Eq)]
 pub enum RangedFault {
     /// A start or a length lies beyond a million seconds.
     Range,

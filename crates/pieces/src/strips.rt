@@ -4,8 +4,8 @@ ghost use Rattle.limits.specs.Limits.{most_ticks};
 ghost use Rattle.std.specs.Prelude.{◌≡◌, ◌<◌, ◌≤◌, ◌^◌, IfOk, length};
 ghost use Rattle.std.specs.Prelude.{pos, ◌≤ℤ◌, ◌-ℤ◌, ◌&&◌, int_lt, int_le};
 ghost use Rattle.coord.specs.Sights as sights;
-ghost use Rattle.cuts.specs.Splices as looked;
-ghost use Rattle.cuts.specs.Cuts as cuts;
+ghost use Rattle.edits.specs.Splices as looked;
+ghost use Rattle.edits.specs.Cuts as cuts;
 ghost use Rattle.pieces.specs.Short.{AreShort};
 
 use crate::measures::{member, ticks_of};

@@ -3,8 +3,8 @@
 ghost use Rattle.limits.specs.Limits.{most_ticks};
 ghost use Rattle.std.specs.Prelude.{◌≡◌, ◌<◌, ◌≤◌, IfErr, IfOk, Some, true, false, pos};
 ghost use Rattle.std.specs.Prelude.{◌≤ℤ◌, ◌≢◌};
-ghost use Rattle.cuts.specs.Children as children;
-ghost use Rattle.cuts.specs.Cuts as cuts;
+ghost use Rattle.edits.specs.Children as children;
+ghost use Rattle.edits.specs.Cuts as cuts;
 ghost use Rattle.pieces.specs.Short.{AreCuttable};
 
 use crate::backs::back_items;

@@ -1,5 +1,8 @@
--- Definitions of what a JSON value stands for by the tables of OpenTimelineIO's schemas, and of its
--- first fault.
+-- Definitions of upgraded JSON values, of what a JSON value stands for by the tables of
+-- OpenTimelineIO's schemas, and of its first fault.
+pub mod Names
+pub mod UpgradeRows
+pub mod Upgrades
 pub mod Rows
 pub mod Schemas
 pub mod Numerals

@@ -9,7 +9,7 @@ use std::alloc::{AllocError, AllocFailed};
 
 /// Why a JSON value stands for no object. A place is that of the nearest object that has one: an
 /// effect, a marker, a medium and a time are at the place of their item.
-#[derive(Debug, Drop)]
+#[derive(Drop)]
 pub enum SchemaFault {
     /// S1: not an object, or its `OTIO_SCHEMA` isn't a name without points, a point and a version
     /// of 1 to 9 digits.

@@ -1,5 +1,5 @@
-//! The schemas of OpenTimelineIO: the rows of each as a constant table, and what an object's
-//! members stand for by them.
+//! The schemas of OpenTimelineIO: upgrades of old names and versions in the objects' JSON, the rows
+//! of each schema as a constant table, and what an object's members stand for by them.
 //!
 //! A row has a member's name, the kind of its values and whether the member is needed. An object
 //! gives one value a row, in the order of its schema's table, and its other members are kept in
@@ -11,6 +11,9 @@
 
 mod faults;
 mod laws;
+mod names;
+mod renew;
+mod rewrite;
 mod rows;
 mod schemas;
 mod tables;
@@ -18,6 +21,7 @@ mod values;
 
 pub use faults::SchemaFault;
 pub use laws::names_are_distinct;
+pub use rewrite::upgrade;
 pub use rows::{Field, Kind};
 pub use schemas::{EFFECTS, ITEMS, MARKERS, MEDIA, RANGES, ROOTS, STACKS, Schema, TIMES, named};
 pub use values::{Fields, Matched, RowResult, Value, Values};

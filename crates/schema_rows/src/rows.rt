@@ -1,7 +1,7 @@
 //! Rows of tables.
 
 /// A row of a schema's table.
-#[derive(Clone, Copy, Debug)]
+#[derive(Clone, Copy)]
 pub struct Field {
     /// The name of the member.
     pub name: &'static str,
@@ -13,7 +13,7 @@ pub struct Field {
 }
 
 /// A kind of values.
-#[derive(Clone, Copy, Debug)]
+#[derive(Clone, Copy)]
 pub enum Kind {
     /// A string, with its default.
     Text(&'static str),

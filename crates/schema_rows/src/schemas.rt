@@ -11,7 +11,7 @@ use crate::tables::{
 };
 
 /// A schema that has a table.
-#[derive(Clone, Copy, Debug, PartialEq, Eq)]
+#[derive(Clone, Copy, PartialEq, Eq)]
 pub enum Schema {
     /// `Timeline.1`
     Timeline,

@@ -9,7 +9,7 @@ use sequences::{Sequence, Text};
 use tick_time::{Decimal, Rate, Scalar, Span, Time};
 
 /// What a row of a table holds, by its kind.
-#[derive(Debug, Drop)]
+#[derive(Drop)]
 pub enum Value {
     /// A string.
     Text(Text),
@@ -48,7 +48,7 @@ pub type Values = Sequence<Value>;
 pub type RowResult = Result<Value, SchemaFault>;
 
 /// What an object holds: the values of its schema's rows, and all its other members.
-#[derive(Debug, Drop)]
+#[derive(Drop)]
 pub struct Fields {
     /// Its schema.
     pub schema: Schema,

@@ -1,3 +1,4 @@
+-- Lemmas on written objects.
 pub mod AddedMembers
 pub mod Decimals
 pub mod Distinct
@@ -7,3 +8,5 @@ pub mod Values
 pub mod TableForms
 pub mod ShortDecimals
 pub mod RereadTexts
+pub mod ObjectLines
+pub mod ListLines

@@ -10,15 +10,15 @@ use Rattle.otio_model.specs.declared.editing.Edit.{Edit}
 use Rattle.otio_model.specs.declared.timelines.Timeline.{Timeline}
 use Rattle.coord.specs.declared.faults.ItemFault.{ItemFault}
 use Rattle.coord.specs.declared.faults.ItemFault.TheVariants.{Long}
-use Rattle.cuts.specs.Children.{plain_gap, with_range}
-use Rattle.depths.specs.Editable.{HasEditItem, IsEditItem}
-use Rattle.script_text.specs.declared.commands.Act.{Act}
-use Rattle.script_text.specs.declared.commands.Act.TheVariants as A
-use Rattle.script_text.specs.declared.commands.Put.{Put}
-use Rattle.script_text.specs.declared.commands.Put.TheVariants as P
+use Rattle.edits.specs.Children.{plain_gap, with_range}
+use Rattle.edits_law.specs.Editable.{HasEditItem, IsEditItem}
+use Rattle.edit_script.specs.declared.commands.Act.{Act}
+use Rattle.edit_script.specs.declared.commands.Act.TheVariants as A
+use Rattle.edit_script.specs.declared.commands.Put.{Put}
+use Rattle.edit_script.specs.declared.commands.Put.TheVariants as P
 use Rattle.edit_script.specs.Items.{IsItem, clip_with}
 use Rattle.media_rows.specs.Rows.{MediaRows}
-use Rattle.edit_script.specs.Acts.{IsEditOf, Puts}
+use Rattle.edit_script.specs.RunActs.{IsEditOf, Puts}
 use Rattle.edits.specs.After.{rate_of}
 use Rattle.edit_script.specs.Runs.{AsksFor}
 

@@ -8,10 +8,10 @@ use Rattle.coord.specs.Soundness.{IsSound}
 use Rattle.coord.proofs.SpareLemmas.{sound_bare}
 use Rattle.undo_log.specs.States.{State, moved, turned_some}
 use Rattle.edits.specs.Refusals.{IsAfter}
-use Rattle.edits_sound.proofs.SoundEdits.{stays_sound}
+use Rattle.edits_law.proofs.SoundEdits.{stays_sound}
 use Rattle.edit_plans.proofs.Shown.{shows_through}
-use Rattle.script_text.specs.declared.commands.Act.{Act}
-use Rattle.script_text.specs.declared.commands.Command.{Command}
+use Rattle.edit_script.specs.declared.commands.Act.{Act}
+use Rattle.edit_script.specs.declared.commands.Command.{Command}
 use Rattle.media_rows.specs.Rows.{MediaRows}
 use Rattle.edit_script.specs.Runs.{AsksFor, Runs, Takes, edits, undoes, redoes, moved_on}
 use Rattle.script_law.specs.Shown.{IsEditedFrom, IsShown, opened}

@@ -4,7 +4,7 @@ ghost use Rattle.std.specs.Prelude.{ℕ, List};
 ghost use Rattle.otio_model.specs.declared.timelines.Timeline.{Timeline};
 ghost use Rattle.coord.specs.Soundness.{IsSound};
 ghost use Rattle.undo_log.specs.States.{State};
-ghost use Rattle.script_text.specs.declared.commands.Command.{Command};
+ghost use Rattle.edit_script.specs.declared.commands.Command.{Command};
 ghost use Rattle.media_rows.specs.Rows.{MediaRows};
 ghost use Rattle.edit_script.specs.Runs.{Runs};
 ghost use Rattle.script_law.specs.Shown.{IsEditedFrom, opened};

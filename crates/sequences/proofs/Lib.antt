@@ -5,3 +5,5 @@ pub mod NameTests
 pub mod PairLemmas
 pub mod ShortLemmas
 pub mod TakeLemmas
+mod MergeEnds
+mod PairAt

@@ -13,7 +13,6 @@ use std::mem;
 const FEW: usize = 64;
 
 /// A list of values in order.
-#[derive(Debug)]
 pub struct Sequence<T> {
     items: Vec<T>,
 }

@@ -11,7 +11,6 @@ use std::marker::Model;
 
 /// Values under distinct names, which contracts see as the list of the pairs of a name and a value,
 /// in order.
-#[derive(Debug)]
 pub struct NamedValues<T> {
     pairs: Vec<(Text, T)>,
 }

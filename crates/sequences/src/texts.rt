@@ -4,7 +4,6 @@ ghost use Rattle.std.specs.Prelude.{◌≡◌, [], IfOk, string_bytes};
 
 use crate::short::Short;
 use std::alloc::{AllocError, Global};
-use std::fmt::{self, Debug, Formatter, Write};
 use std::marker::Model;
 
 /// A text in UTF-8, which contracts see as the list of its bytes. A text of few bytes takes no
@@ -100,7 +99,7 @@ impl Text {
 }
 
 /// Memory for a text that is made later, where none may be asked for.
-#[derive(Debug, Drop)]
+#[derive(Drop)]
 pub struct TextRoom {
     text_box: Box<String>,
 }
@@ -111,12 +110,6 @@ impl TextRoom {
         Ok(TextRoom {
             text_box: Box::new(alloc, String::new(alloc))?,
         })
-    }
-}
-
-impl Debug for Text {
-    fn fmt<W: Write>(&self, f: &mut Formatter<W>) -> fmt::Result {
-        Debug::fmt(self.as_str(), f)
     }
 }
 

@@ -1,3 +1,4 @@
+-- Lemmas on labels, rates and points.
 pub mod Lists
 pub mod Counting
 pub mod Dropping
@@ -9,3 +10,6 @@ pub mod RoundTrip
 pub mod WrittenLabels
 pub mod Coprime
 pub mod FrameLemmas
+pub mod RateLemmas
+pub mod WholeNumbers
+pub mod OnePoint

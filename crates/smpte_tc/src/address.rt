@@ -4,7 +4,7 @@ ghost use Rattle.smpte_tc.specs.Day.{tens as tens_of, units as units_of, spelled
 ghost use Rattle.smpte_tc.specs.Spelling.{IsNoDigit, IsDigitOf, IsNoPair, IsPairOf, IsNoSpelling, IsSpelling, IsInDay};
 
 /// A time address of SMPTE ST 12-1: what a label says, each part a number of its own.
-#[derive(Debug, Clone, Copy, PartialEq)]
+#[derive(Clone, Copy, PartialEq)]
 pub struct TimeAddress {
     /// Hours from midnight.
     pub hours: u8,

@@ -5,7 +5,7 @@ ghost use Rattle.smpte_tc.specs.Modes.{mode_of as mode_at, drop_mode as drop_mod
 use tick_time::Rate;
 
 /// How the frame numbers of a day are counted (SMPTE ST 12-1).
-#[derive(Debug, Clone, Copy, PartialEq, Eq)]
+#[derive(Clone, Copy, PartialEq, Eq)]
 pub struct Mode {
     /// The frame numbers of a second, from 1 to 60.
     pub nominal: u8,

@@ -7,12 +7,12 @@ use Rattle.json_text.specs.Faults.{Names, IsFault, IsDeadAt, BreaksUtf8, BreaksG
 use Rattle.json_text.specs.Grammar.{text_of}
 use Rattle.json_text.specs.declared.faults.JsonFault.{JsonFault}
 use Rattle.json_text.specs.declared.faults.JsonFault.TheVariants.{Syntax, Utf8, Depth, Large, Memory}
-use Rattle.fault_text.specs.Faults.{json_fault_text}
+use Rattle.source_files.specs.Faults.{json_fault_text}
 use Rattle.source_files.specs.Formats.{RefusesJson}
 use Rattle.source_files.specs.Reading.{IsRefused}
-use Rattle.source_files.specs.declared.faults.Refusal.{Refusal}
-use Rattle.source_files.specs.declared.faults.Refusal.TheVariants.{Broken, Memory as NoMemory}
-use Rattle.source_files.specs.declared.faults.ReadFault.{ReadFault}
+use Rattle.source_files.specs.declared.file_faults.Refusal.{Refusal}
+use Rattle.source_files.specs.declared.file_faults.Refusal.TheVariants.{Broken, Memory as NoMemory}
+use Rattle.source_files.specs.declared.file_faults.ReadFault.{ReadFault}
 
 dead_more : (n : ℕ) (front rest : List ℕ) → IsDeadAt n front → IsDeadAt n (front ++ rest)
 dead_more n front rest d =

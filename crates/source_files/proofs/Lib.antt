@@ -1,3 +1,5 @@
+-- Lemmas on the texts of messages and on files.
+pub mod Indexes
 pub mod Taking
 pub mod Handing
 pub mod Order

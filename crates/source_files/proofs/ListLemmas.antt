@@ -5,16 +5,16 @@ use Rattle.limits.specs.Limits.{most_bytes}
 use Rattle.tick_time.specs.declared.rates.Rate.{Rate}
 use Rattle.text_lines.specs.Lines.{ended_lines, last_line}
 use Rattle.text_lines.proofs.Pieces.{ended_more}
-use Rattle.edl_line.specs.Statements.{Statement}
+use Rattle.edl_text.specs.Statements.{Statement}
 use Rattle.edl_text.specs.Lines.{HasFirstFault}
 use Rattle.edl_text.specs.Lists.{IsEarlyFault, IsFault}
 use Rattle.edl_text.specs.declared.faults.EdlFault.{EdlFault}
 use Rattle.edl_text.specs.declared.faults.EdlFault.TheVariants.{Memory}
-use Rattle.fault_text.specs.Faults.{list_fault_text}
+use Rattle.source_files.specs.Faults.{list_fault_text}
 use Rattle.source_files.specs.Formats.{RefusesList}
 use Rattle.source_files.specs.Reading.{IsRefused}
-use Rattle.source_files.specs.declared.faults.Refusal.{Refusal}
-use Rattle.source_files.specs.declared.faults.Refusal.TheVariants.{Broken, Memory as NoMemory}
+use Rattle.source_files.specs.declared.file_faults.Refusal.{Refusal}
+use Rattle.source_files.specs.declared.file_faults.Refusal.TheVariants.{Broken, Memory as NoMemory}
 
 -- the first fault of some lines is that of more lines
 first_more : (rate : Rate) (past : List Statement) (lines more : List (List ℕ)) (fault : EdlFault)

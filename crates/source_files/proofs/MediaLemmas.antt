@@ -4,11 +4,11 @@ use Rattle.limits.specs.Limits.{most_bytes}
 use Rattle.media_list.specs.Lists.{IsFault}
 use Rattle.media_list.specs.declared.faults.MediaFault.{MediaFault}
 use Rattle.media_list.specs.declared.faults.MediaFault.TheVariants.{Large, Memory}
-use Rattle.fault_text.specs.Faults.{media_fault_text}
+use Rattle.source_files.specs.Faults.{media_fault_text}
 use Rattle.source_files.specs.Formats.{RefusesMedia}
 use Rattle.source_files.specs.Reading.{IsRefused}
-use Rattle.source_files.specs.declared.faults.Refusal.{Refusal}
-use Rattle.source_files.specs.declared.faults.Refusal.TheVariants.{Broken, Memory as NoMemory}
+use Rattle.source_files.specs.declared.file_faults.Refusal.{Refusal}
+use Rattle.source_files.specs.declared.file_faults.Refusal.TheVariants.{Broken, Memory as NoMemory}
 
 -- how a fault is told
 abbrev pub IsTold : MediaFault → Refusal → Type 0

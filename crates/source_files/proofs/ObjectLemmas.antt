@@ -3,20 +3,20 @@ use Rattle.std.proofs.Common.{◌≡◌, ◌≢◌, ◌≤◌, ℕ, List, Result
 use Rattle.limits.specs.Limits.{most_items}
 use Rattle.json_value.specs.declared.Json.{Json}
 use Rattle.otio_model.specs.declared.roots.Object.{Object}
-use Rattle.schema_up.specs.Upgrades.{upgraded}
+use Rattle.schema_rows.specs.Upgrades.{upgraded}
 use Rattle.schema_rows.specs.Counts.{count_of}
 use Rattle.schema_rows.specs.Faults.{IsFirstFault}
 use Rattle.schema_rows.specs.Stands.{Stands}
 use Rattle.schema_rows.specs.declared.faults.SchemaFault.{SchemaFault}
 use Rattle.schema_rows.specs.declared.faults.SchemaFault.TheVariants.{Memory as WantOfMemory}
-use Rattle.fault_text.specs.Faults.{fault_text}
-use Rattle.fault_text.specs.Reasons.{reason_text}
-use Rattle.fault_text.specs.declared.reasons.Reason.{Reason}
+use Rattle.source_files.specs.Faults.{fault_text}
+use Rattle.source_files.specs.Reasons.{reason_text}
+use Rattle.source_files.specs.declared.reasons.Reason.{Reason}
 use Rattle.source_files.specs.Formats.{IsJson, IsObject, RefusesValue, RefusesObject}
 use Rattle.source_files.specs.Hand.{Judges}
 use Rattle.source_files.specs.Values.{StandsAs}
-use Rattle.source_files.specs.declared.faults.ReadFault.{ReadFault}
-use Rattle.source_files.specs.declared.faults.ReadFault.TheVariants.{Absent, Failed, Refused}
+use Rattle.source_files.specs.declared.file_faults.ReadFault.{ReadFault}
+use Rattle.source_files.specs.declared.file_faults.ReadFault.TheVariants.{Absent, Failed, Refused}
 use Rattle.source_files.proofs.Handing.{refused_by}
 
 -- what a value of the bytes stands for is what the bytes are

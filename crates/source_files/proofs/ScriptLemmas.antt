@@ -4,14 +4,14 @@ use Rattle.std.specs.declared.option.Option.{Option}
 use Rattle.dev_io.specs.Known.{KnownFiles}
 use Rattle.dev_io.specs.Calls.{Tells, Reads}
 use Rattle.limits.specs.Limits.{most_bytes}
-use Rattle.script_text.specs.Scripts.{IsFault}
-use Rattle.script_text.specs.declared.commands.ScriptFault.{ScriptFault}
-use Rattle.script_text.specs.declared.commands.ScriptFault.TheVariants.{Large, Memory}
-use Rattle.fault_text.specs.Faults.{script_fault_text}
+use Rattle.edit_script.specs.Scripts.{IsFault}
+use Rattle.edit_script.specs.declared.commands.ScriptFault.{ScriptFault}
+use Rattle.edit_script.specs.declared.commands.ScriptFault.TheVariants.{Large, Memory}
+use Rattle.source_files.specs.Faults.{script_fault_text}
 use Rattle.source_files.specs.Formats.{RefusesScript}
 use Rattle.source_files.specs.Reading.{IsRefused}
-use Rattle.source_files.specs.declared.faults.Refusal.{Refusal}
-use Rattle.source_files.specs.declared.faults.Refusal.TheVariants.{Broken, Memory as NoMemory}
+use Rattle.source_files.specs.declared.file_faults.Refusal.{Refusal}
+use Rattle.source_files.specs.declared.file_faults.Refusal.TheVariants.{Broken, Memory as NoMemory}
 use Rattle.source_files.proofs.Taking.{Takes, SameFiles, took_nothing, taken_more}
 
 -- how a fault is told

@@ -8,10 +8,10 @@ use Rattle.source_files.specs.Order.{EachIs}
 use Rattle.source_files.specs.Reading.{Held, Source, source_of, IsRead, IsUnread, StopsAt, EndsWith, HaveRead, HasStopped, ReadsSource}
 use Rattle.source_files.specs.declared.kinds.Source as code
 use Rattle.source_files.specs.declared.kinds.Content.{Content}
-use Rattle.source_files.specs.declared.faults.Refusal.TheVariants.{Memory}
-use Rattle.source_files.specs.declared.faults.ReadFault.{ReadFault}
-use Rattle.source_files.specs.declared.faults.ReadFault.TheVariants.{Refused}
-use Rattle.source_files.specs.declared.faults.SourceFault.{SourceFault}
+use Rattle.source_files.specs.declared.file_faults.Refusal.TheVariants.{Memory}
+use Rattle.source_files.specs.declared.file_faults.ReadFault.{ReadFault}
+use Rattle.source_files.specs.declared.file_faults.ReadFault.TheVariants.{Refused}
+use Rattle.source_files.specs.declared.file_faults.SourceFault.{SourceFault}
 use Rattle.source_files.proofs.Order.{each_more, first_behind}
 
 mapped_last : {A B : Type 0} (f : A → B) (xs : List A) (x : A)

@@ -8,7 +8,7 @@ use Rattle.json_text.specs.Faults.{IsFault}
 use Rattle.json_text.specs.declared.faults.JsonFault.{JsonFault}
 use Rattle.text_lines.specs.Lines.{ended_lines}
 use Rattle.tick_time.specs.declared.rates.Rate.{Rate}
-use Rattle.edl_line.specs.Statements.{Statement}
+use Rattle.edl_text.specs.Statements.{Statement}
 use Rattle.edl_list.specs.Formed.{IsWellFormed}
 use Rattle.edl_text.specs.Lists.{IsList, IsFault as IsListFault}
 use Rattle.edl_text.specs.Lines.{AreSound}
@@ -18,17 +18,17 @@ use Rattle.otio_model.specs.declared.roots.Object.{Object, out-Object}
 use Rattle.otio_model.specs.declared.roots.Object.TheOpen.{Object-F}
 use Rattle.otio_model.specs.declared.roots.Collection.{Collection}
 use Rattle.otio_model.specs.declared.timelines.Timeline.{Timeline}
-use Rattle.schema_up.specs.Upgrades.{upgraded}
+use Rattle.schema_rows.specs.Upgrades.{upgraded}
 use Rattle.schema_rows.specs.Counts.{count_of}
 use Rattle.schema_rows.specs.Stands.{Stands}
 use Rattle.schema_rows.specs.Faults.{IsFirstFault}
 use Rattle.schema_rows.specs.declared.faults.SchemaFault.{SchemaFault}
 use Rattle.media_list.specs.Lists.{IsMediaList, IsFault as IsMediaFault}
 use Rattle.media_list.specs.declared.faults.MediaFault.{MediaFault}
-use Rattle.script_text.specs.Scripts.{IsScript, IsFault as IsScriptFault}
-use Rattle.script_text.specs.declared.commands.Command.{Command}
-use Rattle.script_text.specs.declared.commands.ScriptFault.{ScriptFault}
-use Rattle.fault_text.specs.Faults.{json_fault_text, list_fault_text, media_fault_text, script_fault_text, fault_text, not_timeline_text}
+use Rattle.edit_script.specs.Scripts.{IsScript, IsFault as IsScriptFault}
+use Rattle.edit_script.specs.declared.commands.Command.{Command}
+use Rattle.edit_script.specs.declared.commands.ScriptFault.{ScriptFault}
+use Rattle.source_files.specs.Faults.{json_fault_text, list_fault_text, media_fault_text, script_fault_text, fault_text, not_timeline_text}
 use Rattle.source_files.specs.declared.kinds.Kind.{Kind}
 use Rattle.source_files.specs.declared.kinds.Kind.TheVariants as kinds
 use Rattle.source_files.specs.declared.kinds.Content.{Content}

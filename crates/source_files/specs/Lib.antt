@@ -1,3 +1,7 @@
+-- The texts of messages, and the files that a command reads.
+pub mod Places
+pub mod Reasons
+pub mod Faults
 pub mod Order
 pub mod Formats
 pub mod Reading

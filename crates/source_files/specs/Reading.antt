@@ -3,17 +3,17 @@ use Rattle.std.specs.Prelude.{◌≡◌, ℕ, List, [], ◌∷◌, ◌++◌, Som
 use Rattle.std.specs.declared.option.Option.{Option}
 use Rattle.dev_io.specs.Known.{KnownFiles, LastFailure, NoFailure, OpenHeld, OpenMissing, ReadOf}
 use Rattle.dev_io.specs.Causes.{Rose}
-use Rattle.fault_text.specs.Reasons.{reason_text}
+use Rattle.source_files.specs.Reasons.{reason_text}
 use Rattle.source_files.specs.Order.{EachIs, FirstIsNot}
 use Rattle.source_files.specs.Formats.{Holds, Refuses, IsCalm}
 use Rattle.source_files.specs.declared.kinds.Kind.{Kind}
 use Rattle.source_files.specs.declared.kinds.Content.{Content}
 use Rattle.source_files.specs.declared.kinds.Source as code
-use Rattle.source_files.specs.declared.faults.Refusal.{Refusal}
-use Rattle.source_files.specs.declared.faults.Refusal.TheVariants.{Broken, Memory}
-use Rattle.source_files.specs.declared.faults.ReadFault.{ReadFault}
-use Rattle.source_files.specs.declared.faults.ReadFault.TheVariants.{Absent, Failed, Refused}
-use Rattle.source_files.specs.declared.faults.SourceFault.{SourceFault}
+use Rattle.source_files.specs.declared.file_faults.Refusal.{Refusal}
+use Rattle.source_files.specs.declared.file_faults.Refusal.TheVariants.{Broken, Memory}
+use Rattle.source_files.specs.declared.file_faults.ReadFault.{ReadFault}
+use Rattle.source_files.specs.declared.file_faults.ReadFault.TheVariants.{Absent, Failed, Refused}
+use Rattle.source_files.specs.declared.file_faults.SourceFault.{SourceFault}
 
 -- what each name holds
 abbrev pub Held : Type 0

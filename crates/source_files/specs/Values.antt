@@ -5,8 +5,8 @@ use Rattle.otio_model.specs.declared.roots.Object.{Object}
 use Rattle.schema_rows.specs.Stands.{Stands}
 use Rattle.source_files.specs.Formats.{RefusesValue}
 use Rattle.source_files.specs.Reading.{IsRefused}
-use Rattle.source_files.specs.declared.faults.ReadFault.{ReadFault}
-use Rattle.source_files.specs.declared.faults.ReadFault.TheVariants.{Absent, Failed, Refused}
+use Rattle.source_files.specs.declared.file_faults.ReadFault.{ReadFault}
+use Rattle.source_files.specs.declared.file_faults.ReadFault.TheVariants.{Absent, Failed, Refused}
 
 -- the object that the value stands for, or its first fault; want of memory is free
 abbrev pub StandsAs : Json → Result Object ReadFault → Type 0

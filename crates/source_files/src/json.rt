@@ -3,14 +3,14 @@ ghost use Rattle.std.specs.Prelude.{◌≡◌, ◌≢◌, ℕ, List, IfOk};
 ghost use Rattle.dev_io.specs.Calls.{Tells};
 ghost use Rattle.json_text.specs.Reader.{HasRead};
 ghost use Rattle.json_text.specs.Grammar.{text_of};
-ghost use Rattle.fault_text.specs.Faults.{json_fault_text};
+ghost use Rattle.source_files.specs.Faults.{json_fault_text};
 ghost use Rattle.source_files.specs.Formats.{IsJson, RefusesJson, IsCalmJson};
 ghost use Rattle.source_files.specs.Hand.{Judges, ReadsHand};
 ghost use Rattle.source_files.specs.Reading.{IsRefused, Raised};
 
-use crate::faults::{ReadFault, Refusal};
+use crate::faults::json_reason;
+use crate::file_faults::{ReadFault, Refusal};
 use dev_io::Files;
-use fault_text::json_reason;
 use json_text::{JsonFault, JsonReader};
 use json_value::Json;
 use limits::{MOST_BYTES, PIECE_BYTES};

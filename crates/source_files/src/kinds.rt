@@ -1,13 +1,13 @@
 // What files are read as, and what they hold.
+use edit_script::Command;
 use edl_list::EventList;
 use json_value::Json;
 use media_list::MediaList;
 use otio_model::{Object, Timeline};
-use script_text::Command;
 use tick_time::Rate;
 
 /// What a file is read as.
-#[derive(Clone, Copy, Debug, PartialEq, Eq)]
+#[derive(Clone, Copy, PartialEq, Eq)]
 pub enum Kind {
     /// A JSON text.
     Json,
@@ -24,7 +24,7 @@ pub enum Kind {
 }
 
 /// A file that is read.
-#[derive(Clone, Copy, Debug, PartialEq, Eq)]
+#[derive(Clone, Copy, PartialEq, Eq)]
 pub struct Source<'a> {
     /// The name of the file; `-` is the standard input.
     pub name: &'a str,

@@ -1,16 +1,30 @@
-//! The files that a command reads: each is opened, read and judged as what it is read as, before
-//! the next is opened.
+//! The files that a command reads, and the table of messages: what is told of each fault behind the
+//! name of its file.
+//!
+//! Each file is opened, read and judged as what it is read as, before the next is opened. A fault
+//! of a format or of a command becomes a [`Reason`]: a code, a word and where it lies. Its text is
+//! handed over part by part, so a message takes no memory, whatever it tells.
 #![tactic(auto)]
 
 mod faults;
+mod file_faults;
 mod json;
 mod kinds;
 mod lists;
 mod media;
 mod objects;
+mod places;
+mod reasons;
 mod scripts;
 mod sources;
 
-pub use faults::{ReadFault, Refusal, SourceFault};
+pub use faults::{
+    conform_reason, coord_reason, day_reason, edit_reason, events_reason, far_command_reason,
+    flat_reason, items_reason, json_reason, list_reason, media_reason, no_timecode_reason,
+    not_carried_reason, not_timeline_reason, range_reason, reel_reason, schema_reason,
+    script_reason, undo_reason, unlisted_reason,
+};
+pub use file_faults::{ReadFault, Refusal, SourceFault};
 pub use kinds::{Content, Kind, Source};
+pub use reasons::{Detail, Reason, put_reason};
 pub use sources::{read_source, read_sources};

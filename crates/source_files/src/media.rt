@@ -2,14 +2,14 @@
 ghost use Rattle.std.specs.Prelude.{◌≡◌, ◌≢◌, ℕ, List};
 ghost use Rattle.dev_io.specs.Calls.{Tells};
 ghost use Rattle.media_list.specs.Lists.{IsMediaList};
-ghost use Rattle.fault_text.specs.Faults.{media_fault_text};
+ghost use Rattle.source_files.specs.Faults.{media_fault_text};
 ghost use Rattle.source_files.specs.Formats.{RefusesMedia, IsCalmMedia};
 ghost use Rattle.source_files.specs.Hand.{Judges, ReadsHand};
 ghost use Rattle.source_files.specs.Reading.{IsRefused, Raised};
 
-use crate::faults::{ReadFault, Refusal};
+use crate::faults::media_reason;
+use crate::file_faults::{ReadFault, Refusal};
 use dev_io::Files;
-use fault_text::media_reason;
 use limits::{MOST_BYTES, PIECE_BYTES};
 use media_list::{MediaFault, MediaList, MediaReader};
 use std::alloc::Global;

@@ -3,7 +3,7 @@ ghost use Rattle.std.specs.Prelude.{◌≡◌, ◌≢◌, ◌≤◌, ℕ, List, 
 ghost use Rattle.dev_io.specs.Calls.{Tells};
 ghost use Rattle.limits.specs.Limits.{most_items};
 ghost use Rattle.json_value.specs.declared.Json.{Json as JsonValue};
-ghost use Rattle.schema_up.specs.Upgrades.{upgraded};
+ghost use Rattle.schema_rows.specs.Upgrades.{upgraded};
 ghost use Rattle.schema_rows.specs.Counts.{count_of};
 ghost use Rattle.schema_rows.specs.Faults.{IsFirstFault};
 ghost use Rattle.schema_rows.specs.Numerals.{HasNumerals};
@@ -14,15 +14,14 @@ ghost use Rattle.source_files.specs.Hand.{Judges, ReadsHand};
 ghost use Rattle.source_files.specs.Values.{StandsAs};
 ghost use Rattle.source_files.specs.Reading.{IsRefused, Raised};
 
-use crate::faults::{ReadFault, Refusal};
+use crate::faults::{not_timeline_reason, schema_reason};
+use crate::file_faults::{ReadFault, Refusal};
 use crate::json::read_json;
 use dev_io::Files;
-use fault_text::{not_timeline_reason, schema_reason};
 use json_value::Json;
 use otio_model::{Object, Timeline};
-use schema_rows::SchemaFault;
+use schema_rows::{SchemaFault, upgrade};
 use schema_tab::object_of;
-use schema_up::upgrade;
 use std::alloc::Global;
 use std::mem;
 

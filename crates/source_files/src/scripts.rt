@@ -1,16 +1,16 @@
 // Reading an edit script.
 ghost use Rattle.std.specs.Prelude.{◌≡◌, ◌≢◌, ◌++◌, ℕ, List, OnOk};
 ghost use Rattle.dev_io.specs.Calls.{Tells};
-ghost use Rattle.fault_text.specs.Faults.{script_fault_text};
+ghost use Rattle.source_files.specs.Faults.{script_fault_text};
 ghost use Rattle.source_files.specs.Formats.{IsCommands, RefusesScript, IsCalmScript};
 ghost use Rattle.source_files.specs.Hand.{Judges, ReadsHand};
 ghost use Rattle.source_files.specs.Reading.{IsRefused, Raised};
 
-use crate::faults::{ReadFault, Refusal};
+use crate::faults::script_reason;
+use crate::file_faults::{ReadFault, Refusal};
 use dev_io::Files;
-use fault_text::script_reason;
+use edit_script::{Command, ScriptFault, read_script};
 use limits::{MOST_BYTES, PIECE_BYTES};
-use script_text::{Command, ScriptFault, read_script};
 use std::alloc::{AllocError, Global};
 
 /// How many bytes a file may have.

@@ -7,7 +7,7 @@ ghost use Rattle.source_files.specs.Reading.{Raised, RaisedAt, ReadsSource, Have
 ghost use Rattle.source_files.specs.Hand.{ReadsHand};
 ghost use Rattle.source_files.specs.declared.kinds.Kind.TheVariants.{List as ListAt};
 
-use crate::faults::{ReadFault, Refusal, SourceFault};
+use crate::file_faults::{ReadFault, Refusal, SourceFault};
 use crate::json::read_json;
 use crate::kinds::{Content, Kind, Source};
 use crate::lists::read_list;

@@ -20,28 +20,28 @@ fn read_whole(rt: &impl Abort, alloc: Global, files: &mut impl Files) -> Vec<u8>
 }
 
 fn opens(rt: &impl Abort, files: &mut impl Files, name: &str, opened: Opened) {
-    assert_eq!(rt; files.open_file(name), opened);
+    assert!(rt; files.open_file(name) == opened);
 }
 
 fn reads(rt: &impl Abort, files: &mut impl Files, count: Result<usize, Failed>) {
-    assert_eq!(rt; files.read(&mut [0; 4]), count);
+    assert!(rt; files.read(&mut [0; 4]) == count);
 }
 
 fn holds(rt: &impl Abort, alloc: Global, files: &mut impl Files, whole: &[u8]) {
     let found = read_whole(rt, alloc, files);
-    assert_eq!(rt; found.as_slice(), whole);
+    assert!(rt; found.as_slice() == whole);
 }
 
 fn outcome_is(rt: &impl Abort, found: Result<(), Failed>, outcome: Result<(), Failed>) {
-    assert_eq!(rt; found, outcome);
+    assert!(rt; found == outcome);
 }
 
 fn target_is(rt: &impl Abort, out: &MemOut, target: Option<&str>) {
-    assert_eq!(rt; out.target(), target);
+    assert!(rt; out.target() == target);
 }
 
 fn sent_is(rt: &impl Abort, out: &MemOut, sent: &[u8]) {
-    assert_eq!(rt; out.sent(), sent);
+    assert!(rt; out.sent() == sent);
 }
 
 fn flushes(
@@ -50,7 +50,7 @@ fn flushes(
     out: &mut MemOut,
     outcome: Result<(), WriteFault>,
 ) {
-    assert_eq!(rt; buffer.flush(out), outcome);
+    assert!(rt; buffer.flush(out) == outcome);
 }
 
 #[test]
@@ -75,13 +75,13 @@ fn real_files_are_read(rt: HostRuntime) -> Result<(), Fail> {
 
 fn text_is(rt: &impl Abort, found: io::Result<String>, text: &str) {
     let found = found.expect(rt, "a text");
-    assert_eq!(rt; found.as_str(), text);
+    assert!(rt; found.as_str() == text);
 }
 
 #[test]
 fn a_real_file_is_written(rt: HostRuntime) {
     let mut out = RealOut::new(rt, rt.stdout());
-    assert_eq!(rt; out.write(b""), Ok(0));
+    assert!(rt; out.write(b"") == Ok(0));
     outcome_is(&rt, out.aim("."), Err(Failed));
     outcome_is(&rt, out.aim("made"), Ok(()));
     outcome_is(&rt, write_all(&mut out, b"some text"), Ok(()));
@@ -132,7 +132,7 @@ fn parts_are_sent_through_a_buffer(rt: HostRuntime) -> Result<(), Fail> {
     let mut out = MemOut::new(rt.alloc(), 100)?;
     out.piece(1);
     let parts = [b"some ".as_slice(), b"".as_slice(), b"text".as_slice()];
-    assert_eq!(rt; write_parts(&mut out, &parts), Ok(()));
+    assert!(rt; write_parts(&mut out, &parts) == Ok(()));
     sent_is(&rt, &out, b"some text");
     drop(out);
     Ok(())

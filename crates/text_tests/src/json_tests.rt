@@ -266,7 +266,7 @@ fn levels(rt: HostRuntime) -> Result<(), Fail> {
 }
 
 fn feeds(rt: &impl Abort, reader: &mut JsonReader, piece: &[u8], outcome: Result<(), JsonFault>) {
-    assert_eq!(rt; reader.feed(piece), outcome);
+    assert!(rt; reader.feed(piece) == outcome);
 }
 
 #[test]

@@ -1,7 +1,7 @@
 // The texts of some values.
 use crate::values::{add, list, nested, numeral, object, text};
 use dev_io::{MemOut, OutBuffer, WriteFault};
-use json_layout::{put_string, write_json};
+use json_text::{put_string, write_json};
 use json_value::{Json, Members};
 use sequences::Sequence;
 use std::alloc::{AllocError, Global};
@@ -32,8 +32,8 @@ fn is_sent(
     outcome: Result<(), WriteFault>,
     text: &str,
 ) {
-    assert_eq!(rt; write_json(value, out), outcome);
-    assert_eq!(rt; out.sent(), text.as_bytes());
+    assert!(rt; write_json(value, out) == outcome);
+    assert!(rt; out.sent() == text.as_bytes());
 }
 
 fn is_written(rt: &impl Abort, alloc: Global, value: Json, text: &str) {
@@ -154,6 +154,6 @@ fn a_string_in_a_buffer(rt: HostRuntime) -> Result<(), Fail> {
     let mut buffer = OutBuffer::new();
     put_string(&mut buffer, &mut out, "ä \"\u{1f}".as_bytes());
     buffer.flush(&mut out)?;
-    assert_eq!(rt; out.sent(), "\"ä \\\"\\u001f\"".as_bytes());
+    assert!(rt; out.sent() == "\"ä \\\"\\u001f\"".as_bytes());
     Ok(())
 }

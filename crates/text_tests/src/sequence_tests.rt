@@ -29,7 +29,7 @@ fn shown(alloc: Global, values: &NamedValues<usize>) -> Result<String, AllocErro
 }
 
 fn characters_are(rt: &impl Abort, found: &str, characters: &str) {
-    assert_eq!(rt; found, characters);
+    assert!(rt; found == characters);
 }
 
 fn shows(rt: &impl Abort, alloc: Global, values: &NamedValues<usize>, pairs: &str) {
@@ -38,28 +38,28 @@ fn shows(rt: &impl Abort, alloc: Global, values: &NamedValues<usize>, pairs: &st
 }
 
 fn name_is(rt: &impl Abort, values: &NamedValues<usize>, index: usize, name: Option<&str>) {
-    assert_eq!(rt; values.name(index).map(|name| name.as_str()), name);
+    assert!(rt; values.name(index).map(|name| name.as_str()) == name);
 }
 
 fn value_is(rt: &impl Abort, value: Option<&usize>, wanted: Option<usize>) {
-    assert_eq!(rt; value.copied(), wanted);
+    assert!(rt; value.copied() == wanted);
 }
 
 fn takes(rt: &impl Abort, values: &mut NamedValues<usize>, index: usize, value: Option<usize>) {
     let taken = values.take(index).map(|pair| pair.1);
-    assert_eq!(rt; taken, value);
+    assert!(rt; taken == value);
 }
 
 fn count_is(rt: &impl Abort, found: usize, count: usize) {
-    assert_eq!(rt; found, count);
+    assert!(rt; found == count);
 }
 
 fn member_is(rt: &impl Abort, sequence: &Sequence<u32>, index: usize, member: Option<u32>) {
-    assert_eq!(rt; sequence.get(index).copied(), member);
+    assert!(rt; sequence.get(index).copied() == member);
 }
 
 fn members_are(rt: &impl Abort, found: &[u32], members: &[u32]) {
-    assert_eq!(rt; found, members);
+    assert!(rt; found == members);
 }
 
 fn gives(rt: &impl Abort, alloc: Global, sequence: &mut Sequence<u32>, members: &[u32]) {

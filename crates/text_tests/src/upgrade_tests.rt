@@ -2,7 +2,7 @@
 
 use crate::values::{add, list, member, object, shows_the_same, text};
 use json_value::{Json, Members};
-use schema_up::upgrade;
+use schema_rows::upgrade;
 use std::alloc::{AllocError, Global};
 use std::process::Abort;
 use std::test::Fail;

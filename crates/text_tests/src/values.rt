@@ -1,5 +1,7 @@
 //! Values of JSON, for tests.
 
+use dev_io::MemOut;
+use json_text::write_json;
 use json_value::{Json, Members};
 use sequences::{Sequence, Text};
 use std::alloc::{AllocError, Global};
@@ -52,19 +54,26 @@ pub fn object(alloc: Global, name: &str, value: Json) -> Result<Json, AllocError
     Ok(Json::Map(member(alloc, name, value)?))
 }
 
-fn shown(alloc: Global, value: &Json) -> Result<String, AllocError> {
-    format!(in alloc; "{value:?}")
+/// The text of a value, as it is written.
+fn written(rt: &impl Abort, alloc: Global, value: &Json) -> MemOut {
+    let mut out = MemOut::new(alloc, 100_000).expect(rt, "memory");
+    write_json(value, &mut out).expect(rt, "all sent");
+    out
 }
 
-/// A value shows the same as another value.
+/// A value has the same text as another value.
 pub fn shows_the_same(rt: &impl Abort, alloc: Global, value: &Json, other: &Json) {
-    let wanted = shown(alloc, other).expect(rt, "memory");
-    let found = shown(alloc, value).expect(rt, "memory");
-    assert_eq!(rt; found.as_str(), wanted.as_str());
+    let wanted = written(rt, alloc, other);
+    let found = written(rt, alloc, value);
+    assert!(rt; found.sent() == wanted.sent());
+    drop(found);
+    drop(wanted);
 }
 
-/// That characters are in what a value shows.
+/// That characters are in the text of a value.
 pub fn shows(rt: &impl Abort, alloc: Global, value: &Json, part: &str) {
-    let found = shown(alloc, value).expect(rt, "memory");
-    assert!(rt; found.as_str().contains(part));
+    let found = written(rt, alloc, value);
+    let text = std::str::from_utf8(found.sent()).expect(rt, "a text");
+    assert!(rt; text.contains(part));
+    drop(found);
 }

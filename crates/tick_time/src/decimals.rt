@@ -12,7 +12,7 @@ use crate::tallies::Tally;
 
 /// A decimal: its digits times a power of ten, with a sign. It is kept in one form, so equal
 /// decimals have equal fields.
-#[derive(Clone, Copy, Debug, PartialEq, Eq)]
+#[derive(Clone, Copy, PartialEq, Eq)]
 pub struct Decimal {
     /// Whether it is below 0.
     pub neg: bool,

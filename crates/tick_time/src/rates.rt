@@ -18,7 +18,7 @@ use arrayvec::ArrayString;
 /// It is one of the 1001 relatives of 15, 24, 30, 48, 60 and 120 frames a second (SMPTE ST 12-1
 /// has timecode for several of them), or a decimal of at most six places, from 1 on, whose
 /// numerator divides 705 600 000 000.
-#[derive(Clone, Copy, Debug)]
+#[derive(Clone, Copy)]
 pub struct Rate {
     /// The numerator, from 1 to 705 600 000 000.
     pub num: i64,

@@ -14,7 +14,7 @@ use arrayvec::ArrayString;
 use std::marker::Model;
 
 /// A speed: whole millionths, from -1000 to 1000 times. Contracts see the millionths.
-#[derive(Clone, Copy, Debug, PartialEq, Eq)]
+#[derive(Clone, Copy, PartialEq, Eq)]
 pub struct Scalar(pub i64);
 
 impl Model for Scalar {

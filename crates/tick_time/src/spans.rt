@@ -6,7 +6,7 @@ ghost use Rattle.tick_time.specs.Times.{Holds};
 use crate::times::Time;
 
 /// A span from its start up to, not including, its end.
-#[derive(Clone, Copy, Debug, PartialEq, Eq)]
+#[derive(Clone, Copy, PartialEq, Eq)]
 pub struct Span {
     /// Where it starts.
     pub start: Time,

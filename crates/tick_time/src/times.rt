@@ -20,7 +20,7 @@ use std::cmp::Ordering;
 
 /// A time: whole ticks, of which a second has 705 600 000 000 000 000, and the rate at which it is
 /// counted.
-#[derive(Clone, Copy, Debug)]
+#[derive(Clone, Copy)]
 pub struct Time {
     /// Ticks from 0, at most a million seconds either way.
     pub ticks: i128,

@@ -45,7 +45,7 @@ fn reads_as(
     drop_frame: bool,
     answer: Result<i64, TcFault>,
 ) {
-    assert_eq!(rt; read(text, rate, drop_frame), answer);
+    assert!(rt; read(text, rate, drop_frame) == answer);
 }
 
 /// That a number has this label, or this fault.
@@ -56,7 +56,7 @@ fn label_is(
     drop_frame: bool,
     answer: Result<[u8; 11], TcFault>,
 ) {
-    assert_eq!(rt; label(number, rate, drop_frame), answer);
+    assert!(rt; label(number, rate, drop_frame) == answer);
 }
 
 /// That drop-frame labels read as they should, and that those that do are the numbers' labels.
@@ -96,7 +96,7 @@ fn each_second_of_a_day(rt: HostRuntime) {
     for second in 0..86_400u32 {
         let number = i64::from(second * 24 + second % 24);
         match label(number, film, false) {
-            Ok(text) => assert_eq!(rt; read(text.as_slice(), film, false), Ok(number)),
+            Ok(text) => assert!(rt; read(text.as_slice(), film, false) == Ok(number)),
             Err(_) => assert!(rt; false, "no label"),
         }
     }
@@ -157,8 +157,8 @@ fn drop_frame_at_30(rt: HostRuntime) {
     let rate = rate_30_drop();
     are_drop_labels(&rt, rate, DROP_30.as_slice());
     reads_as(&rt, b"00:01:00;02", rate, false, Ok(1_800));
-    assert_eq!(rt; label_frame(b"00:01:00;02", rate, false), Some(1_800));
-    assert_eq!(rt; label_frame(b"00:01:00;00", rate, false), None);
+    assert!(rt; label_frame(b"00:01:00;02", rate, false) == Some(1_800));
+    assert!(rt; label_frame(b"00:01:00;00", rate, false) == None);
     reads_as(&rt, b"00:01:00:02", rate, true, Ok(1_800));
     reads_as(&rt, b"00:01:00:00", rate, false, Ok(1_800));
     label_is(&rt, 1_800, rate, false, Ok(*b"00:01:00:00"));
@@ -204,9 +204,9 @@ fn first_number(tens: u32, minute: u32, twice: u32) -> u32
 fn begins_minute(rt: &impl Abort, number: i64, rate: Rate, digit: u8, left_out: u8) {
     match label(number, rate, true) {
         Ok(text) => {
-            assert_eq!(rt;
-                [text[4], text[6], text[7], text[8], text[9], text[10]],
-                [digit, b'0', b'0', b';', b'0', left_out]
+            assert!(rt;
+                [text[4], text[6], text[7], text[8], text[9], text[10]]
+                    == [digit, b'0', b'0', b';', b'0', left_out]
             );
             reads_as(rt, text.as_slice(), rate, false, Ok(number));
         }

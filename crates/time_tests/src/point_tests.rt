@@ -1,6 +1,6 @@
 //! Words and the points that they name.
 
-use record_points::{RecordPoint, frame_at, point_of, whole_number};
+use smpte_tc::{RecordPoint, frame_at, point_of, whole_number};
 use std::process::Abort;
 use std::test::Fail;
 use tick_time::{Decimal, Rate, is_numeral};
@@ -31,7 +31,7 @@ fn whole_numbers(rt: HostRuntime) -> Result<(), Fail> {
         ("7a", None),
         ("/7", None),
     ] {
-        assert_eq!(rt; whole_number(word), number, "{word}");
+        assert!(rt; whole_number(word) == number, "{word}");
     }
     Ok(())
 }
@@ -50,7 +50,7 @@ fn points(rt: HostRuntime) -> Result<(), Fail> {
         ("01:00:00:0a", None),
         ("dd:dd:dd:dd", None),
     ] {
-        assert_eq!(rt; point_of(word), point, "{word}");
+        assert!(rt; point_of(word) == point, "{word}");
     }
     Ok(())
 }
@@ -63,7 +63,7 @@ fn frame_of(word: &str, rate: Rate) -> Option<i64> {
 // That a word names a frame at a rate, or none.
 fn frame_is(rt: &impl Abort, word: &str, rate: &[u8], frame: Option<i64>) {
     match rate_of(rate) {
-        Some(rate) => assert_eq!(rt; frame_of(word, rate), frame, "{word}"),
+        Some(rate) => assert!(rt; frame_of(word, rate) == frame, "{word}"),
         None => assert!(rt; false, "{word}"),
     }
 }

@@ -50,19 +50,19 @@ fn speed_of(text: &[u8]) -> Result<i64, TimeFault>
 fn parts_are(rt: &impl Abort, text: &[u8], wanted: Result<(bool, u128, i128), TimeFault>)
     requires { IsNumeral text.now }
 {
-    assert_eq!(rt; parts(text), wanted);
+    assert!(rt; parts(text) == wanted);
 }
 
 fn fraction_is(rt: &impl Abort, text: &[u8], wanted: Result<(i64, i64), TimeFault>)
     requires { IsNumeral text.now }
 {
-    assert_eq!(rt; fraction_of(text), wanted);
+    assert!(rt; fraction_of(text) == wanted);
 }
 
 fn ticks_are(rt: &impl Abort, text: &[u8], rate: Rate, wanted: Result<i128, TimeFault>)
     requires { IsNumeral text.now }
 {
-    assert_eq!(rt; ticks_of(text, rate), wanted);
+    assert!(rt; ticks_of(text, rate) == wanted);
 }
 
 // The ticks of a rate's unit and of its frame, and its count of timecode.
@@ -70,25 +70,25 @@ fn counts_are(rt: &impl Abort, text: &[u8], wanted: (i128, i128, Option<i64>))
     requires { IsNumeral text.now }
 {
     let rate = rate_of(text).expect(rt, "a rate");
-    assert_eq!(rt; (rate.unit(), rate.frame_ticks(), rate.nominal()), wanted);
+    assert!(rt; (rate.unit(), rate.frame_ticks(), rate.nominal()) == wanted);
 }
 
 fn value_is(rt: &impl Abort, text: &[u8], rate: Rate, written: &str)
     requires { IsNumeral text.now }
 {
     let time = time_of(text, rate).expect(rt, "a time");
-    assert_eq!(rt; time.value_text().as_str(), written);
+    assert!(rt; time.value_text().as_str() == written);
     let again = time_read_again(&time).expect(rt, "a time");
-    assert_eq!(rt; again.ticks, time.ticks);
+    assert!(rt; again.ticks == time.ticks);
 }
 
 fn rate_is(rt: &impl Abort, text: &[u8], written: &str)
     requires { IsNumeral text.now }
 {
     let rate = rate_of(text).expect(rt, "a rate");
-    assert_eq!(rt; rate.text().as_str(), written);
+    assert!(rt; rate.text().as_str() == written);
     let again = rate_read_again(&rate).expect(rt, "a rate");
-    assert_eq!(rt; (again.num, again.den), (rate.num, rate.den));
+    assert!(rt; (again.num, again.den) == (rate.num, rate.den));
 }
 
 fn speed_is(rt: &impl Abort, text: &[u8], written: &str)
@@ -96,8 +96,8 @@ fn speed_is(rt: &impl Abort, text: &[u8], written: &str)
 {
     let decimal = Decimal::read(text).expect(rt, "a numeral");
     let speed = Scalar::of(&decimal).expect(rt, "a speed");
-    assert_eq!(rt; speed.text().as_str(), written);
-    assert_eq!(rt; speed_read_again(&speed).expect(rt, "a speed").0, speed.0);
+    assert!(rt; speed.text().as_str() == written);
+    assert!(rt; speed_read_again(&speed).expect(rt, "a speed").0 == speed.0);
 }
 
 #[test]
@@ -140,7 +140,7 @@ fn forms_of_numerals(rt: HostRuntime) {
         ("1 ", false),
         ("0x1", false),
     ] {
-        assert_eq!(rt; is_numeral(text.as_bytes()), is);
+        assert!(rt; is_numeral(text.as_bytes()) == is);
     }
 }
 
@@ -330,19 +330,19 @@ fn more_than_a_binary_float_holds(rt: HostRuntime) {
 
 // The ticks of a time, and the numerator of its rate.
 fn time_is(rt: &impl Abort, time: Time, ticks: i128, num: i64) {
-    assert_eq!(rt; (time.ticks, time.rate.num), (ticks, num));
+    assert!(rt; (time.ticks, time.rate.num) == (ticks, num));
 }
 
 // The texts of a time and of its rate, and that it is read again.
 fn is_written(rt: &impl Abort, time: Time, value: &str, rate: &str) {
-    assert_eq!(rt; time.value_text().as_str(), value);
-    assert_eq!(rt; time.rate.text().as_str(), rate);
+    assert!(rt; time.value_text().as_str() == value);
+    assert!(rt; time.rate.text().as_str() == rate);
     let again = time_read_again(&time).expect(rt, "a time");
-    assert_eq!(rt; again.ticks, time.ticks);
+    assert!(rt; again.ticks == time.ticks);
 }
 
 fn is_out_of_range(rt: &impl Abort, time: Result<Time, TimeFault>) {
-    assert_eq!(rt; time.map(|time| time.ticks), Err(TimeFault::Range));
+    assert!(rt; time.map(|time| time.ticks) == Err(TimeFault::Range));
 }
 
 #[test]
@@ -355,13 +355,13 @@ fn sums(rt: HostRuntime) {
     let twice = Time::frames(48, film.rate)
         .expect(&rt, "a time")
         .add(Time::frames(50, video.rate).expect(&rt, "a time"));
-    assert_eq!(rt; twice.expect(&rt, "a time").rate.num, 25);
+    assert!(rt; twice.expect(&rt, "a time").rate.num == 25);
     let none = film.sub(film).expect(&rt, "a time");
     time_is(&rt, none, 0, 24);
     let less = video.sub(film).expect(&rt, "a time");
     time_is(&rt, less, -1_176_000_000_000_000, 705_600_000_000);
-    assert_eq!(rt; film.compare(&video), Ordering::Greater);
-    assert_eq!(rt; video.compare(&film), Ordering::Less);
+    assert!(rt; film.compare(&video) == Ordering::Greater);
+    assert!(rt; video.compare(&film) == Ordering::Less);
     let most = Time::frames(24_000_000, film.rate).expect(&rt, "a time");
     is_out_of_range(&rt, most.add(film));
     is_out_of_range(&rt, Time::frames(-24_000_001, film.rate));
@@ -373,11 +373,11 @@ fn sums(rt: HostRuntime) {
 fn frames_of_a_time(rt: HostRuntime) {
     let film = rate_of(b"24").expect(&rt, "a rate");
     let time = Time::near(-1, film).expect(&rt, "a time");
-    assert_eq!(rt; (time.floor_frame(film), time.on_frame(film)), (-1, false));
+    assert!(rt; (time.floor_frame(film), time.on_frame(film)) == (-1, false));
     let time = Time::frames(-3, film).expect(&rt, "a time");
-    assert_eq!(rt; (time.floor_frame(film), time.on_frame(film)), (-3, true));
+    assert!(rt; (time.floor_frame(film), time.on_frame(film)) == (-3, true));
     let time = time_of(b"7.5", film).expect(&rt, "a time");
-    assert_eq!(rt; (time.floor_frame(film), time.on_frame(film)), (7, false));
+    assert!(rt; (time.floor_frame(film), time.on_frame(film)) == (7, false));
 }
 
 #[test]
@@ -390,20 +390,19 @@ fn spans(rt: HostRuntime) {
     }
     let span = Span { start, len };
     let end = span.end_ticks();
-    assert_eq!(rt; end, 88_200_000_000_000_000);
-    assert_eq!(rt;
+    assert!(rt; end == 88_200_000_000_000_000);
+    assert!(rt;
         (
             span.holds(start.ticks),
             span.holds(end),
             span.holds(end - 1)
-        ),
-        (true, false, true)
+        ) == (true, false, true)
     );
     let next = Span {
         start: Time::frames(3, film).expect(&rt, "a time"),
         len,
     };
-    assert_eq!(rt; (span.meets(&span), span.meets(&next)), (true, false));
+    assert!(rt; (span.meets(&span), span.meets(&next)) == (true, false));
 }
 
 #[test]
@@ -415,7 +414,7 @@ fn speeds(rt: HostRuntime) {
     speed_is(&rt, b"1000.0000005", "1000.0");
     speed_is(&rt, b"-1000", "-1000.0");
     speed_is(&rt, b"1.5", "1.5");
-    assert_eq!(rt; speed_of(b"1000.000001"), Err(TimeFault::Scalar));
-    assert_eq!(rt; speed_of(b"-1000.000001"), Err(TimeFault::Scalar));
-    assert_eq!(rt; speed_of(b"1e999"), Err(TimeFault::Scalar));
+    assert!(rt; speed_of(b"1000.000001") == Err(TimeFault::Scalar));
+    assert!(rt; speed_of(b"-1000.000001") == Err(TimeFault::Scalar));
+    assert!(rt; speed_of(b"1e999") == Err(TimeFault::Scalar));
 }

@@ -2,8 +2,7 @@
 
 use crate::word_tests::{is_refused, requested, words_of};
 use command_words::{Command, Flattening, Joining, ToolAsked, TrackKind, Window};
-use rate_words::rate_of;
-use record_points::RecordPoint;
+use smpte_tc::{RecordPoint, rate_of};
 use std::alloc::{AllocError, Global};
 use std::test::Fail;
 

@@ -1,7 +1,7 @@
 //! Command lines and what they ask for.
 
 use command_words::{Command, DrillAsked, FramesAsked, Request, Task, WordsFault, request_of};
-use record_points::RecordPoint;
+use smpte_tc::RecordPoint;
 use std::alloc::{AllocError, Global};
 use std::process::Abort;
 use std::test::Fail;
@@ -61,7 +61,7 @@ fn asks_for_list(
         },
         None => None,
     };
-    assert_eq!(rt; found, Some((true, num, drop_frame, wide)), "{line}");
+    assert!(rt; found == Some((true, num, drop_frame, wide)), "{line}");
     Ok(())
 }
 
@@ -82,7 +82,7 @@ fn asks_for_file(
         Some(request) => Some((request.command, request.name, request.target)),
         None => None,
     };
-    assert_eq!(rt; found, Some((command, name, target)), "{line}");
+    assert!(rt; found == Some((command, name, target)), "{line}");
     Ok(())
 }
 
@@ -98,7 +98,7 @@ fn asks_for_command(
         Some(request) => Some(request.command),
         None => None,
     };
-    assert_eq!(rt; found, Some(command), "{line}");
+    assert!(rt; found == Some(command), "{line}");
     Ok(())
 }
 
@@ -115,7 +115,7 @@ fn asks_into(
         Some(request) => Some((request.command, request.target)),
         None => None,
     };
-    assert_eq!(rt; found, Some((command, target)), "{line}");
+    assert!(rt; found == Some((command, target)), "{line}");
     Ok(())
 }
 
@@ -132,7 +132,7 @@ fn asks_with_media(
         Some(request) => Some((request.command, request.others.media)),
         None => None,
     };
-    assert_eq!(rt; found, Some((command, media)), "{line}");
+    assert!(rt; found == Some((command, media)), "{line}");
     Ok(())
 }
 
@@ -351,7 +351,7 @@ fn asks_for_edit(
         )),
         None => None,
     };
-    assert_eq!(rt; found, Some((Some(num), Some(script), media)), "{line}");
+    assert!(rt; found == Some((Some(num), Some(script), media)), "{line}");
     Ok(())
 }
 
@@ -436,7 +436,7 @@ fn asks_for_conformed_list(
         Some(request) => Some((request.others.media, conformed_at(request.command))),
         None => None,
     };
-    assert_eq!(rt; found, Some((media, Some(conformed))), "{line}");
+    assert!(rt; found == Some((media, Some(conformed))), "{line}");
     Ok(())
 }
 
@@ -525,7 +525,7 @@ fn empty_word_asks(
     for word in last {
         words.push(String::from_str(alloc, word)?)?;
     }
-    assert_eq!(rt; script_asked(alloc, words.as_slice()), script, "{line}");
+    assert!(rt; script_asked(alloc, words.as_slice()) == script, "{line}");
     Ok(())
 }
 
@@ -575,7 +575,7 @@ fn asks_for_drill(
     asked: DrillAsked<'_>,
 ) -> Result<(), Fail> {
     let words = words_of(alloc, line)?;
-    assert_eq!(rt; drilled(alloc, words.as_slice()), Some(asked), "{line}");
+    assert!(rt; drilled(alloc, words.as_slice()) == Some(asked), "{line}");
     Ok(())
 }
 

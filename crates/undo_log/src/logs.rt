@@ -16,7 +16,6 @@ use std::alloc::{AllocError, Global};
 use std::marker::Model;
 
 /// The changes of a timeline that can be undone, and those that were undone and can be done again.
-#[derive(Debug)]
 pub struct Log {
     past: Vec<Patch>,
     future: Vec<Patch>,

@@ -7,13 +7,13 @@ use Rattle.otio_model.specs.declared.compositions.Listed.{Listed}
 use Rattle.otio_model.specs.Lengths.{trimmed_start}
 use Rattle.coord.specs.Sights.{overlap_of}
 use Rattle.coord.specs.Speeds.{media_at, speed_of}
-use Rattle.cuts.specs.Splices.{is_stripped}
-use Rattle.cuts.specs.Children.{Child, all_made, ticks}
-use Rattle.cuts.specs.Cuts.{back, olds, strip}
-use Rattle.cuts_law.proofs.Splice.{cases}
+use Rattle.edits.specs.Splices.{is_stripped}
+use Rattle.edits.specs.Children.{Child, all_made, ticks}
+use Rattle.edits.specs.Cuts.{back, olds, strip}
+use Rattle.edits_law.proofs.Splice.{cases}
 use Rattle.edits_law.proofs.Parted.{lt_yes, le_yes}
-use Rattle.edits_sound.proofs.Apart.{le_not, lt_not}
-use Rattle.edits_sound.proofs.MadeParts.{made_none, made_parts}
+use Rattle.edits_law.proofs.Apart.{le_not, lt_not}
+use Rattle.edits_law.proofs.MadeParts.{made_none, made_parts}
 use Rattle.writable_law.proofs.WritableChildren.{AreWritable, AreWritableChildren}
 use Rattle.writable_law.proofs.WritableChildren.{old_writable, ranged_writable}
 

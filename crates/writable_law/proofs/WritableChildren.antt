@@ -12,11 +12,11 @@ use Rattle.otio_model.specs.declared.compositions.StackOf.{StackOf}
 use Rattle.otio_model.specs.declared.compositions.TrackOf.{TrackOf}
 use Rattle.otio_model.specs.declared.warps.Effect.{Effect}
 use Rattle.coord.specs.Speeds.{speed_of}
-use Rattle.cuts.specs.Children.{Child, Old, Ranged, made, new_gap, plain_gap, ticks, with_range}
+use Rattle.edits.specs.Children.{Child, Old, Ranged, made, new_gap, plain_gap, ticks, with_range}
 use Rattle.edits.specs.Edges.{is_zero}
 use Rattle.edits.specs.Edits.{fit_speed, fitted, warp, with_effect}
 use Rattle.edits.specs.Refusals.{is_wrong_fit}
-use Rattle.edits_sound.proofs.MadeParts.{ranged_item, same_item}
+use Rattle.edits_law.proofs.MadeParts.{ranged_item, same_item}
 use Rattle.object_law.specs.Writable as W
 use Rattle.object_law.specs.Writable.{AreEffects, AreItems, IsEffect, IsItem}
 

@@ -10,8 +10,8 @@ ghost use Rattle.otio_model.specs.declared.roots.Object.{Timeline as ObjectOfTim
 ghost use Rattle.otio_model.specs.declared.roots.Object.TheOpen.{Object-F};
 ghost use Rattle.otio_model.specs.declared.timelines.Timeline.{Timeline};
 ghost use Rattle.coord.specs.Soundness.{IsCalm};
-ghost use Rattle.cuts.specs.Children.{Ranged, all_made, made};
-ghost use Rattle.cuts.specs.Cuts.{back};
+ghost use Rattle.edits.specs.Children.{Ranged, all_made, made};
+ghost use Rattle.edits.specs.Cuts.{back};
 ghost use Rattle.edits.specs.Edits.{fitted};
 ghost use Rattle.edits.specs.Refusals.{is_wrong_fit};
 ghost use Rattle.schema_rows.specs.Stands.{Stands};

@@ -6,7 +6,7 @@ use Rattle.json_text.specs.declared.state.Ran.TheVariants.{All, Stops}
 use Rattle.json_text.specs.declared.state.Stop.{Stop}
 use Rattle.json_text.specs.declared.state.Stop.TheVariants.{Syntax, Utf8, Depth}
 use Rattle.json_text.specs.declared.faults.JsonFault.{JsonFault}
-use Rattle.json_text.specs.declared.state.Level.{Level}
+use Rattle.json_text.specs.declared.state.Unclosed.{Unclosed}
 use Rattle.json_text.specs.declared.state.Role.{Role}
 use Rattle.json_text.specs.Grammar.{of_digits16}
 use Rattle.json_text.specs.State.Machine.{MachineState, state, text, plain, run, step, next_place}
@@ -23,7 +23,7 @@ AreOpen (b ∷ bs) = (is_open b ≡ true) × AreOpen bs
 
 -- These bytes of a string, between characters, stand for these.
 pub record StandsFor (bytes made : List ℕ) : Type 0 where
-  pub ran : (limit : ℕ) (levels : List Level) (role : Role) (t : List ℕ)
+  pub ran : (limit : ℕ) (levels : List Unclosed) (role : Role) (t : List ℕ)
       → run limit (state levels (text role t plain)) bytes
       ≡ Ok (state levels (text role (t ++ made) plain))
 

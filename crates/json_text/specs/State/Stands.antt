@@ -3,7 +3,7 @@ use Rattle.std.specs.Prelude.{◌≡◌, ℕ, ◌≤◌, List, [], ◌∷◌, �
 use Rattle.json_value.specs.declared.Json.{Json}
 use Rattle.json_value.specs.declared.Json.TheVariants.{Null as JsonNull, Bool as JsonOfBool}
 use Rattle.json_text.specs.declared.machine.Machine.{Machine}
-use Rattle.json_text.specs.declared.state.Level.{Level}
+use Rattle.json_text.specs.declared.state.Unclosed.{Unclosed}
 use Rattle.json_text.specs.declared.state.Word.{Word}
 use Rattle.json_text.specs.declared.state.Word.TheVariants.{Null, True, False}
 use Rattle.json_text.specs.declared.state.Part.{Part}
@@ -45,12 +45,12 @@ hand_of (Number place) text root = spec.number text place
 hand_of (Text role part) text root = spec.text role text (part_of part)
 
 -- the innermost open list or object, if there is one, before those around it
-abbrev pub open_in : Option Level → List Level → List Level
+abbrev pub open_in : Option Unclosed → List Unclosed → List Unclosed
 open_in None outer = []
 open_in (Some inner) outer = inner ∷ outer
 
 -- the open lists and objects, innermost first
-abbrev pub levels_of : Machine → List Level
+abbrev pub levels_of : Machine → List Unclosed
 levels_of m = open_in m.inner (reverse m.outer.items)
 
 -- the whole state

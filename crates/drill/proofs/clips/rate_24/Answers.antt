@@ -1,4 +1,4 @@
-use Rattle.cuts.specs.Finest.{rate_24}
+use Rattle.edits.specs.Finest.{rate_24}
 use Rattle.drill.proofs.clips.rate_24.Goals as goal
 
 pub invariant_of-result : goal.invariant_of-result

@@ -2,7 +2,7 @@ use Rattle.std.proofs.Common.{arith, [], ◌∷◌}
 use Rattle.std.proofs.lemmas.Int.{ints}
 use Rattle.edit_ops.proofs.Maps.{fault_begun, plan_begun}
 use Rattle.otio_model.specs.declared.editing.Edit.TheVariants as A
-use Rattle.cuts.specs.Children.{Old}
+use Rattle.edits.specs.Children.{Old}
 use Rattle.edits.specs.Refusals.{at_once}
 use Rattle.edit_ops.proofs.Steps.{insert_empty, insert_zone}
 use Rattle.edit_ops.proofs.plans.insert_at.Goals as goal

@@ -4,7 +4,7 @@ use Rattle.std.specs.Int.{w128}
 use Rattle.std.proofs.lemmas.Int.{ints}
 use Rattle.coord.specs.Sights.{exact}
 use Rattle.coord.proofs.Members.{got_below}
-use Rattle.depths.specs.Down.{inner}
+use Rattle.edits_law.specs.Down.{inner}
 use Rattle.edit_plans.proofs.PlaceWays.{closed, at_end, no_child, not_reached, is_reached}
 use Rattle.edit_plans.proofs.PlaceWays.{child_smaller, child_sound}
 use Rattle.edit_plans.proofs.instants.+down_from.Goals as goal

@@ -5,7 +5,7 @@ use Rattle.std.specs.Int.{w128}
 use Rattle.std.proofs.lemmas.Int.{ints}
 use Rattle.coord.specs.Programs.{kind_of}
 use Rattle.coord.specs.Sights.{exact}
-use Rattle.depths.specs.Down.{down_from}
+use Rattle.edits_law.specs.Down.{down_from}
 use Rattle.edit_plans.proofs.PlaceWays.{in_child_length}
 use Rattle.edit_plans.proofs.instants.down_in.Goals as goal
 

@@ -3,7 +3,7 @@ use Rattle.std.proofs.Common.{◌≡◌, ℕ, Some, drop}
 use Rattle.otio_model.specs.Trees.{items_of}
 use Rattle.otio_model.specs.Lengths.{start_of}
 use Rattle.coord.specs.Sights.{View, looks}
-use Rattle.depths.specs.Down.{is_next}
+use Rattle.edits_law.specs.Down.{is_next}
 use Rattle.edit_plans.specs.Way.{further}
 use Rattle.edit_plans.proofs.lists.child_behind.Given as goal
 

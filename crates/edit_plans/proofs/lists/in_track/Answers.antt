@@ -3,7 +3,7 @@ use Rattle.std.specs.Int.{w128}
 use Rattle.std.proofs.lemmas.Int.{ints}
 use Rattle.otio_model.specs.Trees.{items_of}
 use Rattle.coord.specs.Sights.{looks}
-use Rattle.depths.specs.Down.{reached}
+use Rattle.edits_law.specs.Down.{reached}
 use Rattle.edit_plans.proofs.Reached.{is_inside, reached_outside, seat_high, seat_low}
 use Rattle.edit_plans.proofs.lists.in_track.Goals as goal
 

@@ -3,7 +3,7 @@ use Rattle.std.proofs.Common.{◌-ℤ◌}
 use mir.Syntax.{w128}
 use Rattle.std.specs.Prelude.{option_copied}
 use Rattle.std.proofs.lemmas.Int.{to_z-of_z}
-use Rattle.cuts.specs.Children.{ticks}
+use Rattle.edits.specs.Children.{ticks}
 use Rattle.edits.specs.Edges as edges
 use Rattle.edit_plans.specs.Meanings.{gap_of_before}
 use Rattle.edit_plans.proofs.moves.trim_head.Goals as goal

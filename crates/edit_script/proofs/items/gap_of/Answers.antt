@@ -1,7 +1,7 @@
 use Rattle.std.proofs.Common.{FitsSigned, w64, rules, ◌≡◌, Some}
 use Rattle.std.specs.Int.{w128}
 use Rattle.std.proofs.lemmas.Int.{to_z-of_z}
-use Rattle.cuts.specs.Children.{made, new_gap}
+use Rattle.edits.specs.Children.{made, new_gap}
 use Rattle.tick_time.specs.Frames.{in_ticks}
 use Rattle.edit_script.proofs.Puts.{gap_made}
 use Rattle.edit_script.proofs.items.gap_of.Goals as goal

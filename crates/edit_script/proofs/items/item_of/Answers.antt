@@ -2,7 +2,7 @@ use Rattle.std.proofs.Common.{FitsSigned, w64, rules, ◌≡◌, Some}
 use Rattle.std.proofs.lemmas.Int.{to_z-of_z}
 use Rattle.std.specs.Prelude.{IfOk}
 use Rattle.std.specs.Option.{option_copied}
-use Rattle.cuts.specs.Children.{made, new_gap}
+use Rattle.edits.specs.Children.{made, new_gap}
 use Rattle.edit_script.specs.Items.{IsClip}
 use Rattle.tick_time.specs.Frames.{in_ticks}
 use Rattle.edit_script.proofs.Puts.{clip_item, edit_items, gap_item}

@@ -1,7 +1,7 @@
 use Rattle.std.proofs.Common.{refl}
 use Rattle.std.specs.Option.{option_copied}
 use Rattle.undo_log.specs.States.{state_of}
-use Rattle.edit_script.proofs.Commands.{done_as, never_halts, never_inner, same_self}
+use Rattle.edit_script.proofs.CommandLemmas.{done_as, never_halts, never_inner, same_self}
 use Rattle.edit_script.proofs.steps.edit.Goals as goal
 
 pub returns-in-Ok-clause-done : goal.returns-in-Ok-clause-done

@@ -1,5 +1,5 @@
 use Rattle.std.specs.Option.{option_copied}
-use Rattle.edit_script.proofs.Commands.{IsAtLine, halts_at, inner_at}
+use Rattle.edit_script.proofs.CommandLemmas.{IsAtLine, halts_at, inner_at}
 use Rattle.edit_script.proofs.steps.patch_of.Goals as goal
 
 pub returns-in-Err : goal.returns-in-Err

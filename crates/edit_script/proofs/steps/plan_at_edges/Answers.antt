@@ -1,7 +1,7 @@
 use Rattle.std.proofs.Common.{refl}
 use Rattle.std.specs.Option.{option_copied}
 use Rattle.edits.specs.After.{rate_of}
-use Rattle.edit_script.proofs.Commands.{planned, refusal}
+use Rattle.edit_script.proofs.CommandLemmas.{planned, refusal}
 use Rattle.edit_script.proofs.steps.plan_at_edges.Goals as goal
 
 pub returns-in-Ok-clause-plan : goal.returns-in-Ok-clause-plan

@@ -1,5 +1,5 @@
 use Rattle.std.specs.Option.{option_copied}
-use Rattle.edit_script.proofs.Commands.{planned, refusal}
+use Rattle.edit_script.proofs.CommandLemmas.{planned, refusal}
 use Rattle.edit_script.proofs.steps.plan_in_list.Goals as goal
 
 pub returns-in-Ok-clause-plan : goal.returns-in-Ok-clause-plan

@@ -1,5 +1,5 @@
 use Rattle.std.proofs.Common.{sym, ap, ◌∙◌}
-use Rattle.cuts.specs.Cuts.{put_between, strip}
+use Rattle.edits.specs.Cuts.{put_between, strip}
 use Rattle.edits_law.proofs.Parted.{narrow_between, made_narrow, replaced_middle, between_few}
 use Rattle.edits_law.proofs.Touched.{apart, in_parts}
 use Rattle.edits_law.proofs.patches.patches_are_narrow.Goals as goal

@@ -1,7 +1,7 @@
 use Rattle.std.proofs.Common.{◌≡◌, sym, subst, ap₂, ◌*ℤ◌, to_z, of_z, arith}
 use Rattle.std.specs.Int.{w128}
 use Rattle.std.proofs.lemmas.Int.{ints}
-use Rattle.edl_conform.specs.Ranges.{IsLess}
+use Rattle.edl_conform.specs.ConformedRanges.{IsLess}
 use Rattle.edl_conform.proofs.ProductBounds.{product_less}
 use Rattle.edl_conform.proofs.outgoing.product.Goals as goal
 

@@ -1,6 +1,6 @@
 use Rattle.std.proofs.Common.{arith, refl, ◌∙◌, pos, ◌<ℤ◌}
 use Rattle.std.proofs.lemmas.Int.{to_z-of_z, ints}
-use Rattle.cuts.specs.Cuts.{is_whole_at}
+use Rattle.edits.specs.Cuts.{is_whole_at}
 use Rattle.flat_timelines.proofs.PartLemmas.{back_all, back_cut, not_phased, refused}
 use Rattle.flat_timelines.proofs.cutting.from_on.Goals as goal
 

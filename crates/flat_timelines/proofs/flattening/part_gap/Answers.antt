@@ -1,6 +1,6 @@
 use Rattle.std.proofs.Common.{◌≡◌, Some}
 use Rattle.std.proofs.lemmas.Int.{to_z-of_z}
-use Rattle.cuts.specs.Children.{made, new_gap}
+use Rattle.edits.specs.Children.{made, new_gap}
 use Rattle.flat_timelines.proofs.PieceLemmas.{gap_near}
 use Rattle.flat_timelines.proofs.flattening.part_gap.Goals as goal
 

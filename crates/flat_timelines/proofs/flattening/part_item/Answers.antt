@@ -2,7 +2,7 @@ use Rattle.std.proofs.Common.{◌≡◌, arith, rules, refl, ap, FitsSigned, pos
 use mir.Syntax.{w128}
 use Rattle.std.proofs.lemmas.Int.{to_z-of_z, ints}
 use Rattle.otio_model.specs.Trees.{items_of}
-use Rattle.cuts.specs.Children.{ticks, made, new_gap}
+use Rattle.edits.specs.Children.{ticks, made, new_gap}
 use Rattle.flat_timelines.proofs.RefusalLemmas.{child_cuttable, child_one}
 use Rattle.flat_timelines.proofs.PieceLemmas.{both_cut, clip_is, ends_fit, gap_is, length_fits}
 use Rattle.flat_timelines.proofs.flattening.part_item.Goals as goal

@@ -1,4 +1,4 @@
-use Rattle.listings.proofs.SpareLemmas.{listed_bare}
+use Rattle.listings.proofs.SpareListings.{listed_bare}
 use Rattle.listings.proofs.laws.bare_is_listed.Goals as goal
 
 pub returns : goal.returns

@@ -3,7 +3,7 @@ use Rattle.std.specs.Fmt.{signed_decimal}
 use Rattle.std.specs.Int.{w128}
 use Rattle.dev_io.proofs.BufferLemmas.{puts_then, puts_as}
 use Rattle.coord.specs.Looks.{FrameRate}
-use Rattle.listings.specs.Texts.{number_line, rate_text, counts_text}
+use Rattle.listings.specs.ListingTexts.{number_line, rate_text, counts_text}
 use Rattle.listings.proofs.stats.put_stats.Goals as goal
 
 pub returns : goal.returns

@@ -1,4 +1,4 @@
-use Rattle.json_layout.specs.Strings.{quoted}
+use Rattle.json_text.specs.StringTexts.{quoted}
 use Rattle.dev_io.proofs.BufferLemmas.{puts_then, puts_as}
 use Rattle.listings.proofs.TrackLemmas.{track_parts}
 use Rattle.listings.proofs.tracks.put_track.Goals as goal

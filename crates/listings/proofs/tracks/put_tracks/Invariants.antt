@@ -3,7 +3,7 @@ use Rattle.std.proofs.Common.{drop}
 use Rattle.dev_io.specs.Buffer.{standing}
 use Rattle.dev_io.proofs.Leaving.{Leaves}
 use Rattle.otio_model.specs.Trees.{items_of}
-use Rattle.listings.specs.Texts.{track_lines}
+use Rattle.listings.specs.ListingTexts.{track_lines}
 use Rattle.listings.proofs.tracks.put_tracks.Given as goal
 
 abbrev pub invariant-children : goal.invariant-children

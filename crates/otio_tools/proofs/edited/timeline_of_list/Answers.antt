@@ -1,5 +1,5 @@
 use Rattle.std.proofs.Common.{Ok}
-use Rattle.edl_frames_law.proofs.CalmTracks.{timeline_calm}
+use Rattle.edl_law.proofs.CalmTracks.{timeline_calm}
 use Rattle.otio_tools.proofs.CalmTimelines.{conformed_writable}
 use Rattle.otio_tools.proofs.Planning.{few_conformed}
 use Rattle.otio_tools.proofs.edited.timeline_of_list.Goals as goal

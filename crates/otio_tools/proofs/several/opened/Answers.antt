@@ -1,6 +1,6 @@
 use Rattle.std.proofs.Common.{ℕ, List, []}
 use denote.Ref.{Bor}
-use Rattle.source_files.specs.declared.faults.Refusal.TheVariants.{Memory}
+use Rattle.source_files.specs.declared.file_faults.Refusal.TheVariants.{Memory}
 use Rattle.otio_tools.proofs.SeveralFiles.{drop_next, next_editable, opening_more, opening_stop}
 use Rattle.otio_tools.proofs.several.opened.Goals as goal
 

@@ -1,6 +1,6 @@
 use Rattle.std.proofs.Common.{true, refl}
 use Rattle.edl_law.specs.Law.{HasNames}
-use Rattle.edl_layout.proofs.FirstEvents.{more_are, all_are}
+use Rattle.edl_text.proofs.FirstEvents.{more_are, all_are}
 use Rattle.otio_tools.proofs.texts.check_texts.Goals as goal
 
 pub loop-event-preserved : goal.loop-event-preserved

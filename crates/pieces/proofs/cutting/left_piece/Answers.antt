@@ -1,8 +1,8 @@
 use Rattle.std.proofs.Common.{rules, subst, FitsSigned, ◌≡◌, Some, IfOk, IfErr, true}
 use mir.Syntax.{w128}
 use Rattle.std.proofs.lemmas.Int.{to_z-of_z}
-use Rattle.cuts.specs.Children as children
-use Rattle.cuts.specs.Children.{is_far}
+use Rattle.edits.specs.Children as children
+use Rattle.edits.specs.Children.{is_far}
 use Rattle.pieces.specs.declared.ranges.RangedFault.TheVariants.{Range}
 use Rattle.pieces.proofs.cutting.left_piece.Goals as goal
 

@@ -1,7 +1,7 @@
 use Rattle.std.proofs.Common.{arith, to_z, ap, ◌∙◌}
 use mir.Syntax.{w128}
 use Rattle.std.proofs.lemmas.Int.{ints}
-use Rattle.cuts.specs.Cuts.{cuts_whole}
+use Rattle.edits.specs.Cuts.{cuts_whole}
 use Rattle.coord.proofs.Members.{next}
 use Rattle.pieces.proofs.WholeLemmas.{whole_done, whole_here, whole_next}
 use Rattle.pieces.proofs.wholes.cuts_whole.Goals as goal

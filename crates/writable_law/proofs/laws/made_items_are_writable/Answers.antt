@@ -1,4 +1,4 @@
-use Rattle.cuts.specs.Cuts.{back}
+use Rattle.edits.specs.Cuts.{back}
 use Rattle.writable_law.proofs.MadeChildren.{back_is, made_are}
 use Rattle.writable_law.proofs.WritableChildren.{all_items, each_item, fit_writable}
 use Rattle.writable_law.proofs.WritableChildren.{ranged_writable}

@@ -1,6 +1,6 @@
 use Rattle.std.proofs.Common.{sym, subst, ap, ◌∙◌, inr, AllPairs, MatchOption, Option, unwrap_or, false, []}
 use Rattle.edl_list.specs.Formed.{AreApart}
-use Rattle.edl_order.specs.Overlaps.{AreRead}
+use Rattle.edl_text.specs.Overlaps.{AreRead}
 use Rattle.edl_text.specs.declared.faults.EdlFault.{EdlFault}
 use Rattle.edl_text.specs.Late.{AreFine, IsLateFault}
 use Rattle.edl_text.specs.Lists.{events_in}

@@ -1,5 +1,5 @@
 use Rattle.std.proofs.Common.{inr}
-use Rattle.edl_line.specs.Views.{said}
+use Rattle.edl_text.specs.Views.{said}
 use Rattle.edl_text.proofs.TakenLines.{next_line, takes_line, says_nothing}
 use Rattle.edl_text.proofs.said.Said.take_line.Goals as goal
 

@@ -1,5 +1,5 @@
 use Rattle.std.proofs.Common.{refl, sym, ◌∙◌, ap, inr, not}
-use Rattle.edl_line.specs.Views.{speed_said}
+use Rattle.edl_text.specs.Views.{speed_said}
 use Rattle.edl_text.proofs.SpeedLines.{speed_wrong, speed_unread, speed_reverse, took_speed}
 use Rattle.edl_text.proofs.said.Said.take_speed.Goals as goal
 

@@ -1,2 +1,0 @@
-pub mod WritableItems
-pub mod WritableTimelines

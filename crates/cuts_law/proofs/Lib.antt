@@ -1,5 +1,0 @@
-pub mod Outside
-pub mod Pieces
-pub mod Seams
-pub mod Sorts
-pub mod Splice

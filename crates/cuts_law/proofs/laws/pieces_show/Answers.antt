@@ -1,5 +1,0 @@
-use Rattle.cuts_law.proofs.Pieces.{left_looks, right_looks}
-use Rattle.cuts_law.proofs.laws.pieces_show.Goals as goal
-
-pub returns : goal.returns
-returns c = record { left = left_looks; right = right_looks }

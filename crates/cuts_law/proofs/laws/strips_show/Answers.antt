@@ -1,6 +1,0 @@
-use Rattle.cuts_law.proofs.Outside.{strip_shows}
-use Rattle.cuts_law.proofs.Pieces.{strip_looks}
-use Rattle.cuts_law.proofs.laws.strips_show.Goals as goal
-
-pub returns : goal.returns
-returns c = record { looks = strip_looks; outside = strip_shows }

@@ -1,9 +1,0 @@
-pub mod Unreached
-pub mod Nesting
-pub mod Lengths
-pub mod Depth
-pub mod Premises
-pub mod AgreedLaws
-pub mod AnyDepth
-pub mod Kept
-pub mod WorkedRows

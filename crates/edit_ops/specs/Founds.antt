@@ -1,0 +1,63 @@
+-- The item that an edit of edges asks for, and what the edit does there.
+use Rattle.std.specs.Prelude.{◌≡◌, ℕ, ℤ, true, false, cond, List, Option, Some, None, option_map}
+use Rattle.std.specs.Prelude.{length}
+use Rattle.otio_model.specs.declared.compositions.ItemOf.{ItemOf}
+use Rattle.otio_model.specs.declared.compositions.Listed.{Listed}
+use Rattle.otio_model.specs.declared.editing.EditFault.{EditFault}
+use Rattle.otio_model.specs.declared.editing.EditFault.TheVariants as F
+use Rattle.otio_model.specs.declared.seeks.Seat.{Seat}
+use Rattle.otio_model.specs.declared.timelines.Timeline.{Timeline}
+use Rattle.edits.specs.Edges.{Held, held_at, is_zero}
+use Rattle.edits.specs.Narrow.{touched}
+use Rattle.edits.specs.Refusals.{has_no_neighbour, unpinned}
+use Rattle.edit_ops.specs.Asked.{edit_of}
+use Rattle.edit_ops.specs.Motions.{IsMotion, Suits, motion_zone}
+use Rattle.edit_ops.specs.Seats.{IsAt}
+use Rattle.edit_ops.specs.declared.asked.EdgeEdit.{EdgeEdit}
+use Rattle.edit_ops.specs.declared.motions.Motion.{Motion}
+
+-- an item that the edit needs beside the held one isn't there
+abbrev pub LacksNeighbour : EdgeEdit → Held → Type 0
+LacksNeighbour m h = (place : List ℕ) (at : ℤ)
+    → has_no_neighbour (edit_of place at m) (Some h) ≡ true
+
+-- it is there
+abbrev pub HasNeighbours : EdgeEdit → Held → Type 0
+HasNeighbours m h = (place : List ℕ) (at : ℤ)
+    → has_no_neighbour (edit_of place at m) (Some h) ≡ false
+
+-- the held item stands at the seat, and the edit is this motion there
+pub record IsFound (f : ℤ) (m : EdgeEdit) (l : List (ItemOf Listed)) (w : ℤ) (s : Seat)
+    (o : Motion) : Type 0 where
+  pub held : Held
+  pub there : held_at l w ≡ Some held
+  pub seat : IsAt l s held
+  pub beside : HasNeighbours m held
+  pub motion : IsMotion f m held o
+
+-- the item stands at the seat, and the motion leaves what it has to
+pub record IsSuited (l : List (ItemOf Listed)) (s : Seat) (o : Motion) : Type 0 where
+  pub held : Held
+  pub seat : IsAt l s held
+  pub suits : Suits o held
+
+-- no item holds the instant
+pub record IsNoItem (l : List (ItemOf Listed)) (w : ℤ) (fault : EditFault) : Type 0 where
+  pub none : held_at l w ≡ None
+  pub is : fault ≡ F.NoItem
+
+-- an item holds it, and none stands beside it where one has to
+pub record IsNoNeighbour (m : EdgeEdit) (l : List (ItemOf Listed)) (w : ℤ)
+    (fault : EditFault) : Type 0 where
+  pub held : Held
+  pub there : held_at l w ≡ Some held
+  pub lacks : LacksNeighbour m held
+  pub is : fault ≡ F.NoNeighbour
+
+-- how many children the zone of a motion touches
+abbrev pub motion_touches : List (ItemOf Listed) → Motion → ℕ
+motion_touches l o = elim (motion_zone o) [ None ↦ 0 | Some z ↦ length (touched l z.from z.to) ]
+
+-- the fault of a track that grows by so much
+abbrev pub pin_at : ℤ → List ℕ → Timeline → Option EditFault
+pin_at growth place t = cond (is_zero growth) None (option_map F.Unpinned (unpinned place t))

@@ -1,0 +1,144 @@
+//! Numbers and places, each of one word.
+
+ghost use Rattle.std.specs.Prelude.{◌≡◌, ◌≤◌, ◌<◌, ◌↔◌, pos, All, IsTrue, IfSome, IfOk, length, option_map};
+ghost use Rattle.std.specs.Str.Parse.{AllDigits, digits_value};
+ghost use Rattle.edit_script.specs.Numbers as numbers;
+
+use otio_model::Place;
+use std::alloc::{AllocError, Global};
+use text_lines::{after, before, first_byte};
+
+/// How many digits a number has at most.
+const NUMBER_DIGITS: usize = 15;
+
+/// Whether each byte is a digit.
+#[tactic(auto, using(crate::proofs::Figures::all_digits))]
+fn are_digits(bytes: &[u8]) -> bool
+    ensures { result ≡ numbers.are_digits bytes.now }
+{
+    are_within(bytes, b'0', b'9')
+}
+
+/// Whether each byte lies between these two.
+fn are_within(bytes: &[u8], low: u8, high: u8) -> bool
+    ensures { IsTrue result ↔ All (λ b. (low ≤ b) × (b ≤ high)) bytes.now }
+{
+    bytes.iter().all(|b| low <= *b && *b <= high)
+}
+
+/// Whether the first of several bytes isn't `0`, and there is one.
+fn is_unpadded(bytes: &[u8]) -> bool
+    ensures { result ≡ numbers.is_unpadded bytes.now }
+{
+    match bytes {
+        [] => false,
+        [_] => true,
+        [first, ..] => *first != b'0',
+    }
+}
+
+/// Whether a word is a number without a sign.
+fn is_natural(word: &[u8]) -> bool
+    ensures { result ≡ numbers.is_natural word.now }
+{
+    word.len() <= NUMBER_DIGITS && are_digits(word) && is_unpadded(word)
+}
+
+/// The number that at most fifteen digits write.
+fn value_of(digits: &[u8]) -> u64
+    requires digits { AllDigits 10 digits.now }
+    requires few { length digits.now ≤ 15 }
+    ensures { result ≡ digits_value 10 digits.now }
+{
+    let mut number: u64 = 0;
+    'digits: for digit in digits {
+        number = number * 10 + u64::from(*digit - b'0');
+    }
+    number
+}
+
+/// The number that a word is: `0`, or one to fifteen digits of which the first isn't `0`; none
+/// where the word is something else.
+#[tactic(auto, using(crate::proofs::Figures::naturals))]
+pub fn natural(word: &[u8]) -> Option<u64>
+    ensures value { result ≡ numbers.natural word.now }
+    ensures small { IfSome result (λ n. n < 1000000000000000) }
+{
+    if is_natural(word) {
+        Some(value_of(word))
+    } else {
+        None
+    }
+}
+
+/// The number that a word is, as [`natural`] reads it, as a signed one that isn't negative; none
+/// where the word is something else.
+pub fn count(word: &[u8]) -> Option<i64>
+    ensures { result ≡ option_map pos (numbers.natural word.now) }
+{
+    match natural(word) {
+        Some(number) => Some(number as i64),
+        None => None,
+    }
+}
+
+/// The whole number that a word is: a number, or `-` and a number that isn't 0; none where the word
+/// is something else.
+pub fn whole(word: &[u8]) -> Option<i64>
+    ensures { result ≡ numbers.whole word.now }
+{
+    match word {
+        [] => None,
+        [b'-', digits @ ..] => negative(digits),
+        _ => count(word),
+    }
+}
+
+/// The number behind `-`.
+fn negative(digits: &[u8]) -> Option<i64>
+    ensures { result ≡ numbers.negative (numbers.natural digits.now) }
+{
+    match natural(digits) {
+        Some(0) => None,
+        Some(number) => Some(-(number as i64)),
+        None => None,
+    }
+}
+
+/// The index that a word is: a number below 2^32; none where the word is something else.
+fn index(word: &[u8]) -> Option<u32>
+    ensures { result ≡ numbers.index word.now }
+{
+    match natural(word) {
+        Some(number) => {
+            if number < 4_294_967_296 {
+                Some(number as u32)
+            } else {
+                None
+            }
+        }
+        None => None,
+    }
+}
+
+/// The place that a word is: one index or more, with `/` between; none where the word is something
+/// else. The error comes where memory runs out.
+#[tactic(auto, using(crate::proofs::PlaceLemmas::parts))]
+pub fn place_of(alloc: Global, word: &[u8]) -> Result<Option<Place>, AllocError>
+    ensures { IfOk result (λ place. place ≡ numbers.place word.now) }
+{
+    let mut place = Place::new(alloc);
+    let mut rest = word;
+    'parts: while let Some(end) = first_byte(rest, b'/') {
+        let Some(index) = index(before(rest, end)) else {
+            return Ok(None);
+        };
+        place.push(index)?;
+        rest = after(rest, end + 1);
+    }
+    let Some(index) = index(rest) else {
+        return Ok(None);
+    };
+    place.push(index)?;
+    Ok(Some(place))
+}

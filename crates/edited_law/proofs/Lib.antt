@@ -1,3 +1,0 @@
-pub mod EditedTimelines
-pub mod WritableEdits
-pub mod WritableScripts

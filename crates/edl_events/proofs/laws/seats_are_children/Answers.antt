@@ -1,5 +1,0 @@
-use Rattle.edl_events.proofs.SeatLemmas.{reason_at, event_at}
-use Rattle.edl_events.proofs.laws.seats_are_children.Goals as goal
-
-pub returns : goal.returns
-returns c = record { reason = reason_at; event = event_at }

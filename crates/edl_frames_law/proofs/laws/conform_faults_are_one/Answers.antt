@@ -1,5 +1,0 @@
-use Rattle.edl_frames_law.proofs.OneFault.{one_fault, no_fault}
-use Rattle.edl_frames_law.proofs.laws.conform_faults_are_one.Goals as goal
-
-pub returns : goal.returns
-returns c = record { one = one_fault; none = no_fault }

@@ -1,5 +1,0 @@
-use Rattle.edl_frames_law.proofs.WorkedLists.{worked, some_24}
-use Rattle.edl_frames_law.proofs.laws.lists_are_worked.Goals as goal
-
-pub returns : goal.returns
-returns c = record { lists = worked; rate = some_24 }

@@ -1,5 +1,0 @@
-use Rattle.edl_frames_law.proofs.OneList.{one_list}
-use Rattle.edl_frames_law.proofs.laws.lists_of_timelines_are_one.Goals as goal
-
-pub returns : goal.returns
-returns c = one_list

@@ -1,5 +1,0 @@
--- What the laws of lists and timelines speak of.
-pub mod PlainItems
-pub mod Worked
-pub mod Premises
-pub mod WorkedTracks

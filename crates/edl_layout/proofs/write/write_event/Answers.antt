@@ -1,5 +1,0 @@
-use Rattle.dev_io.proofs.BufferLemmas.{flush_told}
-use Rattle.edl_layout.proofs.write.write_event.Goals as goal
-
-pub returns-clause-told : goal.returns-clause-told
-returns-clause-told g c = flush_told c.new-buffer.ensures.held c.new-buffer.ensures.failed (rw c.of-layout.ensures at c.put_event.ensures) c.flush.ensures.sent

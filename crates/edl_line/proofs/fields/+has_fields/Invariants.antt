@@ -1,5 +1,0 @@
-use Rattle.std.proofs.Common.{length}
-use Rattle.edl_line.proofs.fields.+has_fields.Given as goal
-
-abbrev pub decreases-has_fields : goal.decreases-has_fields
-decreases-has_fields l = length l.fields.now

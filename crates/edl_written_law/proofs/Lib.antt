@@ -1,2 +1,0 @@
-pub mod FormedReadings
-pub mod KeptFrames

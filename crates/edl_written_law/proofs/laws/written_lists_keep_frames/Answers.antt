@@ -1,5 +1,0 @@
-use Rattle.edl_written_law.proofs.KeptFrames.{frames_kept, items_few}
-use Rattle.edl_written_law.proofs.laws.written_lists_keep_frames.Goals as goal
-
-pub returns : goal.returns
-returns c = record { kept = frames_kept; few = items_few }

@@ -1,2 +1,0 @@
--- What the text of a timeline's list keeps.
-pub mod Kept

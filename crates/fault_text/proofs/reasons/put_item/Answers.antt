@@ -1,5 +1,0 @@
-use Rattle.dev_io.proofs.BufferLemmas.{puts_then}
-use Rattle.fault_text.proofs.reasons.put_item.Goals as goal
-
-pub returns : goal.returns
-returns g c = puts_then c.put.ensures c.put_place.ensures

@@ -1,4 +1,0 @@
--- The texts of messages.
-pub mod Places
-pub mod Reasons
-pub mod Faults

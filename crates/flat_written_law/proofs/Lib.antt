@@ -1,6 +1,0 @@
-pub mod Things
-pub mod FlattenedTimelines
-pub mod WindowedTimelines
-pub mod JoinedTimelines
-pub mod StraightTimelines
-pub mod OtherTimelines

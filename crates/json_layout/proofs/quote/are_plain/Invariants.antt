@@ -1,6 +1,0 @@
-use Rattle.std.proofs.Common.{◌≡◌}
-use Rattle.json_layout.specs.Strings.{IsPlain}
-use Rattle.json_layout.proofs.quote.are_plain.Given as goal
-
-abbrev pub invariant-loop-byte : goal.invariant-loop-byte
-invariant-loop-byte l = l.needing ≡ 0 → IsPlain l.byte-index l.bytes

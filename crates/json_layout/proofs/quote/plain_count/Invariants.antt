@@ -1,9 +1,0 @@
-use Rattle.std.proofs.Common.{◌≤◌, ◌-◌, length}
-use Rattle.json_layout.specs.Strings.{IsPlain}
-use Rattle.json_layout.proofs.quote.plain_count.Given as goal
-
-abbrev pub invariant-pieces : goal.invariant-pieces
-invariant-pieces l = (l.at ≤ length l.bytes) × IsPlain l.at l.bytes
-
-abbrev pub decreases-pieces : goal.decreases-pieces
-decreases-pieces l = length l.bytes - l.at

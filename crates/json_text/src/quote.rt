@@ -1,0 +1,165 @@
+// JSON strings as they are written.
+ghost use Rattle.std.specs.Prelude.{◌≡◌, ◌<◌, ◌≤◌, ◌+◌, ◌∷◌, ◌++◌, [], false, IsTrue, drop, length, position, take};
+ghost use Rattle.std.specs.Char.{digit_char};
+ghost use Rattle.dev_io.specs.Buffer.{HandsOver};
+ghost use Rattle.json_text.specs.StringTexts.{IsPlain, code_escape, escape, escaped, quoted, needs_escape};
+
+use dev_io::{Out, OutBuffer};
+
+// The bytes of a block, which are looked at together.
+const BLOCK: usize = 64;
+
+/// Hands these bytes over as a JSON string (RFC 8259, section 7): between `"`, with `"` and `\`
+/// behind a `\`, the control characters below U+0020 as `\b`, `\f`, `\n`, `\r`, `\t` or `\u00xx`,
+/// and every other byte as it stands.
+pub fn put_string<W: Out>(buffer: &mut OutBuffer, out: &mut W, bytes: &[u8])
+    ensures { HandsOver W.known W.faults out.old out.new buffer.old buffer.new (quoted bytes.now) }
+{
+    buffer.put(out, b"\"");
+    put_escaped(buffer, out, bytes);
+    buffer.put(out, b"\"");
+}
+
+/// Hands these bytes over as the name of a member: as a JSON string, with a colon and a space
+/// behind it.
+pub fn put_name<W: Out>(buffer: &mut OutBuffer, out: &mut W, bytes: &[u8])
+    ensures { HandsOver W.known W.faults out.old out.new buffer.old buffer.new
+        (quoted bytes.now ++ 58 ∷ 32 ∷ []) }
+{
+    buffer.put(out, b"\"");
+    put_escaped(buffer, out, bytes);
+    buffer.put(out, b"\": ");
+}
+
+/// Hands these bytes over as they stand between the quotes of a JSON string (RFC 8259, section 7),
+/// so that a string can be put together from parts. Bytes that need no escape go in one slice.
+pub fn put_escaped<W: Out>(buffer: &mut OutBuffer, out: &mut W, bytes: &[u8])
+    ensures { HandsOver W.known W.faults out.old out.new buffer.old buffer.new (escaped bytes.now) }
+{
+    let mut rest = bytes;
+    'runs: while let Some(index) = first_escaped(rest) {
+        buffer.put(out, rest.split_at(index).0);
+        put_escape(buffer, out, rest[index]);
+        rest = rest.split_at(index + 1).1;
+    }
+    buffer.put(out, rest);
+}
+
+// The index of the first byte that needs an escape.
+fn first_escaped(bytes: &[u8]) -> Option<usize>
+    ensures { result ≡ position needs_escape bytes.now }
+{
+    let plain = plain_count(bytes);
+    match escaped_in(bytes.split_at(plain).1) {
+        Some(index) => Some(plain + index),
+        None => None,
+    }
+}
+
+// How many of the first bytes need no escape, by whole blocks of them.
+fn plain_count(bytes: &[u8]) -> usize
+    ensures within { result ≤ length bytes.now }
+    ensures plain { IsPlain result bytes.now }
+{
+    let mut at = 0;
+    'pieces: while bytes.len() - at >= BLOCK && are_plain(block_at(bytes, at)) {
+        at += BLOCK;
+    }
+    at
+}
+
+// A block of the bytes.
+fn block_at(bytes: &[u8], at: usize) -> &[u8]
+    requires { at + 64 ≤ length bytes.now }
+    ensures { result.now ≡ take 64 (drop at bytes.now) }
+{
+    bytes.split_at(at).1.split_at(BLOCK).0
+}
+
+// Whether no byte needs an escape. Each is looked at, which is quick.
+fn are_plain(bytes: &[u8]) -> bool
+    ensures { IsTrue result → IsPlain (length bytes.now) bytes.now }
+{
+    let mut needing = 0;
+    for byte in bytes {
+        needing = larger(needing, needs(*byte));
+    }
+    needing == 0
+}
+
+// The larger of two bytes.
+fn larger(one: u8, other: u8) -> u8
+    ensures one { one ≤ result }
+    ensures other { other ≤ result }
+{
+    if one < other { other } else { one }
+}
+
+// 1 where the byte needs an escape, and 0 where it doesn't.
+fn needs(byte: u8) -> u8
+    ensures { result ≡ 0 → needs_escape byte ≡ false }
+{
+    if is_escaped(byte) { 1 } else { 0 }
+}
+
+// Whether the byte needs an escape.
+fn is_escaped(byte: u8) -> bool
+    ensures { result ≡ needs_escape byte }
+{
+    byte < b' ' || byte == b'"' || byte == b'\\'
+}
+
+// The index of the first byte that needs an escape, looked for one by one.
+fn escaped_in(bytes: &[u8]) -> Option<usize>
+    ensures { result ≡ position needs_escape bytes.now }
+{
+    bytes
+        .iter()
+        .position(|byte| *byte < b' ' || *byte == b'"' || *byte == b'\\')
+}
+
+// Hands over what stands for this byte in a JSON string.
+fn put_escape<W: Out>(buffer: &mut OutBuffer, out: &mut W, byte: u8)
+    ensures { HandsOver W.known W.faults out.old out.new buffer.old buffer.new (escape byte) }
+{
+    match byte {
+        b'"' => buffer.put(out, b"\\\""),
+        b'\\' => buffer.put(out, b"\\\\"),
+        0x08 => buffer.put(out, b"\\b"),
+        0x0c => buffer.put(out, b"\\f"),
+        b'\n' => buffer.put(out, b"\\n"),
+        b'\r' => buffer.put(out, b"\\r"),
+        b'\t' => buffer.put(out, b"\\t"),
+        0x00..=0x1f => put_code(buffer, out, byte),
+        _ => buffer.put(out, &[byte]),
+    }
+}
+
+// Hands over the escape of a byte by its code.
+fn put_code<W: Out>(buffer: &mut OutBuffer, out: &mut W, byte: u8)
+    ensures { HandsOver W.known W.faults out.old out.new buffer.old buffer.new (code_escape byte) }
+{
+    buffer.put(
+        out,
+        &[
+            b'\\',
+            b'u',
+            b'0',
+            b'0',
+            hex_digit(byte / 16),
+            hex_digit(byte % 16),
+        ],
+    );
+}
+
+// The lower case hexadecimal digit of a number below 16.
+fn hex_digit(number: u8) -> u8
+    requires { number < 16 }
+    ensures { result ≡ digit_char number }
+{
+    if number < 10 {
+        b'0' + number
+    } else {
+        b'a' + (number - 10)
+    }
+}

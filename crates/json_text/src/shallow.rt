@@ -1,0 +1,58 @@
+// Levels whose spaces are one slice.
+ghost use Rattle.std.specs.Prelude.{◌≡◌, ◌<◌, ◌+◌, ◌∷◌, IfSome, MatchOption};
+
+static SPACES: [u8; 512] = [b' '; 512];
+
+// A comma, a line feed and the spaces of 20 levels.
+static LINE: &[u8; 82] =
+    b",\n                                                                                ";
+
+/// A number of levels, at most 128, as deep as JSON is read.
+#[derive(Clone, Copy)]
+pub struct Shallow {
+    /// How many lists and objects stand around.
+    pub levels: usize,
+    ghost few: { levels < 129 },
+}
+
+impl Shallow {
+    ghost use Rattle.json_text.specs.Layout.{indent, newline};
+
+    /// No level.
+    pub fn top() -> Shallow
+        ensures { result.levels ≡ 0 }
+    {
+        Shallow { levels: 0 }
+    }
+
+    /// One level more, or `None` where its spaces are no slice of those here.
+    pub fn inside(self) -> Option<Shallow>
+        ensures { MatchOption result (self.levels ≡ 128) (λ inner. inner.levels ≡ self.levels + 1) }
+    {
+        if self.levels < 128 {
+            Some(Shallow {
+                levels: self.levels + 1,
+            })
+        } else {
+            None
+        }
+    }
+
+    /// A comma, a line feed and the spaces before a line, or `None` where they are no slice of
+    /// those here.
+    pub fn next_line(self) -> Option<&'static [u8]>
+        ensures { IfSome result (λ line. line.now ≡ 44 ∷ newline self.levels) }
+    {
+        if self.levels > 20 {
+            return None;
+        }
+        Some(LINE.split_at(2 + 4 * self.levels).0)
+    }
+
+    /// The spaces before a line: four a level.
+    pub fn indent(self) -> &'static [u8]
+        ensures { result.now ≡ indent self.levels }
+    {
+        SPACES.split_at(4 * self.levels).0
+    }
+}

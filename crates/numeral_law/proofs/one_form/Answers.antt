@@ -1,6 +1,0 @@
--- Both ways.
-use Rattle.numeral_law.proofs.Numerals.{numeral_of_json, json_of_numeral}
-use Rattle.numeral_law.proofs.one_form.Goals as goal
-
-pub returns : goal.returns
-returns c = λ spelled. (numeral_of_json spelled, json_of_numeral spelled)

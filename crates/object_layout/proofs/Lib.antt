@@ -1,2 +1,0 @@
-pub mod ObjectLines
-pub mod ListLines

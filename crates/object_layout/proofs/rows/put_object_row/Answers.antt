@@ -1,9 +1,0 @@
-use Rattle.std.proofs.Common.{sym}
-use Rattle.dev_io.proofs.BufferLemmas.{puts_then, puts_as}
-use Rattle.json_layout.specs.Levels.{deep}
-use Rattle.json_layout.proofs.Lines.{text_at-Map}
-use Rattle.object_layout.proofs.rows.put_object_row.Goals as goal
-
-pub returns : goal.returns
-returns g c = puts_then c.put_row_name.ensures
-    (puts_as _ c.put_object.ensures (sym (text_at-Map c.args.members.now (deep c.args.level.now))))

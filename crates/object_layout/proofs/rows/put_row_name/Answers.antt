@@ -1,5 +1,0 @@
-use Rattle.dev_io.proofs.BufferLemmas.{puts_then}
-use Rattle.object_layout.proofs.rows.put_row_name.Goals as goal
-
-pub returns : goal.returns
-returns g c = puts_then c.put_line.ensures (rw c.as_bytes.ensures.value at c.put_name.ensures)

@@ -1,2 +1,0 @@
--- Lemmas on words that are rates.
-pub mod RateLemmas

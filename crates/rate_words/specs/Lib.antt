@@ -1,2 +1,0 @@
--- Definitions of words that are rates.
-pub mod RateWords

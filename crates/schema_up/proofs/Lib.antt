@@ -1,5 +1,0 @@
-pub mod Digits
-pub mod Levels
-pub mod MemberLemmas
-pub mod Points
-pub mod Steps

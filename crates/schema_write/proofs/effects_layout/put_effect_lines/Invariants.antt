@@ -1,0 +1,16 @@
+use Rattle.std.proofs.Common.{◌≡◌, ◌∷◌, [], ℕ, drop, map}
+use Rattle.dev_io.specs.Buffer.{standing}
+use Rattle.dev_io.proofs.Leaving.{Leaves}
+use Rattle.json_text.specs.Levels.{deep}
+use Rattle.json_text.specs.Layout.{item_lines}
+use Rattle.schema_write.specs.Objects.{effect_json}
+use Rattle.schema_write.proofs.effects_layout.put_effect_lines.Given as goal
+
+-- the next line has this byte before its line feed
+abbrev pub invariant-loop-effect : goal.invariant-loop-effect
+invariant-loop-effect g l =
+    let stand = standing g.W.Out.known g.W.Out.faults in
+    (head : ℕ) × (l.lead ≡ head ∷ 10 ∷ [])
+    × Leaves (stand l.fn.out l.fn.buffer) (stand l.out l.buffer)
+    (item_lines 91 (deep l.level) (map effect_json l.list))
+    (item_lines head (deep l.level) (map effect_json (drop l.effect-index l.list)))

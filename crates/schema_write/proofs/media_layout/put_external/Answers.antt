@@ -1,0 +1,17 @@
+use Rattle.std.proofs.Common.{[], ◌∷◌}
+use Rattle.dev_io.proofs.BufferLemmas.{puts_then}
+use Rattle.json_value.specs.declared.Json.{Str, Map}
+use Rattle.json_text.specs.Levels.{deep}
+use Rattle.schema_rows.specs.declared.schemas.Schema.TheVariants as S
+use Rattle.schema_write.specs.Objects.{span_json}
+use Rattle.schema_write.proofs.ObjectLines.{object_put}
+use Rattle.schema_write.proofs.media_layout.put_external.Goals as goal
+
+pub returns : goal.returns
+returns g c = object_put (deep c.args.level.now) _ S.External
+    (Map c.args.external.now.metadata ∷ Str c.args.external.now.name
+    ∷ span_json c.args.external.now.available_range ∷ Str c.args.external.now.target_url ∷ [])
+    c.args.external.now.rest c.inside-inner.ensures
+    (puts_then c.put_head.ensures (puts_then c.put_object_row.ensures
+    (puts_then c.put_text_row.ensures (puts_then c.put_span_row.ensures
+    (puts_then c.put_text_row-2.ensures (puts_then c.put_others.ensures c.put_end.ensures))))))

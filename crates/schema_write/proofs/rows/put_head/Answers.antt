@@ -1,0 +1,7 @@
+use Rattle.dev_io.proofs.BufferLemmas.{puts_then}
+use Rattle.schema_write.proofs.rows.put_head.Goals as goal
+
+pub returns : goal.returns
+returns g c = puts_then c.put_line.ensures
+    (puts_then c.put.ensures
+    (rw (c.as_bytes.ensures.value, c.text.ensures) at c.put_string.ensures))

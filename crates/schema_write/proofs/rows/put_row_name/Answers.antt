@@ -1,0 +1,5 @@
+use Rattle.dev_io.proofs.BufferLemmas.{puts_then}
+use Rattle.schema_write.proofs.rows.put_row_name.Goals as goal
+
+pub returns : goal.returns
+returns g c = puts_then c.put_line.ensures (rw c.as_bytes.ensures.value at c.put_name.ensures)

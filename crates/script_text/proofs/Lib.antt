@@ -1,9 +1,0 @@
--- Lemmas on edit scripts.
-pub mod WordLemmas
-pub mod Figures
-pub mod PlaceLemmas
-pub mod Grammar
-pub mod ActLemmas
-pub mod Once
-pub mod LineByLine
-pub mod Texts

@@ -1,9 +1,0 @@
-use Rattle.std.proofs.Common.{sym, ◌∙◌}
-use Rattle.script_text.specs.Words.{words_of}
-use Rattle.script_text.proofs.ActLemmas.{said_verb}
-use Rattle.script_text.proofs.acts.said_by.Goals as goal
-
-pub returns-in-Some-verb_of : goal.returns-in-Some-verb_of
-returns-in-Some-verb_of c = rw (said_verb c.in-Some.word.now c.in-Some-verb_of.verb
-    (words_of c.in-Some.rest.now) (words_of c.args.line.now) c.in-Some.ensures
-    (sym c.verb_of.ensures ∙ c.in-Some-verb_of.is)) c.placed_of.ensures

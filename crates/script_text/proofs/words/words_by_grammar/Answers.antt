@@ -1,5 +1,0 @@
-use Rattle.script_text.proofs.Grammar.{found, given}
-use Rattle.script_text.proofs.words.words_by_grammar.Goals as goal
-
-pub returns : goal.returns
-returns c = λ line words. (found line words, given line words)

@@ -1,0 +1,55 @@
+// Whole numbers among the words.
+ghost use Rattle.std.specs.Prelude.{◌↔◌, ◌≤◌, ℕ, All, IsTrue, MatchOption};
+ghost use Rattle.std.specs.Str.Parse.{AllDigits};
+ghost use Rattle.smpte_tc.specs.Words.{IsWholeNumber};
+ghost use Rattle.smpte_tc.specs.Digits.{IsPlain, IsWhole};
+
+/// How many digits a whole number has at most.
+const MOST_DIGITS: usize = 18;
+
+/// The whole number that a word is: decimal digits without a sign or a leading zero, at most 18 of
+/// them. `0` itself is one. None for every other word.
+pub fn whole_number(word: &str) -> Option<u64>
+    ensures { MatchOption result ((n : ℕ) → IsWholeNumber word.now n → ⊥) (IsWholeNumber word.now) }
+{
+    if !is_whole(word.as_bytes()) {
+        return None;
+    }
+    match word.parse() {
+        Ok(number) => Some(number),
+        Err(_) => None,
+    }
+}
+
+// Whether bytes are decimal digits without a leading zero, at least one and at most 18.
+fn is_whole(bytes: &[u8]) -> bool
+    ensures { IsTrue result ↔ IsWhole bytes.now }
+{
+    bytes.len() <= MOST_DIGITS && is_plain(bytes) && are_digits(bytes)
+}
+
+// Whether there is a byte, and a `0` at the front stands alone.
+fn is_plain(bytes: &[u8]) -> bool
+    ensures { IsTrue result ↔ IsPlain bytes.now }
+{
+    match bytes {
+        [] => false,
+        [b'0', _, ..] => false,
+        _ => true,
+    }
+}
+
+// Whether each byte is a decimal digit.
+#[tactic(auto, using(tick_time::proofs::DigitBytes::digits_of, tick_time::proofs::DigitBytes::of_digits))]
+fn are_digits(bytes: &[u8]) -> bool
+    ensures { IsTrue result ↔ AllDigits 10 bytes.now }
+{
+    are_within(bytes, b'0', b'9')
+}
+
+// Whether each byte lies between these two.
+fn are_within(bytes: &[u8], low: u8, high: u8) -> bool
+    ensures { IsTrue result ↔ All (λ b. (low ≤ b) × (b ≤ high)) bytes.now }
+{
+    bytes.iter().all(|b| low <= *b && *b <= high)
+}

@@ -1,6 +1,0 @@
-pub mod Counting
-pub mod Carrying
-pub mod Ending
-pub mod OneStep
-pub mod OneGathered
-pub mod OneOutcome

@@ -1,6 +1,0 @@
-use Rattle.tool_steps.specs.Tooled.{untrimmed}
-use Rattle.tool_steps.proofs.steps.cut.Goals as goal
-
-pub returns-in-Err-trimmed-clause-fault : goal.returns-in-Err-trimmed-clause-fault
-returns-in-Err-trimmed-clause-fault c = λ n.
-    untrimmed c.in-Ok.shaped c.in-Ok.ensures.shaped (c.in-Err-trimmed.ensures.fault n)

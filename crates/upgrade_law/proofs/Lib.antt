@@ -1,3 +1,0 @@
-pub mod NumeralsInside
-pub mod Members
-pub mod UpgradedNumerals

@@ -1,5 +1,0 @@
-use Rattle.upgrade_law.proofs.UpgradedNumerals.{read_numerals, upgraded_numerals}
-use Rattle.upgrade_law.proofs.read_has_numerals.Goals as goal
-
-pub returns : goal.returns
-returns c = record { read = read_numerals; upgraded = upgraded_numerals }
