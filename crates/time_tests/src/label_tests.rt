@@ -59,13 +59,11 @@ fn label_is(
     assert!(rt; label(number, rate, drop_frame) == answer);
 }
 
-/// That drop-frame labels read as they should, and that those that do are the numbers' labels.
-fn are_drop_labels(rt: &impl Abort, rate: Rate, labels: &[(&[u8; 11], Result<i64, TcFault>)]) {
-    for (text, answer) in labels.iter() {
-        reads_as(rt, text.as_slice(), rate, true, *answer);
-        if let Ok(number) = *answer {
-            label_is(rt, number, rate, true, Ok(**text));
-        }
+/// That a drop-frame label reads as it should, and that one that does is the number's label.
+fn drop_label_is(rt: &impl Abort, rate: Rate, text: &[u8; 11], answer: Result<i64, TcFault>) {
+    reads_as(rt, text.as_slice(), rate, true, answer);
+    if let Ok(number) = answer {
+        label_is(rt, number, rate, true, Ok(*text));
     }
 }
 
@@ -152,19 +150,38 @@ const DROP_30: [(&[u8; 11], Result<i64, TcFault>); 12] = [
     (b"00:00:00.00", Err(TcFault::Form)),
 ];
 
+/// Labels that read as one number, 1 800, and whether drop-frame is asked for.
+const ALIKE_30: [(&[u8; 11], bool); 3] = [
+    (b"00:01:00;02", false),
+    (b"00:01:00:02", true),
+    (b"00:01:00:00", false),
+];
+
+/// That bytes are the label of this frame, or of none.
+fn frame_is(rt: &impl Abort, text: &[u8], rate: Rate, frame: Option<u32>) {
+    assert!(rt; label_frame(text, rate, false) == frame);
+}
+
+/// Numbers and their labels, with and without drop-frame.
+fn numbers_at_30(rt: &impl Abort, rate: Rate) {
+    label_is(rt, 1_800, rate, false, Ok(*b"00:01:00:00"));
+    label_is(rt, 2_589_408, rate, true, Err(TcFault::Day));
+    label_is(rt, -1, rate, true, Err(TcFault::Day));
+    label_is(rt, 2_589_408, rate, false, Ok(*b"23:58:33:18"));
+}
+
 #[test]
 fn drop_frame_at_30(rt: HostRuntime) {
     let rate = rate_30_drop();
-    are_drop_labels(&rt, rate, DROP_30.as_slice());
-    reads_as(&rt, b"00:01:00;02", rate, false, Ok(1_800));
-    assert!(rt; label_frame(b"00:01:00;02", rate, false) == Some(1_800));
-    assert!(rt; label_frame(b"00:01:00;00", rate, false) == None);
-    reads_as(&rt, b"00:01:00:02", rate, true, Ok(1_800));
-    reads_as(&rt, b"00:01:00:00", rate, false, Ok(1_800));
-    label_is(&rt, 1_800, rate, false, Ok(*b"00:01:00:00"));
-    label_is(&rt, 2_589_408, rate, true, Err(TcFault::Day));
-    label_is(&rt, -1, rate, true, Err(TcFault::Day));
-    label_is(&rt, 2_589_408, rate, false, Ok(*b"23:58:33:18"));
+    for (text, answer) in DROP_30.iter() {
+        drop_label_is(&rt, rate, text, *answer);
+    }
+    for &(text, drop_frame) in ALIKE_30.iter() {
+        reads_as(&rt, text.as_slice(), rate, drop_frame, Ok(1_800));
+    }
+    frame_is(&rt, b"00:01:00;02", rate, Some(1_800));
+    frame_is(&rt, b"00:01:00;00", rate, None);
+    numbers_at_30(&rt, rate);
 }
 
 /// Labels at 60000/1001 with drop-frame.
@@ -181,7 +198,9 @@ const DROP_60: [(&[u8; 11], Result<i64, TcFault>); 7] = [
 #[test]
 fn drop_frame_at_60(rt: HostRuntime) {
     let rate = rate_60_drop();
-    are_drop_labels(&rt, rate, DROP_60.as_slice());
+    for (text, answer) in DROP_60.iter() {
+        drop_label_is(&rt, rate, text, *answer);
+    }
     label_is(&rt, 5_178_816, rate, true, Err(TcFault::Day));
 }
 

@@ -1,10 +1,11 @@
 //! Command lines of `tool`, and of commands that read several files.
 
-use crate::word_tests::{is_refused, requested, words_of};
+use crate::word_tests::{Wanted, asks, is_refused};
 use command_words::{Command, Flattening, Joining, ToolAsked, TrackKind, Window};
 use smpte_tc::{RecordPoint, rate_of};
-use std::alloc::{AllocError, Global};
-use std::test::Fail;
+use std::alloc::Global;
+use std::process::Abort;
+use tick_time::Rate;
 
 // `tool` without an option.
 fn plain_tool() -> ToolAsked {
@@ -22,221 +23,186 @@ fn plain_tool() -> ToolAsked {
     }
 }
 
-// The names of the files that a line reads, with one space between, and its command.
-fn files_of(alloc: Global, line: &str) -> Result<Option<(String, Command)>, AllocError> {
-    let words = words_of(alloc, line)?;
-    match requested(alloc, words.as_slice()) {
-        Some(request) => {
-            let mut names = String::from_str(alloc, request.name)?;
-            for &name in request.others.more.as_slice() {
-                names.push_str(" ")?;
-                names.push_str(name)?;
-            }
-            Ok(Some((names, request.command)))
-        }
-        None => Ok(None),
-    }
+// That a line asks for this command on these files.
+fn asks_for_files(rt: &impl Abort, alloc: Global, line: &str, command: Command, names: &str) {
+    asks(rt, alloc, line, &Wanted::Files(command, names));
 }
 
-// Whether a line asks for this command on these files.
-fn asks_for(alloc: Global, line: &str, names: &str, command: Command) -> Result<bool, AllocError> {
-    match files_of(alloc, line)? {
-        Some((found, asked)) => Ok(found.as_str() == names && asked == command),
-        None => Ok(false),
-    }
+// That lines ask for `cat` and `stat` of timelines.
+fn timelines_are_asked_for(rt: &impl Abort, alloc: Global) {
+    asks_for_files(rt, alloc, "cat x", Command::Cat, "x");
+    asks_for_files(
+        rt,
+        alloc,
+        "cat a b --media m c -o y d",
+        Command::Cat,
+        "a b c d",
+    );
+    asks_for_files(rt, alloc, "cat a -- --b -", Command::Cat, "a --b -");
+    asks_for_files(rt, alloc, "stat x", Command::Stat, "x");
+    asks_for_files(rt, alloc, "stat - --media -", Command::Stat, "-");
 }
 
-#[test]
-fn lines_ask_for_several_files(rt: HostRuntime) -> Result<(), Fail> {
-    let Some(rate) = rate_of(b"24") else {
-        assert!(rt; false);
-        return Ok(());
-    };
-    let stacked = ToolAsked {
+// That lines ask for the same of lists.
+fn lists_are_asked_for(rt: &impl Abort, alloc: Global, rate: Rate) {
+    let cat = Command::ListCat { rate };
+    asks_for_files(rt, alloc, "cat --rate 24 a b.edl", cat, "a b.edl");
+    asks_for_files(rt, alloc, "cat a.edl b", cat, "a.edl b");
+    let stat = Command::ListStat { rate };
+    asks_for_files(rt, alloc, "stat .edl", stat, ".edl");
+}
+
+// That lines ask for `tool` on several files.
+fn tools_are_asked_for(rt: &impl Abort, alloc: Global, rate: Rate) {
+    asks_for_tool(rt, alloc, "tool x", plain_tool());
+    let tool = ToolAsked {
         joining: Some(Joining::Stack),
         ..plain_tool()
     };
-    for (line, names, command) in [
-        ("cat x", "x", Command::Cat),
-        ("cat a b --media m c -o y d", "a b c d", Command::Cat),
-        ("cat a -- --b -", "a --b -", Command::Cat),
-        (
-            "cat --rate 24 a b.edl",
-            "a b.edl",
-            Command::ListCat { rate },
-        ),
-        ("cat a.edl b", "a.edl b", Command::ListCat { rate }),
-        ("stat x", "x", Command::Stat),
-        ("stat - --media -", "-", Command::Stat),
-        ("stat .edl", ".edl", Command::ListStat { rate }),
-        ("tool x", "x", Command::Tool(plain_tool())),
-        ("tool a b --stack c", "a b c", Command::Tool(stacked)),
-        (
-            "tool a.edl --stack",
-            "a.edl",
-            Command::ListTool {
-                rate,
-                tool: stacked,
-            },
-        ),
-    ] {
-        assert!(rt; asks_for(rt.alloc(), line, names, command)?, "{line}");
-    }
-    Ok(())
-}
-
-// Whether a line asks for this of the one file `x`.
-fn asks_for_tool(alloc: Global, line: &str, tool: ToolAsked) -> Result<bool, AllocError> {
-    asks_for(alloc, line, "x", Command::Tool(tool))
+    asks_for_files(
+        rt,
+        alloc,
+        "tool a b --stack c",
+        Command::Tool(tool),
+        "a b c",
+    );
+    let of_lists = Command::ListTool { rate, tool };
+    asks_for_files(rt, alloc, "tool a.edl --stack", of_lists, "a.edl");
 }
 
 #[test]
-fn lines_ask_for_tool_listings(rt: HostRuntime) -> Result<(), Fail> {
+fn lines_ask_for_several_files(rt: HostRuntime) {
+    let Some(rate) = rate_of(b"24") else {
+        assert!(rt; false);
+        return;
+    };
+    timelines_are_asked_for(&rt, rt.alloc());
+    lists_are_asked_for(&rt, rt.alloc(), rate);
+    tools_are_asked_for(&rt, rt.alloc(), rate);
+}
+
+// That a line asks for this of the one file `x`.
+fn asks_for_tool(rt: &impl Abort, alloc: Global, line: &str, tool: ToolAsked) {
+    asks_for_files(rt, alloc, line, Command::Tool(tool), "x");
+}
+
+#[test]
+fn lines_ask_for_tool_listings(rt: HostRuntime) {
     let plain = plain_tool();
-    for (line, tool) in [
-        (
-            "tool x --list-tracks --stats",
-            ToolAsked {
-                list_tracks: true,
-                stats: true,
-                ..plain
-            },
-        ),
-        (
-            "tool x --list-media",
-            ToolAsked {
-                list_media: true,
-                ..plain
-            },
-        ),
-        (
-            "tool --list-clips x",
-            ToolAsked {
-                list_clips: true,
-                ..plain
-            },
-        ),
-    ] {
-        assert!(rt; asks_for_tool(rt.alloc(), line, tool)?, "{line}");
-    }
-    Ok(())
+    let tracks = ToolAsked {
+        list_tracks: true,
+        stats: true,
+        ..plain
+    };
+    asks_for_tool(&rt, rt.alloc(), "tool x --list-tracks --stats", tracks);
+    let media = ToolAsked {
+        list_media: true,
+        ..plain
+    };
+    asks_for_tool(&rt, rt.alloc(), "tool x --list-media", media);
+    let clips = ToolAsked {
+        list_clips: true,
+        ..plain
+    };
+    asks_for_tool(&rt, rt.alloc(), "tool --list-clips x", clips);
 }
 
 #[test]
-fn lines_ask_for_tool_tracks(rt: HostRuntime) -> Result<(), Fail> {
+fn lines_ask_for_tool_tracks(rt: HostRuntime) {
     let plain = plain_tool();
-    for (line, tool) in [
-        (
-            "tool x --video-only",
-            ToolAsked {
-                only: Some(TrackKind::Video),
-                ..plain
-            },
-        ),
-        (
-            "tool x --audio-only",
-            ToolAsked {
-                only: Some(TrackKind::Audio),
-                ..plain
-            },
-        ),
-        (
-            "tool x --remove-transitions",
-            ToolAsked {
-                remove_transitions: true,
-                ..plain
-            },
-        ),
-        (
-            "tool x --concat",
-            ToolAsked {
-                joining: Some(Joining::Concat),
-                ..plain
-            },
-        ),
-    ] {
-        assert!(rt; asks_for_tool(rt.alloc(), line, tool)?, "{line}");
-    }
-    Ok(())
+    let video = ToolAsked {
+        only: Some(TrackKind::Video),
+        ..plain
+    };
+    asks_for_tool(&rt, rt.alloc(), "tool x --video-only", video);
+    let audio = ToolAsked {
+        only: Some(TrackKind::Audio),
+        ..plain
+    };
+    asks_for_tool(&rt, rt.alloc(), "tool x --audio-only", audio);
+    let cuts = ToolAsked {
+        remove_transitions: true,
+        ..plain
+    };
+    asks_for_tool(&rt, rt.alloc(), "tool x --remove-transitions", cuts);
+    let joined = ToolAsked {
+        joining: Some(Joining::Concat),
+        ..plain
+    };
+    asks_for_tool(&rt, rt.alloc(), "tool x --concat", joined);
 }
 
 #[test]
-fn lines_ask_for_tool_flattening(rt: HostRuntime) -> Result<(), Fail> {
+fn lines_ask_for_tool_flattening(rt: HostRuntime) {
     let plain = plain_tool();
-    for (line, tool) in [
-        (
-            "tool --flatten=all x",
-            ToolAsked {
-                flatten: Some(Flattening::All),
-                ..plain
-            },
-        ),
-        (
-            "tool x --flatten audio --keep-flattened-tracks",
-            ToolAsked {
-                flatten: Some(Flattening::Audio),
-                keep_flattened: true,
-                ..plain
-            },
-        ),
-        (
-            "tool x --flatten video",
-            ToolAsked {
-                flatten: Some(Flattening::Video),
-                ..plain
-            },
-        ),
-    ] {
-        assert!(rt; asks_for_tool(rt.alloc(), line, tool)?, "{line}");
-    }
-    Ok(())
+    let all = ToolAsked {
+        flatten: Some(Flattening::All),
+        ..plain
+    };
+    asks_for_tool(&rt, rt.alloc(), "tool --flatten=all x", all);
+    let audio = ToolAsked {
+        flatten: Some(Flattening::Audio),
+        keep_flattened: true,
+        ..plain
+    };
+    asks_for_tool(
+        &rt,
+        rt.alloc(),
+        "tool x --flatten audio --keep-flattened-tracks",
+        audio,
+    );
+    let video = ToolAsked {
+        flatten: Some(Flattening::Video),
+        ..plain
+    };
+    asks_for_tool(&rt, rt.alloc(), "tool x --flatten video", video);
 }
 
 #[test]
-fn a_line_asks_for_a_tool_window(rt: HostRuntime) -> Result<(), Fail> {
+fn a_line_asks_for_a_tool_window(rt: HostRuntime) {
     let start = RecordPoint::Frame(4);
     let end = RecordPoint::Label(*b"01:00:00:00");
     let tool = ToolAsked {
         trim: Some(Window { start, end }),
         ..plain_tool()
     };
-    let line = "tool x --trim 4,01:00:00:00";
-    assert!(rt; asks_for_tool(rt.alloc(), line, tool)?);
-    Ok(())
+    asks_for_tool(&rt, rt.alloc(), "tool x --trim 4,01:00:00:00", tool);
 }
 
+/// Lines that ask for no such command.
+const NO_TOOLS: [&str; 27] = [
+    "cat",
+    "stat",
+    "tool",
+    "stat a b",
+    "cat - -",
+    "cat a - b -",
+    "cat - a.edl --media -",
+    "stat a.edl - ",
+    "cat x --stats",
+    "stat x --stats",
+    "cat x --rate 29.5",
+    "tool a b",
+    "tool a --concat --stack",
+    "tool a b --concat --stack",
+    "tool a --video-only --audio-only",
+    "tool a --stats --stats",
+    "tool a --trim 4",
+    "tool a --trim 4,",
+    "tool a --trim ,4",
+    "tool a --trim 4,5,6",
+    "tool a --trim 4,05",
+    "tool a --trim 1 2",
+    "tool a --flatten both",
+    "tool a --flatten",
+    "tool a --flatten all --flatten all",
+    "tool a --script s",
+    "convert x --stats",
+];
+
 #[test]
-fn other_lines_ask_for_no_tools(rt: HostRuntime) -> Result<(), Fail> {
-    for line in [
-        "cat",
-        "stat",
-        "tool",
-        "stat a b",
-        "cat - -",
-        "cat a - b -",
-        "cat - a.edl --media -",
-        "stat a.edl - ",
-        "cat x --stats",
-        "stat x --stats",
-        "cat x --rate 29.5",
-        "tool a b",
-        "tool a --concat --stack",
-        "tool a b --concat --stack",
-        "tool a --video-only --audio-only",
-        "tool a --stats --stats",
-        "tool a --trim 4",
-        "tool a --trim 4,",
-        "tool a --trim ,4",
-        "tool a --trim 4,5,6",
-        "tool a --trim 4,05",
-        "tool a --trim 1 2",
-        "tool a --flatten both",
-        "tool a --flatten",
-        "tool a --flatten all --flatten all",
-        "tool a --script s",
-        "convert x --stats",
-    ] {
-        is_refused(&rt, rt.alloc(), line)?;
+fn other_lines_ask_for_no_tools(rt: HostRuntime) {
+    for line in NO_TOOLS.iter() {
+        is_refused(&rt, rt.alloc(), line);
     }
-    Ok(())
 }
