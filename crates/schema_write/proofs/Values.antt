@@ -1,5 +1,5 @@
 -- Values in the written order, each known.
-use Rattle.std.proofs.Common.{◌≡◌, ℕ, List, [], ◌∷◌, ◌++◌, ◌∙◌, map, IfOk, Result, refl, ap, ap₂, subst, Bool}
+use Rattle.std.proofs.Common.{◌≡◌, ℕ, List, [], ◌∷◌, ◌++◌, ◌∙◌, map, IfOk, IsOkAnd, Result, Ok, Err, refl, ap, ap₂, subst, Bool}
 use Rattle.json_value.specs.declared.Json.{Json}
 use Rattle.otio_model.specs.declared.sources.Media.{Media}
 use Rattle.sequences.specs.Pairs.{names_of}
@@ -12,10 +12,22 @@ use Rattle.schema_write.specs.Objects.{medium_pair}
 pub grown : {old new values : List Json} {x y : Json} → new ≡ old ++ x ∷ [] → old ≡ values → x ≡ y → new ≡ values ++ y ∷ []
 grown added before it = added ∙ ap₂ (λ vs v. vs ++ v ∷ []) before it
 
+-- the same where the value came of a call
+pub added : {E : Type 0} (r : Result Json E) (y : Json) {old new values : List Json} → IsOkAnd r (λ x. new ≡ old ++ x ∷ []) → IfOk r (λ x. x ≡ y)
+    → old ≡ values → new ≡ values ++ y ∷ []
+added (Ok x) y is_added it before = grown is_added before it
+added (Err _) y is_added it before = absurd is_added
+
 -- the same object with equal values
 pub written_as : {E : Type 0} (r : Result Json E) (schema : Schema) (rest : List (List ℕ × Json)) (xs ys : List Json) → xs ≡ ys
     → IfOk r (λ json. json ≡ written schema xs rest) → IfOk r (λ json. json ≡ written schema ys rest)
 written_as r schema rest xs ys e h = subst (λ (vs : List Json). IfOk r (λ json. json ≡ written schema vs rest)) e h
+
+-- the same object where it has no other members
+pub written_bare : {E : Type 0} (r : Result Json E) (schema : Schema) (rest : List (List ℕ × Json)) (xs ys : List Json) → rest ≡ [] → xs ≡ ys
+    → IfOk r (λ json. json ≡ written schema xs rest) → IfOk r (λ json. json ≡ written schema ys [])
+written_bare r schema rest xs ys none e h =
+    written_as r schema [] xs ys e (subst (λ (members : List (List ℕ × Json)). IfOk r (λ json. json ≡ written schema xs members)) none h)
 
 -- the same effect, by whether it is one of time
 pub plain_as : {E : Type 0} (r : Result Json E) (timed t : Bool) (rest : List (List ℕ × Json)) (values : List Json) → t ≡ timed

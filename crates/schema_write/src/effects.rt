@@ -4,7 +4,7 @@ ghost use Rattle.std.specs.Prelude.{◌≡◌, IfOk};
 ghost use Rattle.schema_write.specs.Objects as objects;
 
 use crate::numerals::{speed_numeral, zero_numeral};
-use crate::writing::{object, string, written};
+use crate::writing::{add, named, string, written};
 use json_value::{Json, copy_json};
 use otio_model::{Effect, Effects, Freeze, Plain, Warp};
 use schema_rows::Schema;
@@ -37,32 +37,26 @@ fn effect_json(alloc: Global, effect: &Effect) -> Result<Json, AllocError>
 fn warp_json(alloc: Global, warp: &Warp) -> Result<Json, AllocError>
     ensures { IfOk result (λ json. json ≡ objects.warp_json warp.now) }
 {
-    let mut values = Vec::with_capacity(alloc, 4)?;
-    values.push(object(alloc, &warp.metadata)?)?;
-    values.push(string(alloc, &warp.name)?)?;
-    values.push(string(alloc, &warp.effect_name)?)?;
-    values.push(speed_numeral(alloc, warp.time_scalar)?)?;
+    let mut values = named(alloc, &warp.metadata, &warp.name, 4)?;
+    add(&mut values, string(alloc, &warp.effect_name))?;
+    add(&mut values, speed_numeral(alloc, warp.time_scalar))?;
     written(alloc, Schema::Warp, values, &warp.rest)
 }
 
 fn freeze_json(alloc: Global, freeze: &Freeze) -> Result<Json, AllocError>
     ensures { IfOk result (λ json. json ≡ objects.freeze_json freeze.now) }
 {
-    let mut values = Vec::with_capacity(alloc, 4)?;
-    values.push(object(alloc, &freeze.metadata)?)?;
-    values.push(string(alloc, &freeze.name)?)?;
-    values.push(string(alloc, &freeze.effect_name)?)?;
-    values.push(zero_numeral(alloc)?)?;
+    let mut values = named(alloc, &freeze.metadata, &freeze.name, 4)?;
+    add(&mut values, string(alloc, &freeze.effect_name))?;
+    add(&mut values, zero_numeral(alloc))?;
     written(alloc, Schema::Freeze, values, &freeze.rest)
 }
 
 fn plain_json(alloc: Global, plain: &Plain) -> Result<Json, AllocError>
     ensures { IfOk result (λ json. json ≡ objects.plain_json plain.now) }
 {
-    let mut values = Vec::with_capacity(alloc, 3)?;
-    values.push(object(alloc, &plain.metadata)?)?;
-    values.push(string(alloc, &plain.name)?)?;
-    values.push(string(alloc, &plain.effect_name)?)?;
+    let mut values = named(alloc, &plain.metadata, &plain.name, 3)?;
+    add(&mut values, string(alloc, &plain.effect_name))?;
     if plain.timed {
         return written(alloc, Schema::TimeEffect, values, &plain.rest);
     }

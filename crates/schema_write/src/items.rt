@@ -3,11 +3,8 @@
 ghost use Rattle.std.specs.Prelude.{◌≡◌, IfOk};
 ghost use Rattle.schema_write.specs.Objects as objects;
 
-use crate::effects::effects_json;
-use crate::leaves::{clip_json, gap_json, transition_json};
-use crate::marks::markers_json;
-use crate::times::span_json;
-use crate::writing::{object, string, written};
+use crate::leaves::{clip_json, gap_json, shown, transition_json};
+use crate::writing::{add, string, written};
 use json_value::{Json, JsonList};
 use otio_model::{Children, Item, ItemOf, Stack, Track};
 use schema_rows::Schema;
@@ -58,13 +55,15 @@ pub fn stack_json(alloc: Global, stack: &Stack) -> Result<Json, AllocError>
 fn stack_of(alloc: Global, stack: &Stack, children: JsonList) -> Result<Json, AllocError>
     ensures { IfOk result (λ json. json ≡ objects.stack_by (λ _. children) stack.now) }
 {
-    let mut values = Vec::with_capacity(alloc, 7)?;
-    values.push(object(alloc, &stack.metadata)?)?;
-    values.push(string(alloc, &stack.name)?)?;
-    values.push(span_json(alloc, stack.source_range)?)?;
-    values.push(effects_json(alloc, &stack.effects)?)?;
-    values.push(markers_json(alloc, &stack.markers)?)?;
-    values.push(Json::Bool(stack.enabled))?;
+    let mut values = shown(
+        alloc,
+        &stack.metadata,
+        &stack.name,
+        stack.source_range,
+        &stack.effects,
+        &stack.markers,
+        stack.enabled,
+    )?;
     values.push(Json::List(children))?;
     written(alloc, Schema::Stack, values, &stack.rest)
 }
@@ -73,14 +72,16 @@ fn stack_of(alloc: Global, stack: &Stack, children: JsonList) -> Result<Json, Al
 fn track_of(alloc: Global, track: &Track, children: JsonList) -> Result<Json, AllocError>
     ensures { IfOk result (λ json. json ≡ objects.track_by (λ _. children) track.now) }
 {
-    let mut values = Vec::with_capacity(alloc, 8)?;
-    values.push(object(alloc, &track.metadata)?)?;
-    values.push(string(alloc, &track.name)?)?;
-    values.push(span_json(alloc, track.source_range)?)?;
-    values.push(effects_json(alloc, &track.effects)?)?;
-    values.push(markers_json(alloc, &track.markers)?)?;
-    values.push(Json::Bool(track.enabled))?;
+    let mut values = shown(
+        alloc,
+        &track.metadata,
+        &track.name,
+        track.source_range,
+        &track.effects,
+        &track.markers,
+        track.enabled,
+    )?;
     values.push(Json::List(children))?;
-    values.push(string(alloc, &track.kind)?)?;
+    add(&mut values, string(alloc, &track.kind))?;
     written(alloc, Schema::Track, values, &track.rest)
 }

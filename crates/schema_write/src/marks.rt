@@ -4,7 +4,7 @@ ghost use Rattle.std.specs.Prelude.{◌≡◌, IfOk};
 ghost use Rattle.schema_write.specs.Objects as objects;
 
 use crate::times::span_json;
-use crate::writing::{object, string, written};
+use crate::writing::{add, named, written};
 use json_value::{Json, copy_json};
 use otio_model::{Mark, Marker, Markers};
 use schema_rows::Schema;
@@ -35,9 +35,7 @@ fn marker_json(alloc: Global, marker: &Marker) -> Result<Json, AllocError>
 fn mark_json(alloc: Global, mark: &Mark) -> Result<Json, AllocError>
     ensures { IfOk result (λ json. json ≡ objects.mark_json mark.now) }
 {
-    let mut values = Vec::with_capacity(alloc, 3)?;
-    values.push(object(alloc, &mark.metadata)?)?;
-    values.push(string(alloc, &mark.name)?)?;
-    values.push(span_json(alloc, mark.marked_range)?)?;
+    let mut values = named(alloc, &mark.metadata, &mark.name, 3)?;
+    add(&mut values, span_json(alloc, mark.marked_range))?;
     written(alloc, Schema::Marker, values, &mark.rest)
 }

@@ -5,7 +5,7 @@ ghost use Rattle.sequences.specs.Pairs.{names_of, AreDistinct};
 ghost use Rattle.schema_write.specs.Objects as objects;
 
 use crate::times::span_json;
-use crate::writing::{object, string, written};
+use crate::writing::{add, named, string, written};
 use json_value::{Json, copy_json};
 use otio_model::{External, Generator, Media, MediaMap, Missing, Sequence};
 use schema_rows::Schema;
@@ -47,44 +47,36 @@ fn medium_json(alloc: Global, medium: &Media) -> Result<Json, AllocError>
 fn external_json(alloc: Global, medium: &External) -> Result<Json, AllocError>
     ensures { IfOk result (λ json. json ≡ objects.external_json medium.now) }
 {
-    let mut values = Vec::with_capacity(alloc, 4)?;
-    values.push(object(alloc, &medium.metadata)?)?;
-    values.push(string(alloc, &medium.name)?)?;
-    values.push(span_json(alloc, medium.available_range)?)?;
-    values.push(string(alloc, &medium.target_url)?)?;
+    let mut values = named(alloc, &medium.metadata, &medium.name, 4)?;
+    add(&mut values, span_json(alloc, medium.available_range))?;
+    add(&mut values, string(alloc, &medium.target_url))?;
     written(alloc, Schema::External, values, &medium.rest)
 }
 
 fn missing_json(alloc: Global, medium: &Missing) -> Result<Json, AllocError>
     ensures { IfOk result (λ json. json ≡ objects.missing_json medium.now) }
 {
-    let mut values = Vec::with_capacity(alloc, 3)?;
-    values.push(object(alloc, &medium.metadata)?)?;
-    values.push(string(alloc, &medium.name)?)?;
-    values.push(span_json(alloc, medium.available_range)?)?;
+    let mut values = named(alloc, &medium.metadata, &medium.name, 3)?;
+    add(&mut values, span_json(alloc, medium.available_range))?;
     written(alloc, Schema::Missing, values, &medium.rest)
 }
 
 fn generator_json(alloc: Global, medium: &Generator) -> Result<Json, AllocError>
     ensures { IfOk result (λ json. json ≡ objects.generator_json medium.now) }
 {
-    let mut values = Vec::with_capacity(alloc, 4)?;
-    values.push(object(alloc, &medium.metadata)?)?;
-    values.push(string(alloc, &medium.name)?)?;
-    values.push(span_json(alloc, medium.available_range)?)?;
-    values.push(string(alloc, &medium.generator_kind)?)?;
+    let mut values = named(alloc, &medium.metadata, &medium.name, 4)?;
+    add(&mut values, span_json(alloc, medium.available_range))?;
+    add(&mut values, string(alloc, &medium.generator_kind))?;
     written(alloc, Schema::Generator, values, &medium.rest)
 }
 
 fn images_json(alloc: Global, medium: &Sequence) -> Result<Json, AllocError>
     ensures { IfOk result (λ json. json ≡ objects.images_json medium.now) }
 {
-    let mut values = Vec::with_capacity(alloc, 6)?;
-    values.push(object(alloc, &medium.metadata)?)?;
-    values.push(string(alloc, &medium.name)?)?;
-    values.push(span_json(alloc, medium.available_range)?)?;
-    values.push(string(alloc, &medium.target_url_base)?)?;
-    values.push(string(alloc, &medium.name_prefix)?)?;
-    values.push(string(alloc, &medium.name_suffix)?)?;
+    let mut values = named(alloc, &medium.metadata, &medium.name, 6)?;
+    add(&mut values, span_json(alloc, medium.available_range))?;
+    add(&mut values, string(alloc, &medium.target_url_base))?;
+    add(&mut values, string(alloc, &medium.name_prefix))?;
+    add(&mut values, string(alloc, &medium.name_suffix))?;
     written(alloc, Schema::Images, values, &medium.rest)
 }

@@ -6,7 +6,7 @@ ghost use Rattle.schema_write.specs.Objects as objects;
 
 use crate::items::{item_json, stack_json};
 use crate::times::offset_json;
-use crate::writing::{object, string, written};
+use crate::writing::{add, named, written};
 use json_value::{Json, JsonList};
 use otio_model::{Collection, Object, Objects, Timeline};
 use schema_rows::Schema;
@@ -34,9 +34,7 @@ pub fn json_of(alloc: Global, object: &Object) -> Result<Json, AllocError>
 fn collection_json(alloc: Global, collection: &Collection) -> Result<Json, AllocError>
     ensures { IfOk result (λ json. json ≡ objects.collection_json collection.now) }
 {
-    let mut values = Vec::with_capacity(alloc, 3)?;
-    values.push(object(alloc, &collection.metadata)?)?;
-    values.push(string(alloc, &collection.name)?)?;
+    let mut values = named(alloc, &collection.metadata, &collection.name, 3)?;
     values.push(Json::List(objects_json(alloc, &collection.children)?))?;
     written(alloc, Schema::Collection, values, &collection.rest)
 }
@@ -57,10 +55,8 @@ fn objects_json(alloc: Global, inside: &Objects) -> Result<JsonList, AllocError>
 fn timeline_json(alloc: Global, timeline: &Timeline) -> Result<Json, AllocError>
     ensures { IfOk result (λ json. json ≡ objects.timeline_json timeline.now) }
 {
-    let mut values = Vec::with_capacity(alloc, 4)?;
-    values.push(object(alloc, &timeline.metadata)?)?;
-    values.push(string(alloc, &timeline.name)?)?;
-    values.push(offset_json(alloc, timeline.global_start_time)?)?;
-    values.push(stack_json(alloc, &timeline.tracks)?)?;
+    let mut values = named(alloc, &timeline.metadata, &timeline.name, 4)?;
+    add(&mut values, offset_json(alloc, timeline.global_start_time))?;
+    add(&mut values, stack_json(alloc, &timeline.tracks))?;
     written(alloc, Schema::Timeline, values, &timeline.rest)
 }

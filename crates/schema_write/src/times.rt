@@ -4,7 +4,7 @@ ghost use Rattle.std.specs.Prelude.{◌≡◌, IfOk};
 ghost use Rattle.schema_write.specs.Objects as objects;
 
 use crate::numerals::{rate_numeral, value_numeral};
-use crate::writing::written;
+use crate::writing::{add, written};
 use json_value::Json;
 use schema_rows::Schema;
 use sequences::NamedValues;
@@ -15,14 +15,11 @@ use tick_time::{Span, Time};
 pub fn time_json(alloc: Global, time: Time) -> Result<Json, AllocError>
     ensures { IfOk result (λ json. json ≡ objects.time_json time) }
 {
-    let rate = rate_numeral(alloc, time.rate)?;
-    let values = vec![in alloc; rate, value_numeral(alloc, time)?]?;
-    written(
-        alloc,
-        Schema::RationalTime,
-        values,
-        &NamedValues::new(alloc),
-    )
+    let mut values = Vec::with_capacity(alloc, 2)?;
+    add(&mut values, rate_numeral(alloc, time.rate))?;
+    add(&mut values, value_numeral(alloc, time))?;
+    let rest = NamedValues::new(alloc);
+    written(alloc, Schema::RationalTime, values, &rest)
 }
 
 /// A time, or null.
@@ -48,7 +45,9 @@ pub fn span_json(alloc: Global, span: Option<Span>) -> Result<Json, AllocError>
 fn range_json(alloc: Global, span: Span) -> Result<Json, AllocError>
     ensures { IfOk result (λ json. json ≡ objects.range_json span) }
 {
-    let duration = time_json(alloc, span.len)?;
-    let values = vec![in alloc; duration, time_json(alloc, span.start)?]?;
-    written(alloc, Schema::TimeRange, values, &NamedValues::new(alloc))
+    let mut values = Vec::with_capacity(alloc, 2)?;
+    add(&mut values, time_json(alloc, span.len))?;
+    add(&mut values, time_json(alloc, span.start))?;
+    let rest = NamedValues::new(alloc);
+    written(alloc, Schema::TimeRange, values, &rest)
 }

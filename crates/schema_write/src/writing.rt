@@ -1,6 +1,6 @@
 //! An object of a schema in the written order.
 
-ghost use Rattle.std.specs.Prelude.{◌≡◌, ◌<◌, ◌++◌, ◌∷◌, [], ◌||◌, length, map, IfOk, OnOk, Some, option_map, slice_get};
+ghost use Rattle.std.specs.Prelude.{◌≡◌, ◌<◌, ◌++◌, ◌∷◌, [], ◌||◌, length, map, IfOk, IsOkAnd, OnOk, Some, option_map, slice_get};
 ghost use Rattle.std.specs.List.{list_any};
 ghost use Rattle.std.specs.Str.{bytes_eq};
 ghost use Rattle.json_value.specs.declared.Json.{Str, Map};
@@ -25,10 +25,34 @@ pub fn string(alloc: Global, text: &Text) -> Result<Json, AllocError>
 }
 
 /// An object that is kept as it is.
-pub fn object(alloc: Global, members: &Members) -> Result<Json, AllocError>
+fn object(alloc: Global, members: &Members) -> Result<Json, AllocError>
     ensures { IfOk result (λ json. json ≡ Map members.now) }
 {
     Ok(Json::Map(copy_members(alloc, members)?))
+}
+
+/// The values of the first rows of each schema, metadata and name, with room for so many in all.
+pub fn named(
+    alloc: Global,
+    metadata: &Members,
+    name: &Text,
+    room: usize,
+) -> Result<Vec<Json>, AllocError>
+    ensures { IfOk result (λ values. values.items ≡ Map metadata.now ∷ Str name.now ∷ []) }
+{
+    let mut values = Vec::with_capacity(alloc, room)?;
+    add(&mut values, object(alloc, metadata))?;
+    add(&mut values, string(alloc, name))?;
+    Ok(values)
+}
+
+/// Adds a value, once that is made.
+pub fn add(values: &mut Vec<Json>, made: Result<Json, AllocError>) -> Result<(), AllocError>
+    ensures { OnOk result (IsOkAnd made (λ value.
+        values.new.items ≡ values.old.items ++ value ∷ [])) }
+{
+    values.push(made?)?;
+    Ok(())
 }
 
 /// An object of a schema by its table: the schema, a value for each row, and the other members.

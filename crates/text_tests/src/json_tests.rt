@@ -1,5 +1,6 @@
 //! Texts and what is no text, in pieces of any size.
 
+use crate::values::{read, value_in_pieces};
 use json_text::{JsonFault, JsonReader};
 use json_value::Json;
 use std::alloc::{AllocError, Global};
@@ -9,31 +10,32 @@ use std::test::Fail;
 /// The sizes of the pieces that each text is cut into.
 const SIZES: [usize; 4] = [1, 2, 7, 100_000];
 
-fn feed_pieces(reader: &mut JsonReader, text: &[u8], size: usize) -> Result<(), JsonFault> {
-    let mut rest = text;
-    for _ in 0..text.len() {
-        if rest.len() <= size {
-            break;
-        }
-        let (piece, after) = rest.split_at(size);
-        reader.feed(piece)?;
-        rest = after;
-    }
-    reader.feed(rest)
+/// A text that is no value, and why.
+type Refused = (&'static [u8], JsonFault);
+
+fn fault_is(rt: &impl Abort, found: JsonFault, fault: JsonFault) {
+    assert!(rt; found == fault, "{found:?} in place of {fault:?}");
 }
 
-fn read(alloc: Global, text: &[u8], size: usize) -> Result<Json, JsonFault> {
-    let mut reader = JsonReader::new(alloc);
-    feed_pieces(&mut reader, text, size)?;
-    reader.finish()
+fn refuses_pieces(rt: &impl Abort, alloc: Global, text: &[u8], size: usize, fault: JsonFault) {
+    match read(alloc, text, size) {
+        Ok(value) => {
+            drop(value);
+            panic!(rt; "taken");
+        }
+        Err(found) => fault_is(rt, found, fault),
+    }
 }
 
 fn refuses(rt: &impl Abort, alloc: Global, text: &[u8], fault: JsonFault) {
-    for size in SIZES {
-        match read(alloc, text, size) {
-            Ok(_) => assert!(rt; false, "taken"),
-            Err(found) => assert!(rt; found == fault, "{found:?} in place of {fault:?}"),
-        }
+    for &size in SIZES.iter() {
+        refuses_pieces(rt, alloc, text, size, fault);
+    }
+}
+
+fn refuses_each(rt: &impl Abort, alloc: Global, rows: &[Refused]) {
+    for &(text, fault) in rows {
+        refuses(rt, alloc, text, fault);
     }
 }
 
@@ -45,11 +47,10 @@ fn has_characters(rt: &impl Abort, value: &Json, characters: &str) {
 }
 
 fn is_string(rt: &impl Abort, alloc: Global, text: &[u8], characters: &str) {
-    for size in SIZES {
-        match read(alloc, text, size) {
-            Ok(value) => has_characters(rt, &value, characters),
-            Err(fault) => assert!(rt; false, "{fault:?}"),
-        }
+    for &size in SIZES.iter() {
+        let value = value_in_pieces(rt, alloc, text, size);
+        has_characters(rt, &value, characters);
+        drop(value);
     }
 }
 
@@ -61,20 +62,16 @@ fn has_spelling(rt: &impl Abort, value: &Json, spelling: &str) {
 }
 
 fn is_numeral(rt: &impl Abort, alloc: Global, text: &[u8], spelling: &str) {
-    for size in SIZES {
-        match read(alloc, text, size) {
-            Ok(value) => has_spelling(rt, &value, spelling),
-            Err(fault) => assert!(rt; false, "{fault:?}"),
-        }
+    for &size in SIZES.iter() {
+        let value = value_in_pieces(rt, alloc, text, size);
+        has_spelling(rt, &value, spelling);
+        drop(value);
     }
 }
 
 fn takes(rt: &impl Abort, alloc: Global, text: &[u8]) {
-    for size in SIZES {
-        match read(alloc, text, size) {
-            Ok(_) => {}
-            Err(fault) => assert!(rt; false, "{fault:?}"),
-        }
+    for &size in SIZES.iter() {
+        drop(value_in_pieces(rt, alloc, text, size));
     }
 }
 
@@ -97,149 +94,168 @@ fn are_members(rt: &impl Abort, value: &Json) {
     }
 }
 
+/// Texts of values.
+static TEXTS: [&[u8]; 9] = [
+    b"null",
+    b" true ",
+    b"false\n",
+    b"[]",
+    b" [ ] ",
+    b"{}",
+    b"\t{ }\r",
+    b"[1,[2,{\"a\":[]},\"\"],null]",
+    b" { \"a\" : [ 1 , 2 ] , \"b\" : { } } ",
+];
+
 #[test]
 fn values(rt: HostRuntime) {
-    let alloc = rt.alloc();
-    takes(&rt, alloc, b"null");
-    takes(&rt, alloc, b" true ");
-    takes(&rt, alloc, b"false\n");
-    takes(&rt, alloc, b"[]");
-    takes(&rt, alloc, b" [ ] ");
-    takes(&rt, alloc, b"{}");
-    takes(&rt, alloc, b"\t{ }\r");
-    takes(&rt, alloc, b"[1,[2,{\"a\":[]},\"\"],null]");
-    takes(&rt, alloc, b" { \"a\" : [ 1 , 2 ] , \"b\" : { } } ");
+    for &text in TEXTS.iter() {
+        takes(&rt, rt.alloc(), text);
+    }
 }
 
 #[test]
 fn later_member_replaces(rt: HostRuntime) {
     let alloc = rt.alloc();
-    for size in SIZES {
-        match read(alloc, b"{\"a\":1,\"b\":2,\"a\":3}", size) {
-            Ok(value) => are_members(&rt, &value),
-            Err(fault) => assert!(rt; false, "{fault:?}"),
-        }
+    for &size in SIZES.iter() {
+        let value = value_in_pieces(&rt, alloc, b"{\"a\":1,\"b\":2,\"a\":3}", size);
+        are_members(&rt, &value);
+        drop(value);
     }
 }
 
+/// Texts that break the grammar, and where.
+static NO_TEXTS: [Refused; 21] = [
+    (b"", JsonFault::Syntax(0)),
+    (b"  ", JsonFault::Syntax(2)),
+    (b"[1,]", JsonFault::Syntax(3)),
+    (b"[,1]", JsonFault::Syntax(1)),
+    (b"[1 2]", JsonFault::Syntax(3)),
+    (b"[1}", JsonFault::Syntax(2)),
+    (b"[1]]", JsonFault::Syntax(3)),
+    (b"[1] x", JsonFault::Syntax(4)),
+    (b"[1", JsonFault::Syntax(2)),
+    (b"{\"a\":1,}", JsonFault::Syntax(7)),
+    (b"{,}", JsonFault::Syntax(1)),
+    (b"{1:2}", JsonFault::Syntax(1)),
+    (b"{\"a\" 1}", JsonFault::Syntax(5)),
+    (b"{\"a\":}", JsonFault::Syntax(5)),
+    (b"{\"a\"}", JsonFault::Syntax(4)),
+    (b"nul ", JsonFault::Syntax(3)),
+    (b"nulls", JsonFault::Syntax(4)),
+    (b"tru", JsonFault::Syntax(3)),
+    (b"falze", JsonFault::Syntax(3)),
+    (b"\xEF\xBB\xBF1", JsonFault::Syntax(0)),
+    (b"[\xFF]", JsonFault::Syntax(1)),
+];
+
 #[test]
 fn grammar(rt: HostRuntime) {
-    let alloc = rt.alloc();
-    refuses(&rt, alloc, b"", JsonFault::Syntax(0));
-    refuses(&rt, alloc, b"  ", JsonFault::Syntax(2));
-    refuses(&rt, alloc, b"[1,]", JsonFault::Syntax(3));
-    refuses(&rt, alloc, b"[,1]", JsonFault::Syntax(1));
-    refuses(&rt, alloc, b"[1 2]", JsonFault::Syntax(3));
-    refuses(&rt, alloc, b"[1}", JsonFault::Syntax(2));
-    refuses(&rt, alloc, b"[1]]", JsonFault::Syntax(3));
-    refuses(&rt, alloc, b"[1] x", JsonFault::Syntax(4));
-    refuses(&rt, alloc, b"[1", JsonFault::Syntax(2));
-    refuses(&rt, alloc, b"{\"a\":1,}", JsonFault::Syntax(7));
-    refuses(&rt, alloc, b"{,}", JsonFault::Syntax(1));
-    refuses(&rt, alloc, b"{1:2}", JsonFault::Syntax(1));
-    refuses(&rt, alloc, b"{\"a\" 1}", JsonFault::Syntax(5));
-    refuses(&rt, alloc, b"{\"a\":}", JsonFault::Syntax(5));
-    refuses(&rt, alloc, b"{\"a\"}", JsonFault::Syntax(4));
-    refuses(&rt, alloc, b"nul ", JsonFault::Syntax(3));
-    refuses(&rt, alloc, b"nulls", JsonFault::Syntax(4));
-    refuses(&rt, alloc, b"tru", JsonFault::Syntax(3));
-    refuses(&rt, alloc, b"falze", JsonFault::Syntax(3));
-    refuses(&rt, alloc, b"\xEF\xBB\xBF1", JsonFault::Syntax(0));
-    refuses(&rt, alloc, b"[\xFF]", JsonFault::Syntax(1));
+    refuses_each(&rt, rt.alloc(), &NO_TEXTS);
 }
+
+/// The same of numerals.
+static NO_NUMERALS: [Refused; 11] = [
+    (b"01", JsonFault::Syntax(1)),
+    (b"-", JsonFault::Syntax(1)),
+    (b"-a", JsonFault::Syntax(1)),
+    (b"+1", JsonFault::Syntax(0)),
+    (b"1.", JsonFault::Syntax(2)),
+    (b"1.]", JsonFault::Syntax(2)),
+    (b".5", JsonFault::Syntax(0)),
+    (b"1e", JsonFault::Syntax(2)),
+    (b"1e+", JsonFault::Syntax(3)),
+    (b"1.5.", JsonFault::Syntax(3)),
+    (b"0x1", JsonFault::Syntax(1)),
+];
+
+/// Numerals and their spelling.
+static NUMERALS: [(&[u8], &str); 6] = [
+    (b"0", "0"),
+    (b"-0", "-0"),
+    (b" 10 ", "10"),
+    (b"1E+2", "1E+2"),
+    (b"-1.50e-07", "-1.50e-07"),
+    (b"0.0", "0.0"),
+];
 
 #[test]
 fn numerals(rt: HostRuntime) {
     let alloc = rt.alloc();
-    is_numeral(&rt, alloc, b"0", "0");
-    is_numeral(&rt, alloc, b"-0", "-0");
-    is_numeral(&rt, alloc, b" 10 ", "10");
-    is_numeral(&rt, alloc, b"1E+2", "1E+2");
-    is_numeral(&rt, alloc, b"-1.50e-07", "-1.50e-07");
-    is_numeral(&rt, alloc, b"0.0", "0.0");
-    refuses(&rt, alloc, b"01", JsonFault::Syntax(1));
-    refuses(&rt, alloc, b"-", JsonFault::Syntax(1));
-    refuses(&rt, alloc, b"-a", JsonFault::Syntax(1));
-    refuses(&rt, alloc, b"+1", JsonFault::Syntax(0));
-    refuses(&rt, alloc, b"1.", JsonFault::Syntax(2));
-    refuses(&rt, alloc, b"1.]", JsonFault::Syntax(2));
-    refuses(&rt, alloc, b".5", JsonFault::Syntax(0));
-    refuses(&rt, alloc, b"1e", JsonFault::Syntax(2));
-    refuses(&rt, alloc, b"1e+", JsonFault::Syntax(3));
-    refuses(&rt, alloc, b"1.5.", JsonFault::Syntax(3));
-    refuses(&rt, alloc, b"0x1", JsonFault::Syntax(1));
+    refuses_each(&rt, alloc, &NO_NUMERALS);
+    for &(text, spelling) in NUMERALS.iter() {
+        is_numeral(&rt, alloc, text, spelling);
+    }
 }
+
+/// Strings and their characters.
+static STRINGS: [(&[u8], &str); 8] = [
+    (b"\"\"", ""),
+    (b"\"a b\"", "a b"),
+    (b"\"\\\"\\\\\\/\\b\\f\\n\\r\\t\"", "\"\\/\u{8}\u{c}\n\r\t"),
+    (
+        b"\"\\u0041\\u00e9\\u20AC\\uFFFF\"",
+        "A\u{e9}\u{20ac}\u{ffff}",
+    ),
+    (b"\"\\ud83d\\uDE00!\"", "\u{1f600}!"),
+    (b"\"\\u0000\\uD7FF\\uE000\"", "\u{0}\u{d7ff}\u{e000}"),
+    (
+        b"\"\xC3\xA9\xE2\x82\xAC\xF0\x9F\x98\x80\x7F\"",
+        "\u{e9}\u{20ac}\u{1f600}\u{7f}",
+    ),
+    (
+        b"\"\xED\x9F\xBF\xEE\x80\x80\xF4\x8F\xBF\xBF\"",
+        "\u{d7ff}\u{e000}\u{10ffff}",
+    ),
+];
 
 #[test]
 fn strings(rt: HostRuntime) {
-    let alloc = rt.alloc();
-    is_string(&rt, alloc, b"\"\"", "");
-    is_string(&rt, alloc, b"\"a b\"", "a b");
-    is_string(
-        &rt,
-        alloc,
-        b"\"\\\"\\\\\\/\\b\\f\\n\\r\\t\"",
-        "\"\\/\u{8}\u{c}\n\r\t",
-    );
-    is_string(
-        &rt,
-        alloc,
-        b"\"\\u0041\\u00e9\\u20AC\\uFFFF\"",
-        "A\u{e9}\u{20ac}\u{ffff}",
-    );
-    is_string(&rt, alloc, b"\"\\ud83d\\uDE00!\"", "\u{1f600}!");
-    is_string(
-        &rt,
-        alloc,
-        b"\"\\u0000\\uD7FF\\uE000\"",
-        "\u{0}\u{d7ff}\u{e000}",
-    );
-    is_string(
-        &rt,
-        alloc,
-        b"\"\xC3\xA9\xE2\x82\xAC\xF0\x9F\x98\x80\x7F\"",
-        "\u{e9}\u{20ac}\u{1f600}\u{7f}",
-    );
-    is_string(
-        &rt,
-        alloc,
-        b"\"\xED\x9F\xBF\xEE\x80\x80\xF4\x8F\xBF\xBF\"",
-        "\u{d7ff}\u{e000}\u{10ffff}",
-    );
+    for &(text, characters) in STRINGS.iter() {
+        is_string(&rt, rt.alloc(), text, characters);
+    }
 }
+
+/// The same of strings.
+static NO_STRINGS: [Refused; 11] = [
+    (b"\"\\u12", JsonFault::Syntax(5)),
+    (b"\"a\nb\"", JsonFault::Syntax(2)),
+    (b"\"\x1F\"", JsonFault::Syntax(1)),
+    (b"\"\\x\"", JsonFault::Syntax(2)),
+    (b"\"\\u12g4\"", JsonFault::Syntax(5)),
+    (b"[\"\\ud800\"]", JsonFault::Syntax(8)),
+    (b"\"\\ud800\\n\"", JsonFault::Syntax(8)),
+    (b"\"\\ud800\\u0041\"", JsonFault::Syntax(9)),
+    (b"\"\\ud800\\ud800\"", JsonFault::Syntax(10)),
+    (b"\"\\udc00\"", JsonFault::Syntax(4)),
+    (b"\"\\\xC3\xA9\"", JsonFault::Syntax(2)),
+];
 
 #[test]
 fn broken_strings(rt: HostRuntime) {
-    let alloc = rt.alloc();
-    refuses(&rt, alloc, b"\"\\u12", JsonFault::Syntax(5));
-    refuses(&rt, alloc, b"\"a\nb\"", JsonFault::Syntax(2));
-    refuses(&rt, alloc, b"\"\x1F\"", JsonFault::Syntax(1));
-    refuses(&rt, alloc, b"\"\\x\"", JsonFault::Syntax(2));
-    refuses(&rt, alloc, b"\"\\u12g4\"", JsonFault::Syntax(5));
-    refuses(&rt, alloc, b"\"\\\xC3\xA9\"", JsonFault::Syntax(2));
-    refuses(&rt, alloc, b"[\"\\ud800\"]", JsonFault::Syntax(8));
-    refuses(&rt, alloc, b"\"\\ud800\\n\"", JsonFault::Syntax(8));
-    refuses(&rt, alloc, b"\"\\ud800\\u0041\"", JsonFault::Syntax(9));
-    refuses(&rt, alloc, b"\"\\ud800\\ud800\"", JsonFault::Syntax(10));
-    refuses(&rt, alloc, b"\"\\udc00\"", JsonFault::Syntax(4));
+    refuses_each(&rt, rt.alloc(), &NO_STRINGS);
 }
+
+/// The same of what is no UTF-8.
+static NO_UTF8: [Refused; 13] = [
+    (b"\"\x80\"", JsonFault::Utf8(1)),
+    (b"\"\xC1\x81\"", JsonFault::Utf8(1)),
+    (b"\"\xF5\"", JsonFault::Utf8(1)),
+    (b"\"\xC3\"", JsonFault::Utf8(2)),
+    (b"\"\xC3\n\"", JsonFault::Utf8(2)),
+    (b"\"\xE0\x9F\xBF\"", JsonFault::Utf8(2)),
+    (b"\"\xED\xA0\x80\"", JsonFault::Utf8(2)),
+    (b"\"\xF0\x8F\xBF\xBF\"", JsonFault::Utf8(2)),
+    (b"\"\xF4\x90\x80\x80\"", JsonFault::Utf8(2)),
+    (b"\"\xE2\x82\x28\"", JsonFault::Utf8(3)),
+    (b"\"\\\xFF\"", JsonFault::Utf8(2)),
+    (b"\"\\u\x80\"", JsonFault::Utf8(3)),
+    (b"\"\xC3", JsonFault::Syntax(2)),
+];
 
 #[test]
 fn utf8(rt: HostRuntime) {
-    let alloc = rt.alloc();
-    refuses(&rt, alloc, b"\"\x80\"", JsonFault::Utf8(1));
-    refuses(&rt, alloc, b"\"\xC1\x81\"", JsonFault::Utf8(1));
-    refuses(&rt, alloc, b"\"\xF5\"", JsonFault::Utf8(1));
-    refuses(&rt, alloc, b"\"\xC3\"", JsonFault::Utf8(2));
-    refuses(&rt, alloc, b"\"\xC3\n\"", JsonFault::Utf8(2));
-    refuses(&rt, alloc, b"\"\xE0\x9F\xBF\"", JsonFault::Utf8(2));
-    refuses(&rt, alloc, b"\"\xED\xA0\x80\"", JsonFault::Utf8(2));
-    refuses(&rt, alloc, b"\"\xF0\x8F\xBF\xBF\"", JsonFault::Utf8(2));
-    refuses(&rt, alloc, b"\"\xF4\x90\x80\x80\"", JsonFault::Utf8(2));
-    refuses(&rt, alloc, b"\"\xE2\x82\x28\"", JsonFault::Utf8(3));
-    refuses(&rt, alloc, b"\"\\\xFF\"", JsonFault::Utf8(2));
-    refuses(&rt, alloc, b"\"\\u\x80\"", JsonFault::Utf8(3));
-    refuses(&rt, alloc, b"\"\xC3", JsonFault::Syntax(2));
+    refuses_each(&rt, rt.alloc(), &NO_UTF8);
 }
 
 fn add_maps(text: &mut Vec<u8>, levels: usize) -> Result<(), AllocError> {
@@ -269,6 +285,16 @@ fn feeds(rt: &impl Abort, reader: &mut JsonReader, piece: &[u8], outcome: Result
     assert!(rt; reader.feed(piece) == outcome);
 }
 
+fn finishes(rt: &impl Abort, reader: JsonReader, fault: JsonFault) {
+    match reader.finish() {
+        Ok(value) => {
+            drop(value);
+            panic!(rt; "a value");
+        }
+        Err(found) => assert!(rt; found == fault, "forgotten"),
+    }
+}
+
 #[test]
 fn same_fault_again(rt: HostRuntime) {
     let mut reader = JsonReader::new(rt.alloc());
@@ -276,10 +302,7 @@ fn same_fault_again(rt: HostRuntime) {
     feeds(&rt, &mut reader, b" ]", Err(JsonFault::Syntax(4)));
     feeds(&rt, &mut reader, b"2]", Err(JsonFault::Syntax(4)));
     feeds(&rt, &mut reader, b"", Err(JsonFault::Syntax(4)));
-    match reader.finish() {
-        Ok(_) => assert!(rt; false, "a value"),
-        Err(fault) => assert!(rt; fault == JsonFault::Syntax(4), "forgotten"),
-    }
+    finishes(&rt, reader, JsonFault::Syntax(4));
 }
 
 #[test]

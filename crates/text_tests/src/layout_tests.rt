@@ -1,15 +1,36 @@
-// The texts of some values.
-use crate::values::{add, list, nested, numeral, object, text};
+//! The texts of some values.
+
+use crate::values::{is_written, nested, value_of};
 use dev_io::{MemOut, OutBuffer, WriteFault};
 use json_text::{put_string, write_json};
-use json_value::{Json, Members};
-use sequences::Sequence;
 use std::alloc::{AllocError, Global};
 use std::process::Abort;
 use std::test::Fail;
 
-// An object with a list, an empty object and an object in it.
-const NESTED: &str = "{
+/// Values as they are spelled, and what is sent of them.
+const LAYOUTS: [(&str, &str); 11] = [
+    ("null", "null\n"),
+    ("true", "true\n"),
+    ("false", "false\n"),
+    ("-0.50E+2", "-0.50E+2\n"),
+    ("\"\"", "\"\"\n"),
+    ("[]", "[]\n"),
+    ("{}", "{}\n"),
+    (
+        "\"a\\u0022b\\\\c\\/d\\u0008\\u000C\\u000a\\r\\te\"",
+        "\"a\\\"b\\\\c/d\\b\\f\\n\\r\\te\"\n",
+    ),
+    (
+        "\"\\u0000\\u0001\\u000B\\u000E\\u001A\\u001F \\u007F\"",
+        "\"\\u0000\\u0001\\u000b\\u000e\\u001a\\u001f \u{7f}\"\n",
+    ),
+    (
+        "\"\\u00e9\\u2028\\u6F22\\uD83D\\uDE00\"",
+        "\"é\u{2028}漢😀\"\n",
+    ),
+    (
+        "{\"a\\n\":[1,[],[null]],\"\":{},\"b\":{\"c\":\"d\"}}",
+        "{
     \"a\\n\": [
         1,
         [],
@@ -22,85 +43,21 @@ const NESTED: &str = "{
         \"c\": \"d\"
     }
 }
-";
+",
+    ),
+];
 
-// Compares what is written of a value with a text.
-fn is_sent(
-    rt: &impl Abort,
-    out: &mut MemOut,
-    value: &Json,
-    outcome: Result<(), WriteFault>,
-    text: &str,
-) {
-    assert!(rt; write_json(value, out) == outcome);
-    assert!(rt; out.sent() == text.as_bytes());
-}
-
-fn is_written(rt: &impl Abort, alloc: Global, value: Json, text: &str) {
-    let mut out = MemOut::new(alloc, 100_000).expect(rt, "memory");
-    is_sent(rt, &mut out, &value, Ok(()), text);
-    drop(out);
+fn is_laid_out(rt: &impl Abort, alloc: Global, text: &str, layout: &str) {
+    let value = value_of(rt, alloc, text);
+    is_written(rt, alloc, &value, layout.as_bytes());
     drop(value);
 }
 
 #[test]
-fn small_values(rt: HostRuntime) -> Result<(), Fail> {
-    let alloc = rt.alloc();
-    is_written(&rt, alloc, Json::Null, "null\n");
-    is_written(&rt, alloc, Json::Bool(true), "true\n");
-    is_written(&rt, alloc, Json::Bool(false), "false\n");
-    is_written(&rt, alloc, numeral(alloc, "-0.50E+2")?, "-0.50E+2\n");
-    is_written(&rt, alloc, text(alloc, "")?, "\"\"\n");
-    is_written(&rt, alloc, list(alloc, [])?, "[]\n");
-    is_written(&rt, alloc, Json::Map(Members::new(alloc)), "{}\n");
-    Ok(())
-}
-
-#[test]
-fn escapes(rt: HostRuntime) -> Result<(), Fail> {
-    let alloc = rt.alloc();
-    is_written(
-        &rt,
-        alloc,
-        text(alloc, "a\"b\\c/d\u{8}\u{c}\n\r\te")?,
-        "\"a\\\"b\\\\c/d\\b\\f\\n\\r\\te\"\n",
-    );
-    is_written(
-        &rt,
-        alloc,
-        text(alloc, "\u{0}\u{1}\u{b}\u{e}\u{1a}\u{1f} \u{7f}")?,
-        "\"\\u0000\\u0001\\u000b\\u000e\\u001a\\u001f \u{7f}\"\n",
-    );
-    is_written(&rt, alloc, text(alloc, "é\u{2028}漢😀")?, "\"é\u{2028}漢😀\"\n");
-    Ok(())
-}
-
-fn add_items(alloc: Global, items: &mut Vec<Json>) -> Result<(), AllocError> {
-    items.push(numeral(alloc, "1")?)?;
-    items.push(list(alloc, [])?)?;
-    items.push(list(alloc, [Json::Null])?)?;
-    Ok(())
-}
-
-fn items(alloc: Global) -> Result<Json, AllocError> {
-    let mut items = Vec::new(alloc);
-    add_items(alloc, &mut items)?;
-    Ok(Json::List(Sequence::of(items)))
-}
-
-fn add_members(alloc: Global, members: &mut Members) -> Result<(), AllocError> {
-    add(alloc, members, "a\n", items(alloc)?)?;
-    add(alloc, members, "", Json::Map(Members::new(alloc)))?;
-    add(alloc, members, "b", object(alloc, "c", text(alloc, "d")?)?)
-}
-
-#[test]
-fn nested_values(rt: HostRuntime) -> Result<(), Fail> {
-    let alloc = rt.alloc();
-    let mut members = Members::new(alloc);
-    add_members(alloc, &mut members)?;
-    is_written(&rt, alloc, Json::Map(members), NESTED);
-    Ok(())
+fn layouts(rt: HostRuntime) {
+    for &(text, layout) in LAYOUTS.iter() {
+        is_laid_out(&rt, rt.alloc(), text, layout);
+    }
 }
 
 fn add_line(lines: &mut String, depth: usize, line: &str) -> Result<(), AllocError> {
@@ -127,22 +84,21 @@ fn deep_values(rt: HostRuntime) -> Result<(), Fail> {
     let alloc = rt.alloc();
     let mut lines = String::new(alloc);
     add_lines(&mut lines, 140)?;
-    is_written(&rt, alloc, nested(alloc, 140)?, lines.as_str());
+    let value = nested(alloc, 140)?;
+    is_written(&rt, alloc, &value, lines.as_str().as_bytes());
+    drop(value);
     drop(lines);
     Ok(())
-}
-
-fn fail_in_a_string(out: &mut MemOut) -> Result<(), AllocError> {
-    out.piece(4);
-    out.fail_on(3)
 }
 
 #[test]
 fn a_sink_that_fails(rt: HostRuntime) -> Result<(), Fail> {
     let mut out = MemOut::new(rt.alloc(), 100)?;
-    fail_in_a_string(&mut out)?;
-    let value = list(rt.alloc(), [text(rt.alloc(), "some text")?, Json::Null])?;
-    is_sent(&rt, &mut out, &value, Err(WriteFault::Sink), "[\n    \"s");
+    out.piece(4);
+    out.fail_on(3)?;
+    let value = value_of(&rt, rt.alloc(), "[\"some text\",null]");
+    assert!(rt; write_json(&value, &mut out) == Err(WriteFault::Sink));
+    assert!(rt; out.sent() == b"[\n    \"s".as_slice());
     drop(value);
     drop(out);
     Ok(())
@@ -155,5 +111,6 @@ fn a_string_in_a_buffer(rt: HostRuntime) -> Result<(), Fail> {
     put_string(&mut buffer, &mut out, "ä \"\u{1f}".as_bytes());
     buffer.flush(&mut out)?;
     assert!(rt; out.sent() == "\"ä \\\"\\u001f\"".as_bytes());
+    drop(out);
     Ok(())
 }

@@ -145,23 +145,30 @@ fn trims_blanks(rt: HostRuntime) {
     trimmed_is(&rt, "a \r", "a \r", "a \r");
 }
 
+// Texts and whether they are names of reels.
+const REELS: [(&str, bool); 13] = [
+    ("A", true),
+    ("TAPE0001", true),
+    ("!~", true),
+    ("bl", true),
+    ("BLX", true),
+    ("BL", false),
+    ("", false),
+    ("TAPE00001", true),
+    ("A001C003_240101_R1AB_ProRes4444X", true),
+    ("A001C003_240101_R1AB_ProRes4444XQ", false),
+    ("A B", false),
+    ("A\u{7f}", false),
+    ("\u{e9}", false),
+];
+
+fn is_reel(rt: &impl Abort, bytes: &str, is_name: bool) {
+    assert!(rt; reel_name(bytes.as_bytes()).is_some() == is_name, "{bytes}");
+}
+
 #[test]
 fn names_of_reels(rt: HostRuntime) {
-    for (bytes, is_name) in [
-        ("A", true),
-        ("TAPE0001", true),
-        ("!~", true),
-        ("bl", true),
-        ("BLX", true),
-        ("BL", false),
-        ("", false),
-        ("TAPE00001", true),
-        ("A001C003_240101_R1AB_ProRes4444X", true),
-        ("A001C003_240101_R1AB_ProRes4444XQ", false),
-        ("A B", false),
-        ("A\u{7f}", false),
-        ("\u{e9}", false),
-    ] {
-        assert!(rt; reel_name(bytes.as_bytes()).is_some() == is_name, "{bytes}");
+    for &(bytes, is_name) in REELS.iter() {
+        is_reel(&rt, bytes, is_name);
     }
 }

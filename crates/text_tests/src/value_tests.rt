@@ -1,30 +1,30 @@
 //! Copies of values of each kind, and the size of a value.
 
-use crate::values::{add, list, nested, numeral, shows, shows_the_same, text};
-use json_value::{Json, Members, copy_json};
+use crate::values::{is_written, nested, value_of};
+use json_value::{Json, copy_json};
 use sequences::Text;
-use std::alloc::{AllocError, Global};
 use std::test::Fail;
 
-/// A member of each kind.
-fn add_samples(alloc: Global, members: &mut Members) -> Result<(), AllocError> {
-    add(alloc, members, "nothing", Json::Null)?;
-    add(alloc, members, "truth", Json::Bool(true))?;
-    add(alloc, members, "numeral", numeral(alloc, "-1.50e3")?)?;
-    add(alloc, members, "", text(alloc, "é\n")?)?;
-    let items = [Json::Bool(false), Json::Map(Members::new(alloc))];
-    add(alloc, members, "list", list(alloc, items)?)
+/// A member of each kind, as it is written.
+const SAMPLES: &str = "{
+    \"nothing\": null,
+    \"truth\": true,
+    \"numeral\": -1.50e3,
+    \"\": \"é\\n\",
+    \"list\": [
+        false,
+        {}
+    ]
 }
+";
 
 #[test]
 fn copies_are_equal(rt: HostRuntime) -> Result<(), Fail> {
     let alloc = rt.alloc();
-    let mut members = Members::new(alloc);
-    add_samples(alloc, &mut members)?;
-    let value = Json::Map(members);
+    let value = value_of(&rt, alloc, SAMPLES);
     let copy = copy_json(alloc, &value)?;
-    shows_the_same(&rt, alloc, &copy, &value);
-    shows(&rt, alloc, &value, "-1.50e3");
+    is_written(&rt, alloc, &value, SAMPLES.as_bytes());
+    is_written(&rt, alloc, &copy, SAMPLES.as_bytes());
     drop(copy);
     drop(value);
     Ok(())

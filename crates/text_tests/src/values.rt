@@ -1,79 +1,76 @@
 //! Values of JSON, for tests.
 
 use dev_io::MemOut;
-use json_text::write_json;
-use json_value::{Json, Members};
-use sequences::{Sequence, Text};
+use json_text::{JsonFault, JsonReader, write_json};
+use json_value::Json;
+use sequences::Sequence;
 use std::alloc::{AllocError, Global};
 use std::process::Abort;
 
-/// A string of these characters.
-pub fn text(alloc: Global, characters: &str) -> Result<Json, AllocError> {
-    Ok(Json::Str(Text::of(alloc, characters)?))
+fn feed_pieces(reader: &mut JsonReader, text: &[u8], size: usize) -> Result<(), JsonFault> {
+    let mut rest = text;
+    for _ in 0..text.len() {
+        if rest.len() <= size {
+            break;
+        }
+        let (piece, after) = rest.split_at(size);
+        reader.feed(piece)?;
+        rest = after;
+    }
+    reader.feed(rest)
 }
 
-/// A numeral of this spelling.
-pub fn numeral(alloc: Global, spelling: &str) -> Result<Json, AllocError> {
-    Ok(Json::Num(Text::of(alloc, spelling)?))
+/// What is read of a text that comes in pieces of a size.
+pub fn read(alloc: Global, text: &[u8], size: usize) -> Result<Json, JsonFault> {
+    let mut reader = JsonReader::new(alloc);
+    feed_pieces(&mut reader, text, size)?;
+    reader.finish()
 }
 
-/// An array of these values.
-pub fn list<const N: usize>(alloc: Global, items: [Json; N]) -> Result<Json, AllocError> {
-    Ok(Json::List(Sequence::of(Vec::from_array(alloc, items)?)))
+/// The value of a text that comes in pieces of a size.
+pub fn value_in_pieces(rt: &impl Abort, alloc: Global, text: &[u8], size: usize) -> Json {
+    match read(alloc, text, size) {
+        Ok(value) => value,
+        Err(fault) => panic!(rt; "{fault:?}"),
+    }
+}
+
+/// The value of a text.
+pub fn value_of(rt: &impl Abort, alloc: Global, text: &str) -> Json {
+    value_in_pieces(rt, alloc, text.as_bytes(), text.len())
 }
 
 /// A list in a list, so many deep.
 pub fn nested(alloc: Global, depth: u32) -> Result<Json, AllocError> {
     let mut value = Json::Null;
     for _ in 0..depth {
-        value = list(alloc, [value])?;
+        let inside = Vec::from_array(alloc, [value])?;
+        value = Json::List(Sequence::of(inside));
     }
     Ok(value)
 }
 
-/// Adds a member of that name.
-pub fn add(
-    alloc: Global,
-    members: &mut Members,
-    name: &str,
-    value: Json,
-) -> Result<(), AllocError> {
-    let name = Text::of(alloc, name)?;
-    members.put(name, value)
-}
-
-/// The members of an object with one member.
-pub fn member(alloc: Global, name: &str, value: Json) -> Result<Members, AllocError> {
-    let mut members = Members::new(alloc);
-    add(alloc, &mut members, name, value)?;
-    Ok(members)
-}
-
-/// An object with one member.
-pub fn object(alloc: Global, name: &str, value: Json) -> Result<Json, AllocError> {
-    Ok(Json::Map(member(alloc, name, value)?))
-}
-
-/// The text of a value, as it is written.
+/// What is sent of a value.
 fn written(rt: &impl Abort, alloc: Global, value: &Json) -> MemOut {
     let mut out = MemOut::new(alloc, 100_000).expect(rt, "memory");
     write_json(value, &mut out).expect(rt, "all sent");
     out
 }
 
-/// A value has the same text as another value.
-pub fn shows_the_same(rt: &impl Abort, alloc: Global, value: &Json, other: &Json) {
-    let wanted = written(rt, alloc, other);
-    let found = written(rt, alloc, value);
-    assert!(rt; found.sent() == wanted.sent());
-    drop(found);
-    drop(wanted);
+fn is_text(rt: &impl Abort, found: &[u8], text: &[u8]) {
+    assert!(rt; found == text);
 }
 
-/// That characters are in the text of a value.
-pub fn shows(rt: &impl Abort, alloc: Global, value: &Json, part: &str) {
+/// Holds that this text is sent of a value.
+pub fn is_written(rt: &impl Abort, alloc: Global, value: &Json, text: &[u8]) {
     let found = written(rt, alloc, value);
-    let text = std::str::from_utf8(found.sent()).expect(rt, "a text");
-    assert!(rt; text.contains(part));
+    is_text(rt, found.sent(), text);
     drop(found);
+}
+
+/// Holds that the same text is sent of two values.
+pub fn are_the_same(rt: &impl Abort, alloc: Global, value: &Json, other: &Json) {
+    let wanted = written(rt, alloc, other);
+    is_written(rt, alloc, value, wanted.sent());
+    drop(wanted);
 }

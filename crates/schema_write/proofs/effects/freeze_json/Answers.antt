@@ -1,10 +1,10 @@
-use Rattle.std.proofs.Common.{◌≡◌, refl, [], ◌∷◌, codes}
+use Rattle.std.proofs.Common.{◌≡◌, [], ◌∷◌, codes}
 use Rattle.json_value.specs.declared.Json.{Num, Str, Map}
 use Rattle.schema_rows.specs.declared.schemas.Schema.TheVariants as S
-use Rattle.schema_write.proofs.Values.{grown, written_as}
+use Rattle.schema_write.proofs.Values.{added, written_as}
 use Rattle.schema_write.proofs.effects.freeze_json.Goals as goal
 
 pub returns : goal.returns
 returns c =
-    let values : c.push-4.new.self.items ≡ Map c.args.freeze.now.metadata ∷ Str c.args.freeze.now.name ∷ Str c.args.freeze.now.effect_name ∷ Num (codes "0.0") ∷ [] = grown c.in_ok-push-4.ensures.items (grown c.in_ok-push-3.ensures.items (grown c.in_ok-push-2.ensures.items (grown c.in_ok-push.ensures.items c.in_ok-values.ensures.items c.in_ok-object.ensures) c.in_ok-string.ensures) c.in_ok-string-2.ensures) c.in_ok-zero_numeral.ensures in
-    written_as c.written.result S.Freeze c.args.freeze.now.rest c.push-4.new.self.items (Map c.args.freeze.now.metadata ∷ Str c.args.freeze.now.name ∷ Str c.args.freeze.now.effect_name ∷ Num (codes "0.0") ∷ []) values c.written.ensures
+    let values : c.add-2.new.values.items ≡ Map c.args.freeze.now.metadata ∷ Str c.args.freeze.now.name ∷ Str c.args.freeze.now.effect_name ∷ Num (codes "0.0") ∷ [] = added c.zero_numeral.result _ c.in_ok-add-2.ensures c.zero_numeral.ensures (added c.string.result _ c.in_ok-add.ensures c.string.ensures c.in_ok-values.ensures) in
+    written_as c.written.result S.Freeze c.args.freeze.now.rest c.add-2.new.values.items (Map c.args.freeze.now.metadata ∷ Str c.args.freeze.now.name ∷ Str c.args.freeze.now.effect_name ∷ Num (codes "0.0") ∷ []) values c.written.ensures

@@ -7,5 +7,5 @@ use Rattle.schema_write.proofs.items.stack_of.Goals as goal
 
 pub returns : goal.returns
 returns c =
-    let values : c.push-7.new.self.items ≡ Map c.args.stack.now.metadata ∷ Str c.args.stack.now.name ∷ span_json c.args.stack.now.source_range ∷ effects_json c.args.stack.now.effects ∷ markers_json c.args.stack.now.markers ∷ JsonOfBool c.args.stack.now.enabled ∷ JsonOfList c.args.children ∷ [] = grown c.in_ok-push-7.ensures.items (grown c.in_ok-push-6.ensures.items (grown c.in_ok-push-5.ensures.items (grown c.in_ok-push-4.ensures.items (grown c.in_ok-push-3.ensures.items (grown c.in_ok-push-2.ensures.items (grown c.in_ok-push.ensures.items c.in_ok-values.ensures.items c.in_ok-object.ensures) c.in_ok-string.ensures) c.in_ok-span_json.ensures) c.in_ok-effects_json.ensures) c.in_ok-markers_json.ensures) refl) refl in
-    written_as c.written.result S.Stack c.args.stack.now.rest c.push-7.new.self.items (Map c.args.stack.now.metadata ∷ Str c.args.stack.now.name ∷ span_json c.args.stack.now.source_range ∷ effects_json c.args.stack.now.effects ∷ markers_json c.args.stack.now.markers ∷ JsonOfBool c.args.stack.now.enabled ∷ JsonOfList c.args.children ∷ []) values c.written.ensures
+    let values : c.push.new.self.items ≡ Map c.args.stack.now.metadata ∷ Str c.args.stack.now.name ∷ span_json c.args.stack.now.source_range ∷ effects_json c.args.stack.now.effects ∷ markers_json c.args.stack.now.markers ∷ JsonOfBool c.args.stack.now.enabled ∷ JsonOfList c.args.children ∷ [] = grown c.in_ok-push.ensures.items c.in_ok-values.ensures refl in
+    written_as c.written.result S.Stack c.args.stack.now.rest c.push.new.self.items (Map c.args.stack.now.metadata ∷ Str c.args.stack.now.name ∷ span_json c.args.stack.now.source_range ∷ effects_json c.args.stack.now.effects ∷ markers_json c.args.stack.now.markers ∷ JsonOfBool c.args.stack.now.enabled ∷ JsonOfList c.args.children ∷ []) values c.written.ensures

@@ -1,11 +1,11 @@
-use Rattle.std.proofs.Common.{◌≡◌, refl, [], ◌∷◌}
+use Rattle.std.proofs.Common.{◌≡◌, [], ◌∷◌}
 use Rattle.json_value.specs.declared.Json.{Str, Map}
 use Rattle.schema_rows.specs.declared.schemas.Schema.TheVariants as S
 use Rattle.schema_write.specs.Objects.{span_json}
-use Rattle.schema_write.proofs.Values.{grown, written_as}
+use Rattle.schema_write.proofs.Values.{added, written_as}
 use Rattle.schema_write.proofs.media.missing_json.Goals as goal
 
 pub returns : goal.returns
 returns c =
-    let values : c.push-3.new.self.items ≡ Map c.args.medium.now.metadata ∷ Str c.args.medium.now.name ∷ span_json c.args.medium.now.available_range ∷ [] = grown c.in_ok-push-3.ensures.items (grown c.in_ok-push-2.ensures.items (grown c.in_ok-push.ensures.items c.in_ok-values.ensures.items c.in_ok-object.ensures) c.in_ok-string.ensures) c.in_ok-span_json.ensures in
-    written_as c.written.result S.Missing c.args.medium.now.rest c.push-3.new.self.items (Map c.args.medium.now.metadata ∷ Str c.args.medium.now.name ∷ span_json c.args.medium.now.available_range ∷ []) values c.written.ensures
+    let values : c.add.new.values.items ≡ Map c.args.medium.now.metadata ∷ Str c.args.medium.now.name ∷ span_json c.args.medium.now.available_range ∷ [] = added c.span_json.result _ c.in_ok-add.ensures c.span_json.ensures c.in_ok-values.ensures in
+    written_as c.written.result S.Missing c.args.medium.now.rest c.add.new.values.items (Map c.args.medium.now.metadata ∷ Str c.args.medium.now.name ∷ span_json c.args.medium.now.available_range ∷ []) values c.written.ensures

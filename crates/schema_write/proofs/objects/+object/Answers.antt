@@ -22,5 +22,5 @@ json_of-returns-in-Item t c = let x = c.in-Item.item in object_as c.item_json.re
 pub collection_json-returns : goal.collection_json-returns
 collection_json-returns t c =
     let x = c.args.collection.now in
-    let values : c.push-3.new.self.items ≡ Map x.metadata ∷ Str x.name ∷ JsonOfList (map json_of x.children) ∷ [] = grown c.in_ok-push-3.ensures.items (grown c.in_ok-push-2.ensures.items (grown c.in_ok-push.ensures.items c.in_ok-values.ensures.items c.in_ok-object.ensures) c.in_ok-string.ensures) (ap JsonOfList c.in_ok-objects_json.ensures) in
-    written_as c.written.result S.Collection x.rest c.push-3.new.self.items (Map x.metadata ∷ Str x.name ∷ JsonOfList (map json_of x.children) ∷ []) values c.written.ensures
+    let values : c.push.new.self.items ≡ Map x.metadata ∷ Str x.name ∷ JsonOfList (map json_of x.children) ∷ [] = grown c.in_ok-push.ensures.items c.in_ok-values.ensures (ap JsonOfList c.in_ok-objects_json.ensures) in
+    written_as c.written.result S.Collection x.rest c.push.new.self.items (Map x.metadata ∷ Str x.name ∷ JsonOfList (map json_of x.children) ∷ []) values c.written.ensures
