@@ -1,4 +1,4 @@
--- What words ask for, by what is given behind a command's own word.
+-- What words ask for, by what is given after a command's own word.
 use Rattle.std.proofs.Common.{◌≡◌, ℕ, List, ◌∷◌, Option, Some, None, MatchOption, sym, ◌∙◌, ap₂, subst}
 use Rattle.clap.specs.Words.{fault_of}
 use Rattle.command_words.specs.Asked.{AskNothing, IsRequest, NoRequest}
@@ -15,7 +15,7 @@ use Rattle.command_words.specs.declared.requests.Task.{Task}
 use Rattle.command_words.specs.declared.requests.Task.TheVariants.{OnFiles, Drill}
 use Rattle.command_words.proofs.Asking.{same_given, same_words}
 
--- where the words behind a command's own word have no match, nothing is asked for
+-- where the words after a command's own word have no match, nothing is asked for
 pub unmatched : (words behind : List (List ℕ)) (verb : Verb) (fault : WordsFault)
     → words ≡ word_of verb ∷ behind → GivesNothing verb behind fault → NoRequest words fault
 unmatched words behind verb Usage w none = record {
@@ -28,7 +28,7 @@ unmatched words behind verb Usage w none = record {
 }
 unmatched words behind verb Memory w none = tt
 
--- what the words behind a command's own word give is what the words ask for
+-- what the words after a command's own word give is what the words ask for
 pub task_asks : (words behind : List (List ℕ)) (verb : Verb) (given : Given) (result : Option Task)
     → words ≡ word_of verb ∷ behind → Gives verb behind given
     → MatchOption result (HasNoTask verb given) (λ task. IsTaskOf verb given task)

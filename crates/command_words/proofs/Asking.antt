@@ -1,15 +1,15 @@
 -- What words give, and what it asks for.
-use Rattle.std.proofs.Common.{◌≡◌, ℕ, Bool, List, [], ◌∷◌, Option, Some, None, refl, inl, inr, sym, ◌∙◌, ap, ap₂, subst, get_or, ◌≤◌, arith}
+use Rattle.std.proofs.Common.{◌≡◌, ℕ, Bool, true, false, List, [], ◌∷◌, Option, Some, None, refl, inl, inr, sym, ◌∙◌, ap, ap₂, subst, get_or, ◌≤◌, arith}
 use Rattle.tick_time.specs.declared.rates.Rate.{Rate}
 use Rattle.clap.specs.Words.{matches_of}
 use Rattle.command_words.specs.Given.{Given, Gives, given_in}
 use Rattle.command_words.specs.Options.{reader_of}
-use Rattle.command_words.specs.Asked.{IsByNames, IsCat, IsStat, IsTool, IsRate, IsInput, IsDefault, IsOutput, IsAskedOf, IsConversion, IsCount, AreFrames, IsListing, IsFrameList, IsEditing, IsEdit, IsAskedBy, IsMedia, IsScript, OtherNames, ReadsOnce, IsRequest, Ask}
+use Rattle.command_words.specs.Asked.{IsByNames, IsCat, IsStat, IsTool, IsPull, IsHandles, AreHandles, IsRate, IsInput, IsDefault, IsOutput, IsAskedOf, IsFamily, Ways, ways_in, IsConversion, IsCount, AreFrames, IsListing, IsFrameList, IsEditing, IsEdit, IsLogList, IsAskedBy, IsMedia, IsScript, OtherNames, ReadsOnce, IsRequest, Ask}
 use Rattle.command_words.specs.declared.conversions.Form.{Form}
 use Rattle.command_words.specs.declared.conversions.Form.TheVariants as form
 use Rattle.command_words.specs.declared.requests.Command.{Command}
 use Rattle.command_words.specs.declared.requests.Command.TheVariants.{ListToList, ListToObjects, TimelineToList, ToObjects, ToJson, Frames, ListFrames, Edit, ListEdit}
-use Rattle.command_words.specs.declared.requests.Command.TheVariants.{Cat, ListCat, Stat, ListStat, Tool, ListTool}
+use Rattle.command_words.specs.declared.requests.Command.TheVariants.{Cat, ListCat, Stat, ListStat, Tool, ListTool, Pull, ListPull, LogToMedia}
 use Rattle.command_words.specs.declared.requests.FramesAsked.{FramesAsked}
 use Rattle.command_words.specs.declared.names.Verb.{Verb}
 use Rattle.command_words.specs.declared.names.Verb.TheVariants as verbs
@@ -81,22 +81,33 @@ pub output_once : (to target : Option (List ℕ)) (f g : Form) → IsOutput to t
 output_once None target f g p q = default_once target f g p q
 output_once (Some word) target f g p q = word_once word target f g p q
 
+-- at most one family is asked for
+pub family_once : (asked : Option (List ℕ)) (a b : Bool) → IsFamily asked a → IsFamily asked b
+    → a ≡ b
+family_once None a b p q = p ∙ sym q
+family_once (Some word) true true p q = refl
+family_once (Some word) true false p q = absurd (omega (arith, ap first p, ap first q))
+family_once (Some word) false true p q = absurd (omega (arith, ap first p, ap first q))
+family_once (Some word) false false p q = refl
+
 -- what is asked with these values
 pub asked_with : (command : Command) (called name : List ℕ) (input output : Form) (rate : Rate)
-    (given : Given) → given.file ≡ Some name → IsInput given.from name input
-    → IsOutput given.to given.target output → IsRate given.rate rate
+    (older : Bool) (given : Given) → given.file ≡ Some name → IsInput given.from name input
+    → IsOutput given.to given.target output → IsRate given.rate rate → IsFamily given.family older
     → IsConversion command called given
-    → IsAskedOf command input output rate given.drop given.wide × (called ≡ name)
-asked_with command called name input output rate given file reads writes is a =
+    → IsAskedOf command input output rate (ways_in given older) × (called ≡ name)
+asked_with command called name input output rate older given file reads writes is family a =
     let same : called ≡ name = let e = sym a.file ∙ file in cc in
     let read : a.input ≡ input = input_once given.from name a.input input
     (subst (λ n. IsInput given.from n a.input) same a.reads) reads in
     let wrote : a.output ≡ output =
     output_once given.to given.target a.output output a.writes writes in
-    let once = asked_rate_once given.rate a.rate rate a.is_rate is in (
-      subst (λ i. IsAskedOf command i output rate given.drop given.wide) read
-          (subst (λ o. IsAskedOf command a.input o rate given.drop given.wide) wrote
-          (subst (λ r. IsAskedOf command a.input a.output r given.drop given.wide) once a.means)),
+    let once = asked_rate_once given.rate a.rate rate a.is_rate is in
+    let kin = family_once given.family a.older older a.family family in (
+      subst (λ i. IsAskedOf command i output rate (ways_in given older)) read
+          (subst (λ o. IsAskedOf command a.input o rate (ways_in given older)) wrote
+          (subst (λ r. IsAskedOf command a.input a.output r (ways_in given older)) once
+          (subst (λ f. IsAskedOf command a.input a.output a.rate (ways_in given f)) kin a.means))),
       same,
     )
 
@@ -106,7 +117,7 @@ first_words a b more others e = cc
 other_words : (a b : List ℕ) (more others : List (List ℕ)) → a ∷ more ≡ b ∷ others → more ≡ others
 other_words a b more others e = cc
 
--- words that begin with the word of a command are of that command alone, and the words behind it
+-- words that begin with the word of a command are of that command alone, and the words after it
 -- are the same
 pub record SameWords (verb other : Verb) (behind rest : List (List ℕ)) : Type 0 where
   pub verbs : verb ≡ other
@@ -130,66 +141,70 @@ same_given verb other behind rest given found same g h =
     g.is ∙ both ∙ sym h.is
 
 -- the command for what is read and what is written
-abbrev asked_for : Form → Form → Rate → Bool → Bool → Option Command
-asked_for form.List form.List rate drop wide = Some (ListToList rate drop wide)
-asked_for form.List form.Objects rate drop wide = Some (ListToObjects rate)
-asked_for form.Objects form.List rate drop wide = Some (TimelineToList drop wide)
-asked_for form.Objects form.Objects rate drop wide = Some ToObjects
-asked_for form.Objects form.Json rate drop wide = Some ToJson
-asked_for input output rate drop wide = None
+abbrev asked_for : Form → Form → Rate → Ways → Option Command
+asked_for form.List form.List rate ways = Some (ListToList rate ways.drop ways.wide)
+asked_for form.List form.Objects rate ways = Some (ListToObjects rate ways.older)
+asked_for form.Objects form.List rate ways = Some (TimelineToList ways.drop ways.wide)
+asked_for form.Objects form.Objects rate ways = Some (ToObjects ways.older)
+asked_for form.Objects form.Json rate ways = Some ToJson
+asked_for input output rate ways = None
 
-asked_is : (command : Command) (input output : Form) (rate : Rate) (drop wide : Bool)
-    → IsAskedOf command input output rate drop wide
-    → asked_for input output rate drop wide ≡ Some command
-asked_is (ListToList r f w) form.Objects output rate drop wide p = absurd p
-asked_is (ListToList r f w) form.List form.Objects rate drop wide p = absurd p
-asked_is (ListToList r f w) form.List form.List rate drop wide p =
+asked_is : (command : Command) (input output : Form) (rate : Rate) (ways : Ways)
+    → IsAskedOf command input output rate ways → asked_for input output rate ways ≡ Some command
+asked_is (ListToList r f w) form.Objects output rate ways p = absurd p
+asked_is (ListToList r f w) form.List form.Objects rate ways p = absurd p
+asked_is (ListToList r f w) form.List form.List rate ways p =
     let e = p.0 in let h = p.1 in let k = p.2 in cc
-asked_is (ListToList r f w) form.List form.Json rate drop wide p = absurd p
-asked_is (ListToList r f w) form.Json output rate drop wide p = absurd p
-asked_is (ListToObjects r) form.Objects output rate drop wide p = absurd p
-asked_is (ListToObjects r) form.List form.Objects rate drop wide p = let e = p in cc
-asked_is (ListToObjects r) form.List form.List rate drop wide p = absurd p
-asked_is (ListToObjects r) form.List form.Json rate drop wide p = absurd p
-asked_is (ListToObjects r) form.Json output rate drop wide p = absurd p
-asked_is (TimelineToList f w) form.Objects form.Objects rate drop wide p = absurd p
-asked_is (TimelineToList f w) form.Objects form.List rate drop wide p =
+asked_is (ListToList r f w) form.List form.Json rate ways p = absurd p
+asked_is (ListToList r f w) form.Json output rate ways p = absurd p
+asked_is (ListToObjects r o) form.Objects output rate ways p = absurd p
+asked_is (ListToObjects r o) form.List form.Objects rate ways p =
     let e = p.0 in let h = p.1 in cc
-asked_is (TimelineToList f w) form.Objects form.Json rate drop wide p = absurd p
-asked_is (TimelineToList f w) form.List output rate drop wide p = absurd p
-asked_is (TimelineToList f w) form.Json output rate drop wide p = absurd p
-asked_is ToObjects form.Objects form.Objects rate drop wide p = refl
-asked_is ToObjects form.Objects form.List rate drop wide p = absurd p
-asked_is ToObjects form.Objects form.Json rate drop wide p = absurd p
-asked_is ToObjects form.List output rate drop wide p = absurd p
-asked_is ToObjects form.Json output rate drop wide p = absurd p
-asked_is ToJson form.Objects form.Objects rate drop wide p = absurd p
-asked_is ToJson form.Objects form.List rate drop wide p = absurd p
-asked_is ToJson form.Objects form.Json rate drop wide p = refl
-asked_is ToJson form.List output rate drop wide p = absurd p
-asked_is ToJson form.Json output rate drop wide p = absurd p
-asked_is (Frames asked) input output rate drop wide p = absurd p
-asked_is (ListFrames r asked) input output rate drop wide p = absurd p
-asked_is Cat input output rate drop wide p = absurd p
-asked_is (ListCat r) input output rate drop wide p = absurd p
-asked_is Stat input output rate drop wide p = absurd p
-asked_is (ListStat r) input output rate drop wide p = absurd p
-asked_is (Tool t) input output rate drop wide p = absurd p
-asked_is (ListTool r t) input output rate drop wide p = absurd p
-asked_is Edit input output rate drop wide p = absurd p
-asked_is (ListEdit r) input output rate drop wide p = absurd p
+asked_is (ListToObjects r o) form.List form.List rate ways p = absurd p
+asked_is (ListToObjects r o) form.List form.Json rate ways p = absurd p
+asked_is (ListToObjects r o) form.Json output rate ways p = absurd p
+asked_is (TimelineToList f w) form.Objects form.Objects rate ways p = absurd p
+asked_is (TimelineToList f w) form.Objects form.List rate ways p =
+    let e = p.0 in let h = p.1 in cc
+asked_is (TimelineToList f w) form.Objects form.Json rate ways p = absurd p
+asked_is (TimelineToList f w) form.List output rate ways p = absurd p
+asked_is (TimelineToList f w) form.Json output rate ways p = absurd p
+asked_is (ToObjects o) form.Objects form.Objects rate ways p = ap (λ x. Some (ToObjects x)) (sym p)
+asked_is (ToObjects o) form.Objects form.List rate ways p = absurd p
+asked_is (ToObjects o) form.Objects form.Json rate ways p = absurd p
+asked_is (ToObjects o) form.List output rate ways p = absurd p
+asked_is (ToObjects o) form.Json output rate ways p = absurd p
+asked_is ToJson form.Objects form.Objects rate ways p = absurd p
+asked_is ToJson form.Objects form.List rate ways p = absurd p
+asked_is ToJson form.Objects form.Json rate ways p = refl
+asked_is ToJson form.List output rate ways p = absurd p
+asked_is ToJson form.Json output rate ways p = absurd p
+asked_is (Frames asked) input output rate ways p = absurd p
+asked_is (ListFrames r asked) input output rate ways p = absurd p
+asked_is Cat input output rate ways p = absurd p
+asked_is (ListCat r) input output rate ways p = absurd p
+asked_is Stat input output rate ways p = absurd p
+asked_is (Pull k) input output rate ways p = absurd p
+asked_is (ListStat r) input output rate ways p = absurd p
+asked_is (ListPull r k) input output rate ways p = absurd p
+asked_is (Tool t) input output rate ways p = absurd p
+asked_is (ListTool r t) input output rate ways p = absurd p
+asked_is Edit input output rate ways p = absurd p
+asked_is (ListEdit r) input output rate ways p = absurd p
+asked_is LogToMedia input output rate ways p = absurd p
 
--- one file, one output and one rate make at most one command
-asked_once : (c d : Command) (input output : Form) (rate : Rate) (drop wide : Bool)
-    → IsAskedOf c input output rate drop wide → IsAskedOf d input output rate drop wide → c ≡ d
-asked_once c d input output rate drop wide p q = let e : Some c ≡ Some d =
-    sym (asked_is c input output rate drop wide p) ∙ asked_is d input output rate drop wide q in cc
+-- one file, one output, one rate and one family make at most one command
+asked_once : (c d : Command) (input output : Form) (rate : Rate) (ways : Ways)
+    → IsAskedOf c input output rate ways → IsAskedOf d input output rate ways → c ≡ d
+asked_once c d input output rate ways p q = let e : Some c ≡ Some d =
+    sym (asked_is c input output rate ways p) ∙ asked_is d input output rate ways q in cc
 
 convert_once : (c d : Command) (a b : List ℕ) (given : Given) → IsConversion c a given
     → IsConversion d b given → (c ≡ d) × (a ≡ b)
 convert_once c d a b given p q =
-    let h = asked_with d b a p.input p.output p.rate given p.file p.reads p.writes p.is_rate q in
-    (asked_once c d p.input p.output p.rate given.drop given.wide p.means h.0, sym h.1)
+    let h = asked_with d b a p.input p.output p.rate p.older given p.file p.reads p.writes
+    p.is_rate p.family q in
+    (asked_once c d p.input p.output p.rate (ways_in given p.older) p.means h.0, sym h.1)
 
 pub count_once : (word : List ℕ) (m n : ℕ) → IsCount word m → IsCount word n → m ≡ n
 count_once word m n p q = number_once word m n p.0 q.0
@@ -222,14 +237,14 @@ one_listing (ListFrames r x) (Frames y) name rate frames p q = absurd (q.0 p.0)
 one_listing (ListFrames r x) (ListFrames s y) name rate frames p q =
     ap (λ z. ListFrames z x) (p.1 ∙ sym q.1) ∙ ap (ListFrames s) (p.2 ∙ sym q.2)
 one_listing (Frames x) (ListToList r f w) name rate frames p q = absurd q
-one_listing (Frames x) (ListToObjects r) name rate frames p q = absurd q
+one_listing (Frames x) (ListToObjects r o) name rate frames p q = absurd q
 one_listing (Frames x) (TimelineToList f w) name rate frames p q = absurd q
-one_listing (Frames x) ToObjects name rate frames p q = absurd q
+one_listing (Frames x) (ToObjects o) name rate frames p q = absurd q
 one_listing (Frames x) ToJson name rate frames p q = absurd q
 one_listing (ListFrames r x) (ListToList s f w) name rate frames p q = absurd q
-one_listing (ListFrames r x) (ListToObjects s) name rate frames p q = absurd q
+one_listing (ListFrames r x) (ListToObjects s o) name rate frames p q = absurd q
 one_listing (ListFrames r x) (TimelineToList f w) name rate frames p q = absurd q
-one_listing (ListFrames r x) ToObjects name rate frames p q = absurd q
+one_listing (ListFrames r x) (ToObjects o) name rate frames p q = absurd q
 one_listing (ListFrames r x) ToJson name rate frames p q = absurd q
 one_listing (Frames x) Edit name rate frames p q = absurd q
 one_listing (Frames x) (ListEdit s) name rate frames p q = absurd q
@@ -238,28 +253,37 @@ one_listing (ListFrames r x) (ListEdit s) name rate frames p q = absurd q
 one_listing (Frames x) Cat name rate frames p q = absurd q
 one_listing (Frames x) (ListCat s) name rate frames p q = absurd q
 one_listing (Frames x) Stat name rate frames p q = absurd q
+one_listing (Frames x) (Pull k) name rate frames p q = absurd q
 one_listing (Frames x) (ListStat s) name rate frames p q = absurd q
+one_listing (Frames x) (ListPull s k) name rate frames p q = absurd q
 one_listing (Frames x) (Tool t) name rate frames p q = absurd q
 one_listing (Frames x) (ListTool s t) name rate frames p q = absurd q
 one_listing (ListFrames r x) Cat name rate frames p q = absurd q
 one_listing (ListFrames r x) (ListCat s) name rate frames p q = absurd q
 one_listing (ListFrames r x) Stat name rate frames p q = absurd q
+one_listing (ListFrames r x) (Pull k) name rate frames p q = absurd q
 one_listing (ListFrames r x) (ListStat s) name rate frames p q = absurd q
+one_listing (ListFrames r x) (ListPull s k) name rate frames p q = absurd q
 one_listing (ListFrames r x) (Tool t) name rate frames p q = absurd q
 one_listing (ListFrames r x) (ListTool s t) name rate frames p q = absurd q
+one_listing (Frames x) LogToMedia name rate frames p q = absurd q
+one_listing (ListFrames r x) LogToMedia name rate frames p q = absurd q
 one_listing Cat d name rate frames p q = absurd p
 one_listing (ListCat r) d name rate frames p q = absurd p
 one_listing Stat d name rate frames p q = absurd p
+one_listing (Pull k) d name rate frames p q = absurd p
 one_listing (ListStat r) d name rate frames p q = absurd p
+one_listing (ListPull r k) d name rate frames p q = absurd p
 one_listing (Tool t) d name rate frames p q = absurd p
 one_listing (ListTool r t) d name rate frames p q = absurd p
 one_listing (ListToList r f w) d name rate frames p q = absurd p
-one_listing (ListToObjects r) d name rate frames p q = absurd p
+one_listing (ListToObjects r o) d name rate frames p q = absurd p
 one_listing (TimelineToList f w) d name rate frames p q = absurd p
-one_listing ToObjects d name rate frames p q = absurd p
+one_listing (ToObjects o) d name rate frames p q = absurd p
 one_listing ToJson d name rate frames p q = absurd p
 one_listing Edit d name rate frames p q = absurd p
 one_listing (ListEdit r) d name rate frames p q = absurd p
+one_listing LogToMedia d name rate frames p q = absurd p
 
 -- what is listed of the file of that name
 listed_with : (command : Command) (called name : List ℕ) (rate : Rate) (frames : FramesAsked)
@@ -295,16 +319,19 @@ editing_is (ListEdit r) name rate p = (Some r, (p.0, p.1, refl))
 editing_is Cat name rate p = absurd p
 editing_is (ListCat r) name rate p = absurd p
 editing_is Stat name rate p = absurd p
+editing_is (Pull k) name rate p = absurd p
 editing_is (ListStat r) name rate p = absurd p
+editing_is (ListPull r k) name rate p = absurd p
 editing_is (Tool t) name rate p = absurd p
 editing_is (ListTool r t) name rate p = absurd p
 editing_is (ListToList r f w) name rate p = absurd p
-editing_is (ListToObjects r) name rate p = absurd p
+editing_is (ListToObjects r o) name rate p = absurd p
 editing_is (TimelineToList f w) name rate p = absurd p
-editing_is ToObjects name rate p = absurd p
+editing_is (ToObjects o) name rate p = absurd p
 editing_is ToJson name rate p = absurd p
 editing_is (Frames x) name rate p = absurd p
 editing_is (ListFrames r x) name rate p = absurd p
+editing_is LogToMedia name rate p = absurd p
 
 editing_once : (c d : Command) (name : List ℕ) (rate : Rate) (a b : Option Rate)
     → editing c name rate a → editing d name rate b → c ≡ d
@@ -389,6 +416,35 @@ tool_once c d a b given p q =
       name,
     )
 
+-- an option asks for one number of handles
+handles_once : (given : Option (List ℕ)) (m n : ℕ) → AreHandles given m → AreHandles given n
+    → m ≡ n
+handles_once None m n p q = p ∙ sym q
+handles_once (Some word) m n p q = number_once word m n p.0 q.0
+
+-- a number beyond the limit of handles is none
+pub no_handles : (word : List ℕ) (n : ℕ) → IsWholeNumber word n → (n ≤ 10000 → ⊥)
+    → (m : ℕ) → IsHandles word m → ⊥
+no_handles word n w past m handles =
+    let same = number_once word m n handles.0 w in past (omega (arith, same, handles.1))
+
+pull_once : (c d : Command) (a b : List ℕ) (given : Given) → IsPull c a given → IsPull d b given
+    → (c ≡ d) × (a ≡ b)
+pull_once c d a b given p q =
+    let name = one_file a b given p.file q.file in
+    let rate = asked_rate_once given.rate p.rate q.rate p.is_rate q.is_rate in
+    let handles = handles_once given.handles p.handles q.handles p.are q.are in
+    let means =
+    subst (λ h. IsByNames (Pull h) (λ r. ListPull r h) c (a ∷ []) p.rate) handles p.means in (
+      by_same_names (Pull q.handles) (λ r. ListPull r q.handles) c d a b [] p.rate q.rate
+          name rate means q.means,
+      name,
+    )
+
+log_once : (c d : Command) (a b : List ℕ) (given : Given) → IsLogList c a given
+    → IsLogList d b given → (c ≡ d) × (a ≡ b)
+log_once c d a b given p q = (p.means ∙ sym q.means, one_file a b given p.file q.file)
+
 by_once : (verb : Verb) (c d : Command) (a b : List ℕ) (given : Given) → IsAskedBy verb c a given
     → IsAskedBy verb d b given → (c ≡ d) × (a ≡ b)
 by_once verbs.Convert c d a b given p q = convert_once c d a b given p q
@@ -398,44 +454,52 @@ by_once verbs.Tool c d a b given p q = tool_once c d a b given p q
 by_once verbs.Frames c d a b given p q = frames_once c d a b given p q
 by_once verbs.Edit c d a b given p q = edit_once c d a b given p q
 by_once verbs.Drill c d a b given p q = absurd p
+by_once verbs.Pull c d a b given p q = pull_once c d a b given p q
+by_once verbs.Media c d a b given p q = log_once c d a b given p q
 
 -- a command reads at most one media list
 media_once : (c : Command) (named m n : Option (List ℕ)) → IsMedia c named m → IsMedia c named n
     → m ≡ n
 media_once (ListToList r f w) named m n p q = p.1 ∙ sym q.1
-media_once (ListToObjects r) named m n p q = p ∙ sym q
+media_once (ListToObjects r o) named m n p q = p ∙ sym q
 media_once (TimelineToList f w) named m n p q = p ∙ sym q
-media_once ToObjects named m n p q = p ∙ sym q
+media_once (ToObjects o) named m n p q = p ∙ sym q
 media_once ToJson named m n p q = p ∙ sym q
 media_once Cat named m n p q = p ∙ sym q
 media_once (ListCat r) named m n p q = p ∙ sym q
 media_once Stat named m n p q = p ∙ sym q
+media_once (Pull k) named m n p q = p ∙ sym q
 media_once (ListStat r) named m n p q = p ∙ sym q
+media_once (ListPull r k) named m n p q = p ∙ sym q
 media_once (Tool asked) named m n p q = p ∙ sym q
 media_once (ListTool r asked) named m n p q = p ∙ sym q
 media_once (Frames asked) named m n p q = p ∙ sym q
 media_once (ListFrames r asked) named m n p q = p ∙ sym q
 media_once Edit named m n p q = p ∙ sym q
 media_once (ListEdit r) named m n p q = p ∙ sym q
+media_once LogToMedia named m n p q = p ∙ sym q
 
 -- a command reads at most one script
 script_once : (c : Command) (named m n : Option (List ℕ)) → IsScript c named m
     → IsScript c named n → m ≡ n
 script_once (ListToList r f w) named m n p q = p ∙ sym q
-script_once (ListToObjects r) named m n p q = p ∙ sym q
+script_once (ListToObjects r o) named m n p q = p ∙ sym q
 script_once (TimelineToList f w) named m n p q = p ∙ sym q
-script_once ToObjects named m n p q = p ∙ sym q
+script_once (ToObjects o) named m n p q = p ∙ sym q
 script_once ToJson named m n p q = p ∙ sym q
 script_once Cat named m n p q = p ∙ sym q
 script_once (ListCat r) named m n p q = p ∙ sym q
 script_once Stat named m n p q = p ∙ sym q
+script_once (Pull k) named m n p q = p ∙ sym q
 script_once (ListStat r) named m n p q = p ∙ sym q
+script_once (ListPull r k) named m n p q = p ∙ sym q
 script_once (Tool asked) named m n p q = p ∙ sym q
 script_once (ListTool r asked) named m n p q = p ∙ sym q
 script_once (Frames asked) named m n p q = p ∙ sym q
 script_once (ListFrames r asked) named m n p q = p ∙ sym q
 script_once Edit named m n p q = p ∙ sym q
 script_once (ListEdit r) named m n p q = p ∙ sym q
+script_once LogToMedia named m n p q = p ∙ sym q
 
 names_of : List (List ℕ) → Option (List ℕ) → Option (List ℕ) → OtherNames
 names_of more script media = record { more = more; script = script; media = media }

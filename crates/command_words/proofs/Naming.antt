@@ -3,7 +3,7 @@ use Rattle.std.proofs.Common.{◌≡◌, ℕ, Bool, true, false, List, [], ◌�
 use Rattle.std.proofs.lemmas.Slice.Eq.{bytes_eq-Decides}
 use Rattle.command_words.specs.Names.{meaning, word_of, verb_words}
 use Rattle.command_words.specs.declared.names.Verb.{Verb}
-use Rattle.command_words.specs.declared.names.Verb.TheVariants.{Convert, Cat, Stat, Tool, Frames, Edit, Drill}
+use Rattle.command_words.specs.declared.names.Verb.TheVariants.{Convert, Cat, Stat, Tool, Frames, Edit, Drill, Pull, Media}
 
 word_is : (verb : Verb) → meaning (word_of verb) verb_words ≡ Some verb
 word_is Convert = refl
@@ -13,6 +13,8 @@ word_is Tool = refl
 word_is Frames = refl
 word_is Edit = refl
 word_is Drill = refl
+word_is Pull = refl
+word_is Media = refl
 
 -- a word is that of at most one command
 pub verb_once : (one other : Verb) → word_of one ≡ word_of other → one ≡ other
@@ -42,4 +44,5 @@ by_table word verb (row ∷ rows) are e =
 pub verb_word : (word : List ℕ) (verb : Verb) → meaning word verb_words ≡ Some verb
     → word ≡ word_of verb
 verb_word word verb e =
-    by_table word verb verb_words (refl, (refl, (refl, (refl, (refl, (refl, (refl, tt))))))) e
+    by_table word verb verb_words
+    (refl, (refl, (refl, (refl, (refl, (refl, (refl, (refl, (refl, tt))))))))) e

@@ -15,7 +15,7 @@ use Rattle.command_words.specs.Taken.{taken_rule}
 use Rattle.command_words.specs.declared.faults.WordsFault.{WordsFault}
 use Rattle.command_words.specs.declared.faults.WordsFault.TheVariants.{Usage, Memory}
 use Rattle.command_words.specs.declared.names.Verb.{Verb}
-use Rattle.command_words.specs.declared.names.Verb.TheVariants.{Convert, Cat, Stat, Tool, Frames, Edit, Drill}
+use Rattle.command_words.specs.declared.names.Verb.TheVariants.{Convert, Cat, Stat, Tool, Frames, Edit, Drill, Pull, Media}
 use Rattle.command_words.specs.declared.options.Taken.{Taken}
 
 -- a command whose words don't begin with its name
@@ -56,6 +56,8 @@ readers_are_free Tool = refl
 readers_are_free Frames = refl
 readers_are_free Edit = refl
 readers_are_free Drill = refl
+readers_are_free Pull = refl
+readers_are_free Media = refl
 
 pub readers_are_simple : (verb : Verb) → is_simple (reader_of verb) ≡ true
 readers_are_simple Convert = refl
@@ -65,8 +67,10 @@ readers_are_simple Tool = refl
 readers_are_simple Frames = refl
 readers_are_simple Edit = refl
 readers_are_simple Drill = refl
+readers_are_simple Pull = refl
+readers_are_simple Media = refl
 
--- an error that tells of no want of memory has a kind that the words have
+-- an error that tells of no lack of memory has a kind that the words have
 pub has_fault : (kinds : Kinds) (e : Error) → HasKind kinds e → (kind_of e ≡ kind.OutOfMemory → ⊥)
     → kinds ≡ [] → ⊥
 has_fault [] e (inl memory) other none = other memory

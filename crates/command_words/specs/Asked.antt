@@ -1,5 +1,5 @@
 -- What a command line asks for.
-use Rattle.std.specs.Prelude.{◌≡◌, ◌⊎◌, ℕ, ◌<◌, ◌≤◌, pos, Bool, List, [], ◌∷◌, ◌++◌, Option, Some, None, IsSome, bytes_eq, codes, count_by, length, map}
+use Rattle.std.specs.Prelude.{◌≡◌, ◌⊎◌, ℕ, ◌<◌, ◌≤◌, pos, Bool, true, false, List, [], ◌∷◌, ◌++◌, Option, Some, None, IsSome, bytes_eq, codes, count_by, length, map}
 use Rattle.std.specs.Option.{option_map}
 use Rattle.tick_time.specs.declared.rates.Rate.{Rate}
 use Rattle.smpte_tc.specs.RateWords.{IsRateWord}
@@ -14,7 +14,7 @@ use Rattle.command_words.specs.declared.faults.WordsFault.{WordsFault}
 use Rattle.command_words.specs.declared.faults.WordsFault.TheVariants.{Usage, Memory}
 use Rattle.command_words.specs.declared.requests.Command.{Command}
 use Rattle.command_words.specs.declared.requests.Command.TheVariants.{ListToList, ListToObjects, TimelineToList, ToObjects, ToJson, Frames, ListFrames, Edit, ListEdit}
-use Rattle.command_words.specs.declared.requests.Command.TheVariants.{Cat, ListCat, Stat, ListStat, Tool, ListTool}
+use Rattle.command_words.specs.declared.requests.Command.TheVariants.{Cat, ListCat, Stat, ListStat, Tool, ListTool, Pull, ListPull, LogToMedia}
 use Rattle.command_words.specs.declared.requests.FramesAsked.{FramesAsked}
 use Rattle.command_words.specs.declared.requests.Others.{Others}
 use Rattle.command_words.specs.declared.tools.ToolAsked.{ToolAsked}
@@ -53,18 +53,36 @@ IsOutput (Some word) target form.Objects = word ≡ codes "otio"
 IsOutput (Some word) target form.List = word ≡ codes "edl"
 IsOutput (Some word) target form.Json = word ≡ codes "json"
 
+-- whether the older family of schemas is asked for: the first one, and the second where none is
+abbrev pub IsFamily : Option (List ℕ) → Bool → Type 0
+IsFamily None older = older ≡ false
+IsFamily (Some word) true = word ≡ codes "1"
+IsFamily (Some word) false = word ≡ codes "2"
+
+-- how what is written is asked for: lists with drop-frame timecode and in the wide layout, objects
+-- in the older family
+pub record Ways : Type 0 where
+  pub drop : Bool
+  pub wide : Bool
+  pub older : Bool
+
 -- The command: a list is written as a list at this rate, or as the timeline that it conforms to;
 -- objects as a list, as objects or as JSON. Lists are written with drop-frame timecode and in the
--- wide layout where the two flags are there.
-abbrev pub IsAskedOf : Command → Form → Form → Rate → Bool → Bool → Type 0
-IsAskedOf (ListToList rate drop wide) form.List form.List asked drops widens =
-    (rate ≡ asked) × (drop ≡ drops) × (wide ≡ widens)
-IsAskedOf (ListToObjects rate) form.List form.Objects asked drops widens = rate ≡ asked
-IsAskedOf (TimelineToList drop wide) form.Objects form.List asked drops widens =
-    (drop ≡ drops) × (wide ≡ widens)
-IsAskedOf ToObjects form.Objects form.Objects asked drops widens = Unit {0}
-IsAskedOf ToJson form.Objects form.Json asked drops widens = Unit {0}
-IsAskedOf command input output asked drops widens = ⊥
+-- wide layout where the two flags are there, objects in the family that is asked for.
+abbrev pub IsAskedOf : Command → Form → Form → Rate → Ways → Type 0
+IsAskedOf (ListToList rate drop wide) form.List form.List asked ways =
+    (rate ≡ asked) × (drop ≡ ways.drop) × (wide ≡ ways.wide)
+IsAskedOf (ListToObjects rate older) form.List form.Objects asked ways =
+    (rate ≡ asked) × (older ≡ ways.older)
+IsAskedOf (TimelineToList drop wide) form.Objects form.List asked ways =
+    (drop ≡ ways.drop) × (wide ≡ ways.wide)
+IsAskedOf (ToObjects older) form.Objects form.Objects asked ways = older ≡ ways.older
+IsAskedOf ToJson form.Objects form.Json asked ways = Unit {0}
+IsAskedOf command input output asked ways = ⊥
+
+-- the ways that the options of `convert` ask for, where the family is known
+abbrev pub ways_in : Given → Bool → Ways
+ways_in given older = record { drop = given.drop; wide = given.wide; older = older }
 
 -- What the options and the file of `convert` ask for. Other options have a value that is allowed
 -- even where the command doesn't need it.
@@ -76,7 +94,9 @@ pub record IsConversion (command : Command) (name : List ℕ) (given : Given) : 
   pub writes : IsOutput given.to given.target output
   pub rate : Rate
   pub is_rate : IsRate given.rate rate
-  pub means : IsAskedOf command input output rate given.drop given.wide
+  pub older : Bool
+  pub family : IsFamily given.family older
+  pub means : IsAskedOf command input output rate (ways_in given older)
 
 -- a count of record frames, from 1 to a million
 abbrev pub IsCount : List ℕ → ℕ → Type 0
@@ -155,6 +175,29 @@ pub record IsTool (command : Command) (name : List ℕ) (given : Given) : Type 0
   pub is_rate : IsRate given.rate rate
   pub means : IsByNames (Tool tool) (λ r. ListTool r tool) command (name ∷ given.more) rate
 
+-- how many frames on both sides of each a word asks for, at most 10 000
+abbrev pub IsHandles : List ℕ → ℕ → Type 0
+IsHandles word n = IsWholeNumber word n × (n ≤ 10000)
+
+-- those of an option, 0 where it isn't given
+abbrev pub AreHandles : Option (List ℕ) → ℕ → Type 0
+AreHandles None n = n ≡ 0
+AreHandles (Some word) n = IsHandles word n
+
+-- what the options and the file of `pull` ask for
+pub record IsPull (command : Command) (name : List ℕ) (given : Given) : Type 0 where
+  pub file : given.file ≡ Some name
+  pub handles : ℕ
+  pub are : AreHandles given.handles handles
+  pub rate : Rate
+  pub is_rate : IsRate given.rate rate
+  pub means : IsByNames (Pull handles) (λ r. ListPull r handles) command (name ∷ []) rate
+
+-- what the file of `media` asks for
+pub record IsLogList (command : Command) (name : List ℕ) (given : Given) : Type 0 where
+  pub file : given.file ≡ Some name
+  pub means : command ≡ LogToMedia
+
 -- what the options and the files of a command ask for; a drill has no file
 abbrev pub IsAskedBy : Verb → Command → List ℕ → Given → Type 0
 IsAskedBy verbs.Convert command name given = IsConversion command name given
@@ -164,15 +207,17 @@ IsAskedBy verbs.Tool command name given = IsTool command name given
 IsAskedBy verbs.Frames command name given = IsFrameList command name given
 IsAskedBy verbs.Edit command name given = IsEdit command name given
 IsAskedBy verbs.Drill command name given = ⊥
+IsAskedBy verbs.Pull command name given = IsPull command name given
+IsAskedBy verbs.Media command name given = IsLogList command name given
 
 -- The media list that is read: the one that is named, where a list is conformed, or a timeline
 -- edited or written as a list. Elsewhere the name has no effect, but that a list to a list is asked
 -- for without one.
 abbrev pub IsMedia : Command → Option (List ℕ) → Option (List ℕ) → Type 0
 IsMedia (ListToList rate drop wide) named media = (named ≡ None) × (media ≡ None)
-IsMedia (ListToObjects rate) named media = media ≡ named
+IsMedia (ListToObjects rate older) named media = media ≡ named
 IsMedia (TimelineToList drop wide) named media = media ≡ named
-IsMedia ToObjects named media = media ≡ None
+IsMedia (ToObjects older) named media = media ≡ None
 IsMedia ToJson named media = media ≡ None
 IsMedia Cat named media = media ≡ None
 IsMedia (ListCat rate) named media = media ≡ named
@@ -184,6 +229,9 @@ IsMedia (Frames asked) named media = media ≡ None
 IsMedia (ListFrames rate asked) named media = media ≡ named
 IsMedia Edit named media = media ≡ named
 IsMedia (ListEdit rate) named media = media ≡ named
+IsMedia (Pull handles) named media = media ≡ None
+IsMedia (ListPull rate handles) named media = media ≡ named
+IsMedia LogToMedia named media = media ≡ None
 
 -- the script that is read: the one that is named, where a timeline is edited
 abbrev pub IsScript : Command → Option (List ℕ) → Option (List ℕ) → Type 0
@@ -191,7 +239,7 @@ IsScript Edit named script = script ≡ named
 IsScript (ListEdit rate) named script = script ≡ named
 IsScript command named script = script ≡ None
 
--- the names of the files that are read behind the first, where there are any
+-- the names of the files that are read after the first, where there are any
 pub record OtherNames : Type 0 where
   pub more : List (List ℕ)
   pub script : Option (List ℕ)
@@ -216,7 +264,7 @@ abbrev pub as_list : Option (List ℕ) → List (List ℕ)
 as_list None = []
 as_list (Some name) = name ∷ []
 
--- the names of the files that are read: the first, those behind it, the script and the media list
+-- the names of the files that are read: the first, those after it, the script and the media list
 abbrev pub names_read : List ℕ → OtherNames → List (List ℕ)
 names_read name others = (name ∷ others.more) ++ (as_list others.script ++ as_list others.media)
 
@@ -236,7 +284,7 @@ pub record IsRequest (verb : Verb) (command : Command) (name : List ℕ) (others
   pub once : ReadsOnce name others
   pub target_is : given.target ≡ target
 
--- The words ask for this: the command's own word, and behind it words that `clap` has a match for,
+-- The words ask for this: the command's own word, and after it words that `clap` has a match for,
 -- with values and names that the command allows together.
 pub record Ask (words : List (List ℕ)) (command : Command) (name : List ℕ) (others : OtherNames)
     (target : Option (List ℕ)) : Type 0 where

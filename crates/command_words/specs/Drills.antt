@@ -31,7 +31,7 @@ pub record IsDrill (seed count : ℕ) (target : Option (List ℕ)) (given : Give
   pub is_count : IsEditCount count_word count
   pub target_is : given.target ≡ target
 
--- the words ask for this drill: its own word, and behind it words that `clap` has a match for
+-- the words ask for this drill: its own word, and after it words that `clap` has a match for
 pub record AsksDrill (words : List (List ℕ)) (seed count : ℕ) (target : Option (List ℕ)) : Type 0
   where
     pub behind : List (List ℕ)

@@ -1,4 +1,4 @@
--- What the words behind a command's own word give: the value of each option, whether a flag is
+-- What the words after a command's own word give: the value of each option, whether a flag is
 -- there, and the files.
 use Rattle.std.specs.Prelude.{◌≡◌, ◌≢◌, ℕ, Bool, false, List, [], Option, Some, None, codes, bytes_eq, drop, map}
 use Rattle.std.specs.Option.{option_map}
@@ -25,10 +25,11 @@ pub record ToolGiven : Type 0 where
   pub concat : Bool
   pub stack : Bool
 
--- all of it; `more` are the files behind the first
+-- all of it; `more` are the files after the first
 pub record Given : Type 0 where
   pub from : Option (List ℕ)
   pub to : Option (List ℕ)
+  pub family : Option (List ℕ)
   pub rate : Option (List ℕ)
   pub target : Option (List ℕ)
   pub child : Option (List ℕ)
@@ -36,6 +37,7 @@ pub record Given : Type 0 where
   pub count : Option (List ℕ)
   pub media : Option (List ℕ)
   pub script : Option (List ℕ)
+  pub handles : Option (List ℕ)
   pub drop : Bool
   pub wide : Bool
   pub tool : ToolGiven
@@ -47,7 +49,7 @@ abbrev pub is_there : Option (List ℕ) → Bool
 is_there None = false
 is_there (Some value) = bytes_eq value (codes "true")
 
--- the names behind the first
+-- the names after the first
 abbrev pub names_behind : Option (List (List ℕ)) → List (List ℕ)
 names_behind None = []
 names_behind (Some names) = drop 1 names
@@ -73,6 +75,7 @@ abbrev pub given_in : List Row → Given
 given_in rows = record {
   from = first_of (codes "from") rows;
   to = first_of (codes "to") rows;
+  family = first_of (codes "family") rows;
   rate = first_of (codes "rate") rows;
   target = first_of (codes "output") rows;
   child = first_of (codes "child") rows;
@@ -80,6 +83,7 @@ given_in rows = record {
   count = first_of (codes "count") rows;
   media = first_of (codes "media") rows;
   script = first_of (codes "script") rows;
+  handles = first_of (codes "handles") rows;
   drop = is_there (first_of (codes "drop") rows);
   wide = is_there (first_of (codes "wide") rows);
   tool = tool_in rows;
@@ -87,12 +91,12 @@ given_in rows = record {
   more = names_behind (all_of (codes "file") rows);
 }
 
--- `clap` has no match for the words behind a command's own word: an option that the command hasn't,
+-- `clap` has no match for the words after a command's own word: an option that the command hasn't,
 -- one that is given twice or lacks its value, a file too many or none, `--help`
 abbrev pub HasNoMatch : Verb → List (List ℕ) → Type 0
 HasNoMatch verb words = fault_of (reader_of verb) words ≢ []
 
--- the words behind a command's own word have a match of `clap`, which gives this
+-- the words after a command's own word have a match of `clap`, which gives this
 pub record Gives (verb : Verb) (words : List (List ℕ)) (given : Given) : Type 0 where
   pub taken : fault_of (reader_of verb) words ≡ []
   pub is : given ≡ given_in (matches_of (reader_of verb) words)
@@ -129,6 +133,7 @@ abbrev pub given_by : Line → Given
 given_by line = record {
   from = option_map (λ s. s.now) line.from;
   to = option_map (λ s. s.now) line.to;
+  family = option_map (λ s. s.now) line.family;
   rate = option_map (λ s. s.now) line.rate;
   target = option_map (λ s. s.now) line.target;
   child = option_map (λ s. s.now) line.child;
@@ -136,6 +141,7 @@ given_by line = record {
   count = option_map (λ s. s.now) line.count;
   media = option_map (λ s. s.now) line.media;
   script = option_map (λ s. s.now) line.script;
+  handles = option_map (λ s. s.now) line.handles;
   drop = line.drop;
   wide = line.wide;
   tool = tool_by line.tool;

@@ -6,3 +6,4 @@ pub mod Tools
 pub mod Drills
 pub mod Asked
 pub mod Tasks
+pub mod Ways

@@ -5,7 +5,7 @@ use Rattle.clap.specs.Words.{App, Rule, new_app, new_rule, with_rule}
 use Rattle.clap.specs.declared.builder.action.ArgAction.TheVariants.{Append, Set, SetTrue}
 use Rattle.command_words.specs.Names.{word_of}
 use Rattle.command_words.specs.declared.names.Verb.{Verb}
-use Rattle.command_words.specs.declared.names.Verb.TheVariants.{Convert, Cat, Stat, Tool, Frames, Edit, Drill}
+use Rattle.command_words.specs.declared.names.Verb.TheVariants.{Convert, Cat, Stat, Tool, Frames, Edit, Drill, Pull, Media}
 
 -- the option `--NAME`, which takes a value
 abbrev pub valued : List ℕ → Rule
@@ -49,7 +49,8 @@ tool_flags = flag (codes "list-tracks") ∷ flag (codes "list-clips") ∷ flag (
 -- the options of one command alone
 abbrev pub own_options : Verb → List Rule
 own_options Convert =
-    valued (codes "from") ∷ valued (codes "to") ∷ flag (codes "drop") ∷ flag (codes "wide") ∷ []
+    valued (codes "from") ∷ valued (codes "to") ∷ valued (codes "family")
+    ∷ flag (codes "drop") ∷ flag (codes "wide") ∷ []
 own_options Cat = []
 own_options Stat = []
 own_options Tool = valued (codes "trim") ∷ valued (codes "flatten") ∷ tool_flags
@@ -57,6 +58,8 @@ own_options Frames =
     valued (codes "child") ∷ valued (codes "start") ∷ valued (codes "count") ∷ []
 own_options Edit = needed (valued (codes "script")) ∷ []
 own_options Drill = []
+own_options Pull = valued (codes "handles") ∷ []
+own_options Media = []
 
 -- the options of each command that takes lists
 abbrev pub list_options : List Rule
@@ -71,6 +74,8 @@ shared_options Tool = list_options
 shared_options Frames = list_options
 shared_options Edit = list_options
 shared_options Drill = output ∷ []
+shared_options Pull = list_options
+shared_options Media = output ∷ []
 
 -- the positional words of a command
 abbrev pub files_of : Verb → Rule
@@ -81,6 +86,8 @@ files_of Tool = files
 files_of Frames = file
 files_of Edit = file
 files_of Drill = files
+files_of Pull = file
+files_of Media = file
 
 -- a command with more options, each in its turn
 abbrev pub with_rules : App → List Rule → App
@@ -91,7 +98,7 @@ with_rules app (rule ∷ rules) = with_rules (with_rule app rule) rules
 abbrev pub unnamed : App → App
 unnamed app = record app { top = record app.top { no_binary_name = true } }
 
--- the command of `clap` that reads the words behind a command's own word
+-- the command of `clap` that reads the words after a command's own word
 abbrev pub reader_of : Verb → App
 reader_of verb = with_rules (unnamed (new_app (word_of verb)))
     (own_options verb ++ shared_options verb ++ files_of verb ∷ [])

@@ -17,14 +17,14 @@ IsTask words (OnFiles request) = Ask words request.command request.name.now
 IsTask words (Drill drill) =
     AsksDrill words drill.seed drill.count (option_map (λ s. s.now) drill.target)
 
--- what is given behind a command's own word asks for this
+-- what is given after a command's own word asks for this
 abbrev pub IsTaskOf : Verb → Given → Task → Type 0
 IsTaskOf verb given (OnFiles request) = IsRequest verb request.command request.name.now
     (other_names request.others) (option_map (λ s. s.now) request.target) given
 IsTaskOf verb given (Drill drill) = (verb ≡ verbs.Drill)
     × IsDrill drill.seed drill.count (option_map (λ s. s.now) drill.target) given
 
--- what is given behind a command's own word asks for nothing
+-- what is given after a command's own word asks for nothing
 pub record HasNoTask (verb : Verb) (given : Given) : Type 0 where
   pub no_request : (command : Command) (name : List ℕ) (others : OtherNames)
       (target : Option (List ℕ)) → IsRequest verb command name others target given → ⊥

@@ -12,7 +12,7 @@ use Rattle.command_words.specs.declared.tools.TrackKind.{TrackKind}
 use Rattle.command_words.specs.declared.tools.TrackKind.TheVariants.{Video, Audio}
 use Rattle.command_words.specs.declared.tools.Window.{Window}
 
--- there are files behind the first
+-- there are files after the first
 abbrev pub are_several : List (List ℕ) → Bool
 are_several [] = false
 are_several (name ∷ names) = true

@@ -1,7 +1,8 @@
 // What a command line of `convert` asks for.
 ghost use Rattle.std.specs.Prelude.{◌≡◌, ℕ, Bool, List, Option, Some, None, MatchOption};
 ghost use Rattle.std.specs.Option.{option_map};
-ghost use Rattle.command_words.specs.Asked.{IsConversion, IsAskedOf, IsInput, IsOutput};
+ghost use Rattle.command_words.specs.Asked.{IsConversion, IsAskedOf, IsFamily, IsInput, IsOutput};
+ghost use Rattle.command_words.specs.Ways.{ways_of};
 ghost use Rattle.command_words.specs.Given.{given_by};
 
 use crate::lines::Line;
@@ -40,10 +41,46 @@ pub fn conversion_of<'a>(line: &Line<'a>) -> Option<(Command, &'a str)>
     let Some(rate) = rate_asked(line.rate) else {
         return None;
     };
-    match command_in(input, output, rate, line.drop, line.wide) {
+    let Some(older) = older_asked(line.family) else {
+        return None;
+    };
+    let ways = Ways {
+        drop: line.drop,
+        wide: line.wide,
+        older,
+    };
+    match command_in(input, output, rate, ways) {
         Some(command) => Some((command, name)),
         None => None,
     }
+}
+
+// Whether the older family of schemas is asked for.
+fn older_asked(family: Option<&str>) -> Option<bool>
+    ensures { let asked = option_map (λ s. s.now) family.entry in MatchOption result
+        ((older : Bool) → IsFamily asked older → ⊥)
+        (λ older. IsFamily asked older) }
+{
+    match family {
+        Some(word) => older_of_word(word),
+        None => Some(false),
+    }
+}
+
+// Whether a word names the older family.
+fn older_of_word(word: &str) -> Option<bool>
+    ensures { MatchOption result
+        ((older : Bool) → IsFamily (Some word.now) older → ⊥)
+        (λ older. IsFamily (Some word.now) older) }
+{
+    let word = word.as_bytes();
+    if is_text(word, b"1") {
+        return Some(true);
+    }
+    if is_text(word, b"2") {
+        return Some(false);
+    }
+    None
 }
 
 // What the file is read as.
@@ -127,40 +164,53 @@ fn default_output(target: Option<&str>) -> Form
     }
 }
 
+// How what is written is asked for.
+#[derive(Clone, Copy)]
+struct Ways {
+    // Whether lists have drop-frame timecode.
+    drop: bool,
+    // Whether lists are in the wide layout.
+    wide: bool,
+    // Whether objects are in the older family.
+    older: bool,
+}
+
 // The command by what is read and what is written.
-fn command_in(input: Form, output: Form, rate: Rate, drop: bool, wide: bool) -> Option<Command>
+fn command_in(input: Form, output: Form, rate: Rate, ways: Ways) -> Option<Command>
     ensures { MatchOption result
-        ((command : Command) → IsAskedOf command input output rate drop wide → ⊥)
-        (λ command. IsAskedOf command input output rate drop wide) }
+        ((command : Command) → IsAskedOf command input output rate (ways_of ways) → ⊥)
+        (λ command. IsAskedOf command input output rate (ways_of ways)) }
 {
     match input {
-        Form::Objects => object_command(output, drop, wide),
-        Form::List => list_command(output, rate, drop, wide),
+        Form::Objects => object_command(output, ways),
+        Form::List => list_command(output, rate, ways),
         Form::Json => None,
     }
 }
 
 // The command for a list.
-fn list_command(output: Form, rate: Rate, drop: bool, wide: bool) -> Option<Command>
+fn list_command(output: Form, rate: Rate, ways: Ways) -> Option<Command>
     ensures { MatchOption result
-        ((command : Command) → IsAskedOf command Form.List output rate drop wide → ⊥)
-        (λ command. IsAskedOf command Form.List output rate drop wide) }
+        ((command : Command) → IsAskedOf command Form.List output rate (ways_of ways) → ⊥)
+        (λ command. IsAskedOf command Form.List output rate (ways_of ways)) }
 {
+    let Ways { drop, wide, older } = ways;
     match output {
-        Form::Objects => Some(Command::ListToObjects { rate }),
+        Form::Objects => Some(Command::ListToObjects { rate, older }),
         Form::List => Some(Command::ListToList { rate, drop, wide }),
         Form::Json => None,
     }
 }
 
 // The command for objects.
-fn object_command(output: Form, drop: bool, wide: bool) -> Option<Command>
+fn object_command(output: Form, ways: Ways) -> Option<Command>
     ensures { (rate : Rate) → MatchOption result
-        ((command : Command) → IsAskedOf command Form.Objects output rate drop wide → ⊥)
-        (λ command. IsAskedOf command Form.Objects output rate drop wide) }
+        ((command : Command) → IsAskedOf command Form.Objects output rate (ways_of ways) → ⊥)
+        (λ command. IsAskedOf command Form.Objects output rate (ways_of ways)) }
 {
+    let Ways { drop, wide, older } = ways;
     match output {
-        Form::Objects => Some(Command::ToObjects),
+        Form::Objects => Some(Command::ToObjects { older }),
         Form::Json => Some(Command::ToJson),
         Form::List => Some(Command::TimelineToList { drop, wide }),
     }

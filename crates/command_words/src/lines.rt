@@ -1,4 +1,4 @@
-// What the words behind a command's own word give.
+// What the words after a command's own word give.
 ghost use Rattle.std.specs.Prelude.{◌≡◌, codes, drop, map, string_bytes, IfOk, MatchResult};
 ghost use Rattle.std.specs.Option.{option_map};
 ghost use Rattle.clap.specs.Words.{all_of, first_of, found_of, rows_of};
@@ -15,6 +15,7 @@ use std::alloc::{AllocError, Global};
 pub struct Line<'a> {
     pub from: Option<&'a str>,
     pub to: Option<&'a str>,
+    pub family: Option<&'a str>,
     pub rate: Option<&'a str>,
     pub target: Option<&'a str>,
     pub child: Option<&'a str>,
@@ -22,6 +23,7 @@ pub struct Line<'a> {
     pub count: Option<&'a str>,
     pub media: Option<&'a str>,
     pub script: Option<&'a str>,
+    pub handles: Option<&'a str>,
     pub drop: bool,
     pub wide: bool,
     pub tool: ToolLine<'a>,
@@ -46,7 +48,7 @@ pub struct ToolLine<'a> {
     pub stack: bool,
 }
 
-/// What the words behind a command's own word give.
+/// What the words after a command's own word give.
 pub fn line_of<'a>(alloc: Global, verb: Verb, words: &'a [String]) -> Result<Line<'a>, WordsFault>
     ensures { let said = map (λ w. string_bytes w) words.entry.now in MatchResult result
         (λ line. Gives verb said (given_by line)) (GivesNothing verb said) }
@@ -71,6 +73,7 @@ fn line_in<'a>(alloc: Global, matches: &ArgMatches<'a>) -> Result<Line<'a>, Allo
     Ok(Line {
         from: value_of(matches, "from"),
         to: value_of(matches, "to"),
+        family: value_of(matches, "family"),
         rate: value_of(matches, "rate"),
         target: value_of(matches, "output"),
         child: value_of(matches, "child"),
@@ -78,6 +81,7 @@ fn line_in<'a>(alloc: Global, matches: &ArgMatches<'a>) -> Result<Line<'a>, Allo
         count: value_of(matches, "count"),
         media: value_of(matches, "media"),
         script: value_of(matches, "script"),
+        handles: value_of(matches, "handles"),
         drop: has_flag(matches, "drop"),
         wide: has_flag(matches, "wide"),
         tool: tool_line_in(matches),
@@ -106,7 +110,7 @@ fn tool_line_in<'a>(matches: &ArgMatches<'a>) -> ToolLine<'a>
     }
 }
 
-// The files behind the first.
+// The files after the first.
 fn files_behind<'a>(alloc: Global, matches: &ArgMatches<'a>) -> Result<Vec<&'a str>, AllocError>
     ensures { IfOk result (λ more. map (λ s. s.now) more.items
         ≡ names_behind (all_of (codes "file") (rows_of (found_of matches.now)))) }

@@ -1,6 +1,6 @@
 // The words of commands, and the names of files.
 ghost use Rattle.std.specs.Prelude.{◌≡◌, ◌↔◌, [], ◌∷◌, length, map, string_bytes, IsTrue, MatchOption, bytes_eq};
-ghost use Rattle.command_words.specs.Names.{meaning, verb_words, HasList, IsListName};
+ghost use Rattle.command_words.specs.Names.{meaning, verb_words, HasList, IsListName, IsLogName};
 
 use text_lines::strip_back;
 
@@ -21,6 +21,10 @@ pub enum Verb {
     Edit,
     /// `drill`.
     Drill,
+    /// `pull`.
+    Pull,
+    /// `media`.
+    Media,
 }
 
 /// The first of some words, and the others.
@@ -59,6 +63,12 @@ pub fn verb_of(word: &str) -> Option<Verb>
     if is_word(word, "drill") {
         return Some(Verb::Drill);
     }
+    if is_word(word, "pull") {
+        return Some(Verb::Pull);
+    }
+    if is_word(word, "media") {
+        return Some(Verb::Media);
+    }
     None
 }
 
@@ -74,6 +84,13 @@ pub fn is_list_name(name: &str) -> bool
     ensures { IsTrue result ↔ IsListName name.now }
 {
     strip_back(name.as_bytes(), b".edl").is_some()
+}
+
+/// Whether a name ends with `.ale` or `.ALE`.
+pub fn is_log_name(name: &str) -> bool
+    ensures { IsTrue result ↔ IsLogName name.now }
+{
+    strip_back(name.as_bytes(), b".ale").is_some() || strip_back(name.as_bytes(), b".ALE").is_some()
 }
 
 /// Whether one of some names ends with `.edl`.

@@ -21,7 +21,7 @@ enum Taken<'a> {
     Files,
 }
 
-/// The command of `clap` that reads the words behind a command's own word.
+/// The command of `clap` that reads the words after a command's own word.
 pub fn reader_of<'a>(alloc: Global, verb: Verb) -> Result<Command<'a>, AllocError>
     ensures { IfOk result (λ command. app_of command ≡ reader verb) }
 {
@@ -33,6 +33,8 @@ pub fn reader_of<'a>(alloc: Global, verb: Verb) -> Result<Command<'a>, AllocErro
         Verb::Frames => frames_reader(alloc),
         Verb::Edit => edit_reader(alloc),
         Verb::Drill => drill_reader(alloc),
+        Verb::Pull => pull_reader(alloc),
+        Verb::Media => media_reader(alloc),
     }
 }
 
@@ -43,6 +45,7 @@ fn convert_reader<'a>(alloc: Global) -> Result<Command<'a>, AllocError>
     let own = &[
         Taken::Valued("from"),
         Taken::Valued("to"),
+        Taken::Valued("family"),
         Taken::Flag("drop"),
         Taken::Flag("wide"),
     ];
@@ -109,6 +112,21 @@ fn drill_reader<'a>(alloc: Global) -> Result<Command<'a>, AllocError>
 {
     let command = Command::new(alloc, "drill").no_binary_name(true);
     with_all(alloc, command, &[Taken::Output, Taken::Files])
+}
+
+// The command that reads the words of `pull`.
+fn pull_reader<'a>(alloc: Global) -> Result<Command<'a>, AllocError>
+    ensures { IfOk result (λ command. app_of command ≡ reader Verb.Pull) }
+{
+    list_reader(alloc, "pull", &[Taken::Valued("handles")], Taken::File)
+}
+
+// The command that reads the words of `media`.
+fn media_reader<'a>(alloc: Global) -> Result<Command<'a>, AllocError>
+    ensures { IfOk result (λ command. app_of command ≡ reader Verb.Media) }
+{
+    let command = Command::new(alloc, "media").no_binary_name(true);
+    with_all(alloc, command, &[Taken::Output, Taken::File])
 }
 
 // The command of that name with its own options, those of each command that takes lists, and

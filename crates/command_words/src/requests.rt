@@ -12,7 +12,9 @@ use crate::edits::edit_of;
 use crate::faults::WordsFault;
 use crate::frame_lists::frame_list_of;
 use crate::lines::{Line, line_of};
+use crate::logs::log_of;
 use crate::names::{Verb, first_word, verb_of};
+use crate::pulls::pull_of;
 use crate::several::{cat_of, stat_of, tool_of};
 use crate::tools::ToolAsked;
 use smpte_tc::RecordPoint;
@@ -35,6 +37,8 @@ pub enum Command {
     ListToObjects {
         /// The rate of the list, in frames a second.
         rate: Rate,
+        /// Whether the timeline is written in the older family of schemas.
+        older: bool,
     },
     /// A timeline is written as the list of its events, in its one spelling.
     TimelineToList {
@@ -44,7 +48,11 @@ pub enum Command {
         wide: bool,
     },
     /// An object is written in the current schemas and the written order.
-    ToObjects,
+    ToObjects {
+        /// Whether it is written in the older family of schemas: clips as `Clip.1`, markers as
+        /// `Marker.1`.
+        older: bool,
+    },
     /// A JSON text is written in its layout.
     ToJson,
     /// Timelines are joined one after another, and the outcome is written as by `ToObjects`.
@@ -86,6 +94,20 @@ pub enum Command {
         /// The rate of the list, in frames a second.
         rate: Rate,
     },
+    /// The frames of media that a timeline uses are listed.
+    Pull {
+        /// How many frames are asked for on both sides of each, from 0 to 10 000.
+        handles: u32,
+    },
+    /// The same of the timeline that a list conforms to.
+    ListPull {
+        /// The rate of the list, in frames a second.
+        rate: Rate,
+        /// How many frames are asked for on both sides of each, from 0 to 10 000.
+        handles: u32,
+    },
+    /// A log is written as a media list.
+    LogToMedia,
 }
 
 /// Which record frames of a timeline are listed.
@@ -100,7 +122,7 @@ pub struct FramesAsked {
     pub count: Option<u32>,
 }
 
-/// The names of the files that are read behind the first. `-` is the standard input.
+/// The names of the files that are read after the first. `-` is the standard input.
 #[derive(Drop)]
 pub struct Others<'a> {
     /// The names of the other files of a command that takes several; empty for other commands.
@@ -120,7 +142,7 @@ pub struct Request<'a> {
     pub command: Command,
     /// The name of the file, or of the first of several; `-` is the standard input.
     pub name: &'a str,
-    /// The names of the files that are read behind it.
+    /// The names of the files that are read after it.
     pub others: Others<'a>,
     /// The name of the output file; none for the standard output.
     pub target: Option<&'a str>,
@@ -135,8 +157,8 @@ pub enum Task<'a> {
     Drill(DrillAsked<'a>),
 }
 
-/// What the words behind the program's name ask for. Words that ask for nothing, no command on
-/// files and no drill, get `Usage`, and no others do; want of memory may come at any words.
+/// What the words after the program's name ask for. Words that ask for nothing, no command on
+/// files and no drill, get `Usage`, and no others do; out of memory may come at any words.
 pub fn request_of(alloc: Global, words: &[String]) -> Result<Task<'_>, WordsFault>
     ensures { let said = map (λ w. string_bytes w) words.now in MatchResult result
         (λ task. IsTask said task) (NoRequest said) }
@@ -218,7 +240,9 @@ fn command_in<'a>(verb: Verb, line: &Line<'a>) -> Option<(Command, &'a str)>
         Verb::Tool => tool_of(line),
         Verb::Frames => frame_list_of(line),
         Verb::Edit => edit_of(line),
+        Verb::Media => log_of(line),
         Verb::Drill => None,
+        Verb::Pull => pull_of(line),
     }
 }
 
@@ -237,9 +261,11 @@ fn media_of<'a>(command: Command, named: Option<&'a str>) -> Option<Option<&'a s
         Command::TimelineToList { .. } => Some(named),
         Command::Edit | Command::ListEdit { .. } => Some(named),
         Command::ListCat { .. } | Command::ListStat { .. } => Some(named),
-        Command::ListTool { .. } => Some(named),
-        Command::ToObjects | Command::ToJson | Command::Frames(_) => Some(None),
+        Command::ListTool { .. } | Command::ListPull { .. } => Some(named),
+        Command::ToObjects { .. } | Command::ToJson | Command::Frames(_) => Some(None),
         Command::Cat | Command::Stat | Command::Tool(_) => Some(None),
+        Command::Pull { .. } => Some(None),
+        Command::LogToMedia => Some(None),
     }
 }
 
@@ -251,11 +277,12 @@ fn script_of<'a>(command: Command, named: Option<&'a str>) -> Option<&'a str>
     match command {
         Command::Edit | Command::ListEdit { .. } => named,
         Command::ListToList { .. } | Command::ListToObjects { .. } => None,
-        Command::TimelineToList { .. } | Command::ToObjects | Command::ToJson => None,
+        Command::TimelineToList { .. } | Command::ToObjects { .. } | Command::ToJson => None,
         Command::Frames(_) | Command::ListFrames { .. } => None,
         Command::Cat | Command::Stat | Command::Tool(_) => None,
         Command::ListCat { .. } | Command::ListStat { .. } => None,
-        Command::ListTool { .. } => None,
+        Command::ListTool { .. } | Command::LogToMedia => None,
+        Command::Pull { .. } | Command::ListPull { .. } => None,
     }
 }
 

@@ -60,7 +60,7 @@ pub struct ToolAsked {
     pub trim: Option<Window>,
     /// Which tracks are flattened; none for no track.
     pub flatten: Option<Flattening>,
-    /// Whether the tracks that were flattened stay beside the new one.
+    /// Whether the tracks that were flattened stay next to the new one.
     pub keep_flattened: bool,
     /// Whether the tracks are listed.
     pub list_tracks: bool,
@@ -105,7 +105,7 @@ pub fn tool_asked(line: &Line<'_>) -> Option<ToolAsked>
     }
 }
 
-// Whether there are names behind the first.
+// Whether there are names after the first.
 fn are_several(names: &[&str]) -> bool
     ensures { result ≡ several_behind (map (λ n. n.now) names.now) }
 {
@@ -175,7 +175,7 @@ fn window_of(word: &str) -> Option<Window>
     }
 }
 
-// What stands before the first comma, and behind it.
+// What stands before the first comma, and after it.
 fn split_at_comma(word: &str) -> Option<(&str, &str)>
     ensures { MatchOption result (position_or_len is_comma word.now ≡ length word.now)
         (λ parts. (parts.0.now ≡ before_first is_comma word.now)

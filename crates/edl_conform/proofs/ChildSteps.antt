@@ -28,7 +28,7 @@ pub record IsHere (items : List (ItemOf Listed)) (i : ℕ) (at : ℤ) (past : Pa
   pub next_is : s.next ≡ option_to_list (slice_get items (i + 1))
 
 -- the same child with all that stands behind it
-abbrev whole : List (ItemOf Listed) → ℤ → Past → Seat → ℕ → Seat
+abbrev pub whole : List (ItemOf Listed) → ℤ → Past → Seat → ℕ → Seat
 whole items at past s i =
     record { item = s.item; start = at; past = past; next = drop (i + 1) items }
 
@@ -85,7 +85,7 @@ whole_reason j c items i at past s h =
     ap (reason_of j c) (seen items i at past s h)
     ∙ reason_first j c s.item at past (drop (i + 1) items)
 
-whole_event : (j : Job) (c : Channel) (items : List (ItemOf Listed)) (i : ℕ) (at : ℤ)
+pub whole_event : (j : Job) (c : Channel) (items : List (ItemOf Listed)) (i : ℕ) (at : ℤ)
     (past : Past) (s : Seat) → IsHere items i at past s
     → event_of j c s ≡ event_of j c (whole items at past s i)
 whole_event j c items i at past s h =
@@ -93,7 +93,7 @@ whole_event j c items i at past s h =
     ∙ event_first j c s.item at past (drop (i + 1) items)
 
 -- the child and those behind it
-seats_from : (items : List (ItemOf Listed)) (i : ℕ) (at : ℤ) (past : Past) (s : Seat)
+pub seats_from : (items : List (ItemOf Listed)) (i : ℕ) (at : ℤ) (past : Past) (s : Seat)
     → IsHere items i at past s
     → seats at past (drop i items) ≡ whole items at past s i
     ∷ seats (at +ℤ length_in s.item) (past_by (overlap_of s.item) s.item at past)

@@ -30,3 +30,6 @@ pub mod ListFacts
 pub mod TrackLimits
 pub mod TrackSteps
 pub mod SeatSteps
+pub mod GiverSteps
+pub mod GiverRoots
+pub mod HomeLemmas

@@ -35,7 +35,7 @@ record IsAssigned (past : List (ItemOf Listed)) (t : TrackOf Listed) (taken : Ta
       → channel_track d (past ++ Track t ∷ []) ≡ channel_track d past
   next : AreTaken (past ++ Track t ∷ []) (taken_after c taken)
 
-one_kind : (t : TrackOf Listed) (kind : List ℕ) (b : Bool) → bytes_eq t.kind kind ≡ true
+pub one_kind : (t : TrackOf Listed) (kind : List ℕ) (b : Bool) → bytes_eq t.kind kind ≡ true
     → bytes_eq kind (codes "Audio") ≡ b → bytes_eq t.kind (codes "Audio") ≡ b
 one_kind t kind b e f =
     ap (λ z. bytes_eq z (codes "Audio")) ((bytes_eq-Decides t.kind kind).0 e) ∙ f
@@ -112,7 +112,7 @@ second_sound past t taken k video audio one =
         stays (codes "Audio") 0 past (Track t) (inr (λ same. omega (arith, same, some)))
     other A2 apart some = absurd (cc apart)
 
-number_is : (n m : ℕ) → (n == m) ≡ true → n ≡ m
+pub number_is : (n m : ℕ) → (n == m) ≡ true → n ≡ m
 number_is n m e = grind (arith, e)
 
 assigned : (past : List (ItemOf Listed)) (t : TrackOf Listed) (taken : Taken) (c : Channel)
@@ -148,7 +148,7 @@ channel_is past t taken k =
     (cond (audio == 0) (Some A) (cond (audio == 1) (Some A2) None)) None))
     (sym k.video) (sym k.audio)
 
-one_channel : (d c : Channel) → (rank d == rank c) ≡ true → d ≡ c
+pub one_channel : (d c : Channel) → (rank d == rank c) ≡ true → d ≡ c
 one_channel V V e = refl
 one_channel V A e = absurd (cc e)
 one_channel V A2 e = absurd (cc e)
@@ -246,7 +246,7 @@ taken_in [] (suc i) x e = absurd (cc e)
 taken_in (y ∷ items) zero x e = let same : y ≡ x = cc e in ap (λ z. z ∷ []) same
 taken_in (y ∷ items) (suc i) x e = ap (λ l. y ∷ l) (taken_in items i x e)
 
-taken_more : (items : List (ItemOf Listed)) (i : ℕ) (x : ItemOf Listed)
+pub taken_more : (items : List (ItemOf Listed)) (i : ℕ) (x : ItemOf Listed)
     → slice_get items i ≡ Some x → take (i + 1) items ≡ take i items ++ x ∷ []
 taken_more items i x e = rw add-one (taken_in items i x e)
 

@@ -12,3 +12,4 @@ pub mod Shots
 pub mod Drafts
 pub mod Tenths
 pub mod Walk
+pub mod Givers

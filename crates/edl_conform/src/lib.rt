@@ -17,6 +17,7 @@ mod conforming;
 mod counts;
 mod drafts;
 mod frames;
+mod giving;
 mod items;
 mod job;
 mod judging;
@@ -43,6 +44,7 @@ mod writing;
 
 pub use conforming::conform;
 pub use edl_frames::{ConformFault, NotCarried, Why};
+pub use giving::homes;
 pub use job::Job;
 pub use judging::reason_of;
 pub use laws::seats_are_children;

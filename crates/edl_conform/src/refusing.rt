@@ -27,7 +27,7 @@ fn track_place(alloc: Global, track: u32) -> Result<Place, AllocError>
 }
 
 /// The place of a child of a track.
-fn child_place(alloc: Global, track: u32, child: u32) -> Result<Place, AllocError>
+pub(crate) fn child_place(alloc: Global, track: u32, child: u32) -> Result<Place, AllocError>
     ensures { IfOk result (λ place. place ≡ track ∷ child ∷ []) }
 {
     let mut place = track_place(alloc, track)?;

@@ -1,6 +1,6 @@
 //! Children of a track as they stand, with what stands beside them.
 
-ghost use Rattle.std.specs.Prelude.{◌≡◌, ◌<◌, ◌≤◌, ◌^◌, ℤ, pos, length};
+ghost use Rattle.std.specs.Prelude.{◌≡◌, ◌<◌, ◌≤◌, ◌^◌, ℤ, pos, length, IfSome};
 ghost use Rattle.limits.specs.Limits.{most_ticks};
 ghost use Rattle.otio_model.specs.Counts.{count};
 ghost use Rattle.otio_model.specs.Lengths.{added, lengths, start_of};
@@ -9,7 +9,7 @@ ghost use Rattle.coord.specs.Sights as sights;
 ghost use Rattle.coord.specs.Soundness.{AreFaultless};
 ghost use Rattle.edl_frames.specs.Seats as seats;
 ghost use Rattle.edl_conform.specs.Stated.{stated_past};
-ghost use Rattle.edl_conform.specs.Seated.{IsCarried, IsPast, IsSeatAt, IsSeated};
+ghost use Rattle.edl_conform.specs.Seated.{IsCarried, IsOpenPast, IsPast, IsSeatAt, IsSeated, IsShort, IsShortSeat};
 
 use crate::job::Job;
 use crate::overlaps::{end_or, lap_at, overlap_of};
@@ -100,6 +100,19 @@ impl<'a> Seat<'a> {
         ensures past { stated_past result ≡ seats.past_by (sights.overlap_of self.now.item.now)
             self.now.item.now self.now.start (stated_past self.now.past) }
         ensures range { IsPast job.now.ticks result }
+    {
+        self.past_behind()
+    }
+
+    /// What stands before the next child, also where this one isn't carried.
+    pub(crate) fn past_behind(&self) -> Past<'a>
+        requires seated { IsSeated self.now }
+        requires past { IsOpenPast self.now.past }
+        ensures past { stated_past result ≡ seats.past_by (sights.overlap_of self.now.item.now)
+            self.now.item.now self.now.start (stated_past self.now.past) }
+        ensures range { IsOpenPast result }
+        ensures short { (ticks : ℤ) → IsShortSeat ticks self.now
+            → IfSome result.lap (IsShort ticks) }
     {
         match overlap_of(self.item) {
             Some(overlap) => Past {

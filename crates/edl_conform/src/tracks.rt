@@ -29,7 +29,7 @@ pub(crate) struct Taken {
 }
 
 /// The channel of a track behind these.
-fn channel_behind(taken: Taken, track: &Track) -> Option<Channel>
+pub(crate) fn channel_behind(taken: Taken, track: &Track) -> Option<Channel>
     ensures { result ≡ walk.channel_behind taken track.now }
 {
     let kind = track.kind.as_str();
@@ -60,7 +60,7 @@ fn sound_channel(taken: Taken) -> Option<Channel>
 }
 
 /// These and a track on the channel.
-fn after(channel: Channel, taken: Taken) -> Taken
+pub(crate) fn after(channel: Channel, taken: Taken) -> Taken
     ensures { result ≡ walk.taken_after channel taken }
 {
     match channel {

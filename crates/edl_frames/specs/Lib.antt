@@ -8,6 +8,7 @@ pub mod Counted
 pub mod Faults
 pub mod Jobs
 pub mod Seats
+pub mod Homes
 pub mod Sides
 pub mod ChildEvents
 pub mod ChildReasons

@@ -20,12 +20,13 @@ use Rattle.edl_law.proofs.NoteLemmas.{sound_append}
 use Rattle.edl_law.proofs.EventMatches.{Matches}
 use Rattle.edl_law.proofs.EventSteps.{step}
 
--- the lines of these events rise, and lie behind this one
+-- the lines of these events rise, and lie after this one
 abbrev pub AreRising : ℕ → List Event → Type 0
 AreRising low [] = Unit {0}
 AreRising low (event ∷ events) = (low < event.line) × AreRising event.line events
 
-rising_from : (low high : ℕ) (events : List Event) → low ≤ high → AreRising high events → AreRising low events
+-- they rise from an earlier line too
+pub rising_from : (low high : ℕ) (events : List Event) → low ≤ high → AreRising high events → AreRising low events
 rising_from low high [] h r = tt
 rising_from low high (event ∷ events) h r = (omega (arith, h, r.0), r.1)
 

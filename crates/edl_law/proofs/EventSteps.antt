@@ -43,6 +43,10 @@ pub record Step (rate : Rate) (drop : Bool) (layout : Layout) (number : ℕ) (pa
   pub after : length past < read.line
   pub within : read.line ≤ length now
   pub matches : Matches rate event read
+  pub latest : Block
+  pub before : List Block
+  pub latest_is : blocks_in now ≡ latest ∷ before
+  pub line : latest.line ≡ read.line
 
 -- an event of these parts
 abbrev whole : ℕ → Channel → Side → Cross → ℤ → ℤ → Event
@@ -116,6 +120,10 @@ cut_step rate drop layout number line channel to rec_in rec_out past is labels n
       matches = to_matches rate drop at number event named.all before t labels count.some (λ e. e)
           (ap latest (named.speeds (reel_of (said_reel to.reel))) ∙ speed_cut rate drop t to)
           (subst (IsSameCross rate Cut) (sym (cut_begun (from_side rate (block at drop says named.all) before))) tt);
+      latest = block at drop says named.all;
+      before = before;
+      latest_is = named.is.blocks;
+      line = refl;
     }
 
 -- the incoming side of a pair has room for its M2 line
@@ -207,6 +215,10 @@ pair_step rate drop layout number line frames channel to from cross rec_in rec_o
       matches = to_matches rate drop at number event named.all before t labels count.some (needless rate to from)
           (ap latest (speeds (reel_of (said_reel to.reel))) ∙ speed_in rate drop t f to from link)
           (subst (λ o. IsSameCross rate cross (begun (said_kind cross) o)) (sym (picked_side (nat_lt 0 (duration (said_kind cross))) other lasting)) (alike other same));
+      latest = this;
+      before = before;
+      latest_is = named.is.blocks;
+      line = refl;
     }
 
 by_cross : (rate : Rate) (drop : Bool) (layout : Layout) (number line : ℕ) (channel : Channel) (to : Side) (cross : Cross) (rec_in rec_out : ℤ) (past : List Statement) → let event = whole line channel to cross rec_in rec_out in

@@ -1,5 +1,5 @@
 -- The text of a timeline's list keeps the timeline's frames.
-use Rattle.std.proofs.Common.{◌≡◌, ap, ◌≤◌, Bool, false, List, [], ◌∷◌, length, Some, None, arith}
+use Rattle.std.proofs.Common.{◌≡◌, ap, ◌≤◌, ℕ, Bool, false, List, [], ◌∷◌, length, Some, None, arith}
 use Rattle.std.specs.Prelude.{All, IsUtf8}
 use Rattle.limits.specs.Limits.{most_bytes, most_items}
 use Rattle.tick_time.specs.declared.rates.Rate.{Rate}
@@ -68,27 +68,37 @@ conforms t (Some rows) drop wide list read sound distinct carried i same formed 
     round_trip own_key t again list read (Some rows) drop wide c n sound sound.calm
     (knows_listed rows distinct) carried i same formed accepted is
 
+-- a text that is read as the list of a timeline, and as no other, keeps the timeline's frames
+pub frames_kept_by : (t : Timeline) (media : MediaRows) (drop wide : Bool) (list : EventList)
+    → IsSound t → AreListed media → not_carried t media drop wide ≡ None
+    → IsListOf t media drop wide list → (bytes : List ℕ) (read : EventList)
+    → IsList list.rate bytes read → IsSame list read
+    → ((other : EventList) → IsList list.rate bytes other → other ≡ read)
+    → KeepsFrames t media bytes
+frames_kept_by t media drop wide list sound rows carried i bytes read reads same only =
+    let fine = list_is_fine t list media drop wide sound.calm rows carried i in
+    let formed = read_is_formed list.rate bytes read reads in
+    let accepted = carried_same list read media same fine.carried in
+    record {
+      rate = list.rate;
+      at = i.rate;
+      read = read;
+      reads = reads;
+      only = only;
+      accepted = accepted;
+      shows = conforms t media drop wide list read sound rows carried i same formed accepted;
+    }
+
 pub frames_kept : (t : Timeline) (media : MediaRows) (drop wide : Bool) (list : EventList)
     → IsSound t → AreListed media → not_carried t media drop wide ≡ None
     → IsListOf t media drop wide list → IsUtf8 list.title → All HasNames list.events
     → length (spelling list drop wide) ≤ most_bytes
     → KeepsFrames t media (spelling list drop wide)
 frames_kept t media drop wide list sound rows carried i title names small =
-    let fine = list_is_fine t list media drop wide sound.calm rows carried i in
     let again = read_again list drop wide
     (text_of_list t media drop wide list sound.calm rows carried i title names small) in
-    let formed = read_is_formed list.rate (spelling list drop wide) again.read again.reads in
-    let accepted = carried_same list again.read media again.same fine.carried in
-    record {
-      rate = list.rate;
-      at = i.rate;
-      read = again.read;
-      reads = again.reads;
-      only = again.only;
-      accepted = accepted;
-      shows = conforms t media drop wide list again.read sound rows carried i again.same formed
-          accepted;
-    }
+    frames_kept_by t media drop wide list sound rows carried i (spelling list drop wide) again.read
+    again.reads again.same again.only
 
 same_count : (rate : Rate) (xs ys : List Event) → AreSame rate xs ys → length xs ≡ length ys
 same_count rate [] [] s = omega arith

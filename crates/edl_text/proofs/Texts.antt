@@ -11,7 +11,7 @@ use Rattle.std.proofs.lemmas.List.{take_more, length-take-le}
 use Rattle.edl_list.specs.declared.list.EventList.{EventList}
 use Rattle.edl_text.specs.Rows.{event_line, main_line, first_line, speed_lines, name_lines, from_head, to_head, event_lines, headed, lines_with, written_tenths, speed_line}
 use Rattle.edl_list.specs.Labelled.{outgoing}
-use Rattle.edl_text.specs.Spelling.{text_of, lines_from, lines_in, mode_line, title_lines}
+use Rattle.edl_text.specs.Spelling.{text_of, head_lines, lines_from, lines_in, mode_line, title_lines}
 
 -- lines, and then more lines
 pub text_append : (a b : List (List ℕ)) → text_of (a ++ b) ≡ text_of a ++ text_of b
@@ -93,9 +93,15 @@ lines_more rate drop layout events i number event next within is =
     ∙ sym (lines_push rate drop layout 1 (take i events) event)
     ∙ ap (λ l. text_of (lines_from rate drop layout 1 l)) (sym taken)
 
--- the text of a list, by its parts
-pub list_parts : (list : EventList) (drop : Bool) (layout : Layout) (mode : List ℕ) → mode ≡ mode_line drop ++ codes "\n"
-    → text_of (title_lines list.title) ++ (mode ++ text_of (lines_from list.rate drop layout 1 list.events)) ≡ text_of (lines_in list drop layout)
-list_parts list drop layout mode e =
-    ap (λ l. text_of (title_lines list.title) ++ l) (ap (λ m. m ++ text_of (lines_from list.rate drop layout 1 list.events)) e ∙ append_assoc (mode_line drop) (codes "\n") (text_of (lines_from list.rate drop layout 1 list.events)))
-    ∙ sym (text_append (title_lines list.title) (mode_line drop ∷ lines_from list.rate drop layout 1 list.events))
+-- the head of a list's text, by its parts
+pub head_parts : (list : EventList) (drop : Bool) (mode : List ℕ) → mode ≡ mode_line drop ++ codes "\n"
+    → text_of (title_lines list.title) ++ mode ≡ text_of (head_lines list drop)
+head_parts list drop mode e =
+    ap (λ l. text_of (title_lines list.title) ++ l) e ∙ sym (text_append (title_lines list.title) (mode_line drop ∷ []))
+
+-- the text of a list, by its head and its events
+pub list_parts : (list : EventList) (drop : Bool) (layout : Layout)
+    → text_of (head_lines list drop) ++ text_of (lines_from list.rate drop layout 1 list.events) ≡ text_of (lines_in list drop layout)
+list_parts list drop layout =
+    sym (text_append (head_lines list drop) (lines_from list.rate drop layout 1 list.events))
+    ∙ ap text_of (append_assoc (title_lines list.title) (mode_line drop ∷ []) (lines_from list.rate drop layout 1 list.events))

@@ -28,6 +28,10 @@ lines_from rate drop layout number [] = []
 lines_from rate drop layout number (event ∷ events) =
     event_lines rate drop layout number event ++ lines_from rate drop layout (number + 1) events
 
+-- the lines before the events: the title and the frame code mode
+abbrev pub head_lines : EventList → Bool → List (List ℕ)
+head_lines list drop = title_lines list.title ++ (mode_line drop ∷ [])
+
 -- the lines of a list in a layout: its title, the frame code mode, and its events numbered from 1
 abbrev pub lines_in : EventList → Bool → Layout → List (List ℕ)
 lines_in list drop layout =

@@ -50,14 +50,16 @@ mod turns;
 mod write;
 
 pub use faults::EdlFault;
-pub use labels::{first_label_past_day, first_wide_reel};
+pub use labels::{first_label_past_day, first_wide_reel, label_of};
 pub use laws::one_statement;
 pub use line::statement_of;
+pub use notes::{put_written, trim_written};
+pub use numbering::{Numbering, Style};
 pub use order::in_record_order;
 pub use overlap::first_overlap;
 pub use reader::EdlReader;
 pub use statement::{Channels, EventLine, Kind, Labels, LineFault, ReelName, SpeedLine, Statement};
-pub use write::{write_event, write_list};
+pub use write::{put_event, put_head, write_event, write_head, write_list};
 
 /// Law: at a rate bytes are one list at most, or have one fault at most, and never both. It does
 /// nothing.

@@ -29,7 +29,7 @@ pub fn put_headed<W: Out>(buffer: &mut OutBuffer, out: &mut W, head: &[u8], text
     ensures { HandsOver W.known W.faults out.old out.new buffer.old buffer.new
         (text_of (headed head.now (cleaned text.now))) }
 {
-    let text = trim(text);
+    let text = trim_written(text);
     if !text.is_empty() {
         buffer.put(out, head);
         put_written(buffer, out, text);
@@ -37,9 +37,9 @@ pub fn put_headed<W: Out>(buffer: &mut OutBuffer, out: &mut W, head: &[u8], text
     }
 }
 
-// Hands over these bytes, with a space for each control byte; the bytes between them go in one
-// slice.
-fn put_written<W: Out>(buffer: &mut OutBuffer, out: &mut W, bytes: &[u8])
+/// Hands over bytes of a name or title, with a space for each control byte. The bytes between them
+/// go in one slice.
+pub fn put_written<W: Out>(buffer: &mut OutBuffer, out: &mut W, bytes: &[u8])
     ensures { HandsOver W.known W.faults out.old out.new buffer.old buffer.new
         (map written_byte bytes.now) }
 {
@@ -67,9 +67,9 @@ fn is_written_blank(byte: u8) -> bool
     byte <= b' ' || byte == 0x7f
 }
 
-// The text without the bytes at both ends that are written as spaces.
+/// A name or title without the bytes at both ends that are written as spaces.
 #[tactic(auto, unfolding(crate::specs::Columns::cleaned))]
-fn trim(text: &[u8]) -> &[u8]
+pub fn trim_written(text: &[u8]) -> &[u8]
     ensures { map written_byte result.now ≡ cleaned text.now }
 {
     trim_back(trim_front(text))

@@ -8,7 +8,7 @@ ghost use Rattle.edl_list.specs.Layouts.{wide_layout, layout_of, most_events, Fi
 ghost use Rattle.edl_list.specs.Speeds.{day_of};
 ghost use Rattle.edl_text.specs.Rows.{event_lines, speed_lines};
 ghost use Rattle.edl_list.specs.Labelled.{outgoing, IsLabelled, IsBelowDay};
-ghost use Rattle.edl_text.specs.Spelling.{event_text, lines_from, text_of, spelling, mode_line as mode_text};
+ghost use Rattle.edl_text.specs.Spelling.{event_text, head_lines, lines_from, text_of, spelling, mode_line as mode_text};
 
 use crate::notes::{put_headed, put_name};
 use crate::numbering::{Numbering, Style};
@@ -83,8 +83,8 @@ fn put_speeds<W: Out>(buffer: &mut OutBuffer, out: &mut W, from: &Side, to: &Sid
     put_speed_if(buffer, out, needs_line(to, from, style.rate), to, style);
 }
 
-// Hands over the lines of an event.
-fn put_event<W: Out>(buffer: &mut OutBuffer, out: &mut W, event: &Event, numbering: Numbering)
+/// Hands over the lines of an event, each with its line feed.
+pub fn put_event<W: Out>(buffer: &mut OutBuffer, out: &mut W, event: &Event, numbering: Numbering)
     requires event { IsEvent (day_of numbering.style.rate) event.now }
     requires fits { FitsEvent numbering.style.layout event.now }
     requires labels { IsLabelled numbering.style.rate numbering.style.drop event.now }
@@ -158,6 +158,31 @@ pub fn write_event<W: Out>(
     buffer.flush(out)
 }
 
+/// Hands over the line of a list's title, where that isn't empty as it is written, and the line of
+/// the frame code mode.
+pub fn put_head<W: Out>(buffer: &mut OutBuffer, out: &mut W, list: &EventList, drop: bool)
+    ensures { HandsOver W.known W.faults out.old out.new buffer.old buffer.new
+        (text_of (head_lines list.now drop)) }
+{
+    put_headed(buffer, out, b"TITLE: ", list.title.as_str().as_bytes());
+    buffer.put(out, mode_line(drop));
+}
+
+/// Sends the head of a list's text: the line of its title, where that isn't empty as it is written,
+/// and the line of the frame code mode.
+///
+/// It takes no memory. `Sink` comes only where a write failed, and then a prefix of the text was
+/// sent and the count of faults rose, or stands at 2^64 - 1.
+pub fn write_head<W: Out>(list: &EventList, drop: bool, out: &mut W) -> Result<(), WriteFault>
+    ensures told { Tells (SendsAll (text_of (head_lines list.now drop)) result) (W.known out.old)
+        (W.known out.new) }
+    ensures cause { HasCause (W.faults out.old) (W.faults out.new) result }
+{
+    let mut buffer = OutBuffer::new();
+    put_head(&mut buffer, out, list, drop);
+    buffer.flush(out)
+}
+
 /// Sends the one text of a list at its rate, with drop-frame or without, in the wide layout or the
 /// narrow one: the line of its title where that isn't empty, the frame code mode, and its events
 /// numbered from 1.
@@ -185,8 +210,7 @@ pub fn write_list<W: Out>(
         drop,
         layout,
     };
-    put_headed(&mut buffer, out, b"TITLE: ", list.title.as_str().as_bytes());
-    buffer.put(out, mode_line(drop));
+    put_head(&mut buffer, out, list, drop);
     put_events(&mut buffer, out, list.events.as_slice(), style);
     buffer.flush(out)
 }

@@ -9,3 +9,4 @@ pub mod Numerals
 pub mod NumeralsInside
 pub mod Members
 pub mod UpgradedNumerals
+pub mod UpgradedTwice

@@ -1,5 +1,5 @@
 -- Numerals of values that were read, and of what they are upgraded to.
-use Rattle.std.specs.Prelude.{ℕ, List}
+use Rattle.std.specs.Prelude.{◌≡◌, ℕ, List}
 use Rattle.json_value.specs.declared.Json.{Json}
 use Rattle.json_text.specs.Grammar.{text_of}
 use Rattle.schema_rows.specs.Upgrades.{upgraded}
@@ -13,3 +13,8 @@ ReadHasNumerals = (bytes : List ℕ) (value : Json) → text_of bytes value → 
 abbrev pub UpgradedHasNumerals : Type 0
 UpgradedHasNumerals = (bytes : List ℕ) (value : Json) → text_of bytes value
     → HasNumerals (upgraded value)
+
+-- a value that was read, once upgraded, is left as it is by another upgrade
+abbrev pub UpgradedStays : Type 0
+UpgradedStays = (bytes : List ℕ) (value : Json) → text_of bytes value
+    → upgraded (upgraded value) ≡ upgraded value

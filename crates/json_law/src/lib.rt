@@ -5,7 +5,7 @@
 
 ghost use Rattle.json_law.specs.Written.{LayoutIsText, ReadIsJson, RereadIsSame};
 ghost use Rattle.json_law.specs.Forms.{HaveOneForm};
-ghost use Rattle.json_law.specs.Law.{ReadHasNumerals, UpgradedHasNumerals};
+ghost use Rattle.json_law.specs.Law.{ReadHasNumerals, UpgradedHasNumerals, UpgradedStays};
 
 /// The layout of a value is a JSON text (RFC 8259) of that value, where at most 127 lists and
 /// objects stand in one another in it and its numerals are JSON numerals; and each value that a
@@ -29,4 +29,10 @@ pub fn one_form()
 pub fn read_has_numerals()
     ensures read { ReadHasNumerals }
     ensures upgraded { UpgradedHasNumerals }
+{}
+
+/// Law: a second upgrade changes nothing. The value that a JSON text (RFC 8259) stands for, once
+/// upgraded, is left as it is by another upgrade. It does nothing.
+pub fn upgraded_stays()
+    ensures { UpgradedStays }
 {}

@@ -3,11 +3,11 @@ mod Euclid
 mod FarInstants
 mod MediaTicks
 pub mod PrintTexts
-mod Roots
-mod ShowLemmas
-mod SoundnessFacts
+pub mod Roots
+pub mod ShowLemmas
+pub mod SoundnessFacts
 mod Steps
-mod Walk
+pub mod Walk
 pub mod SeatLemmas
 pub mod ReachedItems
 pub mod SpareLemmas

@@ -3,7 +3,7 @@ use Rattle.std.specs.Prelude.{ℕ, List, [], ◌∷◌, ◌++◌, codes, decimal
 use Rattle.listings.specs.declared.ways.Way.{Way, fold-Way}
 use Rattle.listings.specs.declared.ways.Way.TheOpen.{Way-F}
 
--- further indexes, each behind `/`
+-- further indexes, each after `/`
 abbrev pub more_indexes : List ℕ → List ℕ
 more_indexes [] = []
 more_indexes (i ∷ place) = codes "/" ++ (decimal i ++ more_indexes place)
@@ -13,7 +13,7 @@ abbrev pub place_text : List ℕ → List ℕ
 place_text [] = []
 place_text (i ∷ place) = decimal i ++ more_indexes place
 
--- the same indexes with `/` behind each, as they stand before a further one
+-- the same indexes with `/` after each, as they stand before a further one
 abbrev pub lead_text : List ℕ → List ℕ
 lead_text [] = []
 lead_text (i ∷ place) = decimal i ++ (codes "/" ++ lead_text place)

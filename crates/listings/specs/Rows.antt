@@ -18,7 +18,7 @@ use Rattle.listings.specs.declared.listing.Listing.{Listing}
 abbrev pub longest : Timeline → ℕ
 longest t = greatest (lengths t.tracks.children)
 
--- the record frame behind the last one that the longest root child reaches: its length takes so
+-- the record frame after the last one that the longest root child reaches: its length takes so
 -- many whole frames, rounded up, from the first on
 abbrev pub end_frame : Timeline → ℤ
 end_frame t = start_frame t +ℤ pos (div_ceil (longest t) (frame_ticks (record_rate t)))

@@ -75,7 +75,7 @@ mixture kind from to part whole =
     cond (is_empty from && is_empty to) Empty
     (Mixture (kind_of kind) from to (weight (unsigned_abs part) (unsigned_abs whole)))
 
--- the instant itself, or none where it lies before the start or behind all that a sound timeline
+-- the instant itself, or none where it lies before the start or after all that a sound timeline
 -- has
 abbrev pub IsInstant : ℤ → Option ℤ → Type 0
 IsInstant at None = within (pos 0) (pos (most_ticks + 1)) at ≡ false

@@ -93,7 +93,7 @@ track kind name children = Track (record {
   rest = [];
 })
 
--- a track of two clips with a dissolve between them, a stack of a track whose clip stands behind a
+-- a track of two clips with a dissolve between them, a stack of a track whose clip stands after a
 -- gap, and a track of one clip; the function says what is known of a list's items
 abbrev pub tree : {C : Type 0} → (List (ItemOf C) → C) → List (ItemOf C)
 tree f = track (codes "Video") (codes "V\"1")

@@ -16,7 +16,7 @@ use dev_io::{Out, OutBuffer};
 use json_text::put_string;
 use otio_model::{Children, Clip, Item, ItemOf};
 
-/// What is told of a clip beside its place.
+/// What is listed of a clip, after its place.
 #[derive(Clone, Copy)]
 pub(crate) enum Told {
     /// Its name.

@@ -13,7 +13,7 @@ use otio_model::{Clip, Media};
 use sequences::Text;
 use tick_time::Rate;
 
-/// The clip's reel, else its name.
+// The clip's reel, else its name.
 fn reel_or_name(clip: &Clip) -> KeyRef<'_>
     ensures { pictures.key_of result ≡ keys.reel_or_name (keys.reel_of clip.now) clip.now.name }
 {
@@ -43,7 +43,7 @@ pub fn key_of(clip: &Clip) -> KeyRef<'_>
     }
 }
 
-/// The number of the frame that holds an instant of media.
+// The number of the frame that holds an instant of media.
 fn frame_number(at: i128, rate: Rate) -> i128
     ensures { result ≡ images.frame_number at (keys.frame_rate rate) }
 {

@@ -25,8 +25,25 @@ use coord::{speed, trimmed_start};
 use otio_model::{Children, Item, ItemOf};
 use std::alloc::{AllocError, Global};
 
-/// How far the media go in so many ticks at a speed in millionths.
+// How far the media go in so many ticks at a speed in millionths. At the plain speed of a million
+// millionths no division is needed.
 fn media_ticks(speed: i64, ticks: i128) -> i128
+    requires speed_low { (pos 0 -ℤ pos 1000000000) ≤ℤ speed }
+    requires speed_high { speed ≤ℤ pos 1000000000 }
+    requires low { (pos 0 -ℤ pos 100000000000000000000000000) ≤ℤ ticks }
+    requires high { ticks ≤ℤ pos 100000000000000000000000000 }
+    ensures value { result ≡ int_div_euclid (ticks *ℤ speed) (pos 1000000) }
+    ensures least { (pos 0 -ℤ pos 1000000000000000000000000000001) ≤ℤ result }
+    ensures most { result ≤ℤ pos 1000000000000000000000000000001 }
+{
+    if speed == 1_000_000 {
+        return ticks;
+    }
+    scaled_ticks(speed, ticks)
+}
+
+// The same at any speed.
+fn scaled_ticks(speed: i64, ticks: i128) -> i128
     requires speed_low { (pos 0 -ℤ pos 1000000000) ≤ℤ speed }
     requires speed_high { speed ≤ℤ pos 1000000000 }
     requires low { (pos 0 -ℤ pos 100000000000000000000000000) ≤ℤ ticks }
@@ -38,7 +55,7 @@ fn media_ticks(speed: i64, ticks: i128) -> i128
     (ticks * i128::from(speed)).div_euclid(1_000_000)
 }
 
-/// Where the trimmed range of an item starts.
+// Where the trimmed range of an item starts.
 fn start_of(item: &Item) -> i128
     ensures value { result ≡ ranges.trimmed_start item.now }
     ensures low { (pos 0 -ℤ pos most_ticks) ≤ℤ result }
@@ -48,12 +65,15 @@ fn start_of(item: &Item) -> i128
 }
 
 /// The instant of an item's media, or of its children, that is reached so many ticks from its
-/// start.
-fn media_at(item: &Item, ticks: i128) -> i128
+/// start, also outside its length: the start of its trimmed range, and the ticks at its speed,
+/// rounded down. It takes no memory.
+pub fn media_at(item: &Item, ticks: i128) -> i128
     requires sound { fault_of item.now ≡ None }
     requires low { (pos 0 -ℤ pos 2822400000000000000000000) ≤ℤ ticks }
     requires high { ticks ≤ℤ pos 2822400000000000000000000 }
-    ensures { result ≡ speeds.media_at (ranges.trimmed_start item.now) (speed_of item.now) ticks }
+    ensures value { result ≡ speeds.media_at (ranges.trimmed_start item.now) (speed_of item.now) ticks }
+    ensures low { (pos 0 -ℤ pos (2 ^ 100)) ≤ℤ result }
+    ensures high { result <ℤ pos (2 ^ 100) }
 {
     start_of(item) + media_ticks(speed(item), ticks)
 }
@@ -77,7 +97,7 @@ pub(crate) fn show_item<'a>(
     show_inside(alloc, item, kind, media_at(item, ticks))
 }
 
-/// What an item shows where its media, or its children, stand at an instant.
+// What an item shows where its media, or its children, stand at an instant.
 #[cycle(show)]
 fn show_inside<'a>(
     alloc: Global,
@@ -110,7 +130,7 @@ fn show_inside<'a>(
     }
 }
 
-/// What the child at an index shows, or Blank where there is none.
+// What the child at an index shows, or Blank where there is none.
 #[cycle(show)]
 fn show_side<'a>(
     alloc: Global,
@@ -135,7 +155,7 @@ fn show_side<'a>(
     }
 }
 
-/// What a track's list shows, Blank outside its available range.
+// What a track's list shows, Blank outside its available range.
 #[cycle(show)]
 fn show_track<'a>(
     alloc: Global,
@@ -164,7 +184,7 @@ fn show_track<'a>(
     }
 }
 
-/// A mix of two pictures; of two that are Blank it is Blank.
+// A mix of two pictures; of two that are Blank it is Blank.
 fn mix<'a>(
     alloc: Global,
     active: ActiveTransition<'a>,
@@ -198,7 +218,7 @@ fn is_blank(picture: &Picture<'_>) -> bool
     matches!(picture, Picture::Blank)
 }
 
-/// What the topmost child that isn't Blank shows, the last one being the topmost.
+// What the topmost child that isn't Blank shows, the last one being the topmost.
 #[cycle(show)]
 fn show_stack<'a>(
     alloc: Global,

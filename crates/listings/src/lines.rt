@@ -28,7 +28,7 @@ const FRAMES_A_FLUSH: u32 = 256;
 pub(crate) struct Indexes {
     /// The index of the first.
     first: usize,
-    /// The index behind the last.
+    /// The index after the last.
     past: usize,
 }
 

@@ -57,7 +57,7 @@ fn first_of(timeline: &Timeline) -> i64
     start_frame(timeline) as i64
 }
 
-// The record frame behind the last one that the longest root child reaches.
+// The record frame after the last one that the longest root child reaches.
 fn end_frame(timeline: &Timeline) -> i128
     requires few { count_all timeline.now.tracks.children < 2 ^ 32 }
     ensures value { result ≡ rows.end_frame timeline.now }

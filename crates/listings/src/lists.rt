@@ -16,30 +16,36 @@ ghost use Rattle.listings.specs.Walk.{side, active_shows, IsActive, IsHeld};
 use otio_model::{Children, Item, ItemOf, Seat, offset_ticks};
 use sequences::Text;
 
-/// An overlap that holds an instant: its two sides, each with its own instant.
+/// An overlap that holds an instant: its two sides, each an index among the children with its own
+/// instant in ticks.
 #[derive(Clone, Copy)]
-pub(crate) struct ActiveTransition<'a> {
+pub struct ActiveTransition<'a> {
     /// The transition's type.
-    pub(crate) kind: &'a Text,
-    /// The item before the transition, and the instant there.
-    pub(crate) from: Option<usize>,
-    pub(crate) from_ticks: i128,
-    /// The item behind it, and the instant there.
-    pub(crate) to: Option<usize>,
-    pub(crate) to_ticks: i128,
-    /// How far the overlap has come, and how long it is.
-    pub(crate) part: i128,
-    pub(crate) whole: i128,
+    pub kind: &'a Text,
+    /// The last item before the transition; `None` where there is none.
+    pub from: Option<usize>,
+    /// The instant from the start of that item.
+    pub from_ticks: i128,
+    /// The next item after the transition; `None` where there is none.
+    pub to: Option<usize>,
+    /// The instant from the start of that item.
+    pub to_ticks: i128,
+    /// How far the overlap has come, in ticks.
+    pub part: i128,
+    /// How long it is, in ticks.
+    pub whole: i128,
 }
 
-/// An item that holds an instant, and the instant in it.
+/// An item of a list that holds an instant.
 #[derive(Clone, Copy)]
-pub(crate) struct Held {
-    pub(crate) index: usize,
-    pub(crate) ticks: i128,
+pub struct Held {
+    /// Its index among the children.
+    pub index: usize,
+    /// The instant from its start, in ticks.
+    pub ticks: i128,
 }
 
-/// The first item from an index on that isn't a transition.
+// The first item from an index on that isn't a transition.
 fn next_item(children: &Children, start: usize) -> Option<usize>
     requires { start ≤ length (items_of children.now) }
     ensures side { (v : View) (u : ℤ) → next_shows (looks v (drop start (items_of children.now))) u
@@ -55,14 +61,14 @@ fn next_item(children: &Children, start: usize) -> Option<usize>
     None
 }
 
-/// Whether an item is a transition.
+// Whether an item is a transition.
 fn is_transition(item: &Item) -> bool
     ensures { result ≡ trees.is_transition item.now }
 {
     matches!(item, ItemOf::Transition(_))
 }
 
-/// The last item before an index that isn't a transition.
+// The last item before an index that isn't a transition.
 fn item_before(children: &Children, end: usize) -> Option<usize>
     requires { end ≤ length (items_of children.now) }
     ensures { result ≡ walk.item_before (items_of children.now) end }
@@ -75,7 +81,7 @@ fn item_before(children: &Children, end: usize) -> Option<usize>
     None
 }
 
-/// How long the item at an index is, 0 where there is none.
+// How long the item at an index is, 0 where there is none.
 fn ticks_at(children: &Children, index: Option<usize>) -> i128
     requires few { count children.now < 2 ^ 32 }
     requires within { IfSome index (λ i. i < length (items_of children.now)) }
@@ -87,7 +93,7 @@ fn ticks_at(children: &Children, index: Option<usize>) -> i128
     }
 }
 
-/// The transition at a seat, whose overlap is the first that holds an instant.
+// The transition at a seat, whose overlap is the first that holds an instant.
 fn active_at(children: &Children, seat: Seat, at: i128) -> ActiveTransition<'_>
     requires few { count children.now < 2 ^ 32 }
     requires sound { AreFaultless children.now }
@@ -117,8 +123,9 @@ fn active_at(children: &Children, seat: Seat, at: i128) -> ActiveTransition<'_>
     }
 }
 
-/// The first transition whose overlap holds an instant.
-pub(crate) fn overlap_at(children: &Children, at: i128) -> Option<ActiveTransition<'_>>
+/// The first transition of a list whose overlap holds an instant, in ticks from the list's start;
+/// `None` exactly where there is none. It takes no memory.
+pub fn overlap_at(children: &Children, at: i128) -> Option<ActiveTransition<'_>>
     requires few { count children.now < 2 ^ 32 }
     requires sound { AreFaultless children.now }
     requires fits { added (lengths children.now) ≤ most_ticks }
@@ -134,8 +141,9 @@ pub(crate) fn overlap_at(children: &Children, at: i128) -> Option<ActiveTransiti
     }
 }
 
-/// The item that holds an instant; `None` exactly where it lies outside what is available.
-pub(crate) fn holder(children: &Children, at: i128) -> Option<Held>
+/// The item of a list that holds an instant, in ticks from the list's start; `None` exactly where
+/// the instant lies before the first item or after the last. It takes no memory.
+pub fn holder(children: &Children, at: i128) -> Option<Held>
     requires few { count children.now < 2 ^ 32 }
     requires sound { AreFaultless children.now }
     requires fits { added (lengths children.now) ≤ most_ticks }

@@ -23,8 +23,8 @@ pub(crate) fn put_large<W: Out>(buffer: &mut OutBuffer, out: &mut W, number: u12
     buffer.put(out, digits.format(number).as_bytes());
 }
 
-/// Hands over a number, with `-` where it is negative.
-pub(crate) fn put_signed<W: Out>(buffer: &mut OutBuffer, out: &mut W, number: i128)
+/// Hands over a number in decimal digits, with `-` where it is negative. It takes no memory.
+pub fn put_signed<W: Out>(buffer: &mut OutBuffer, out: &mut W, number: i128)
     ensures { HandsOver W.known W.faults out.old out.new buffer.old buffer.new
         (signed_decimal number) }
 {

@@ -7,7 +7,7 @@ use sequences::Text;
 pub enum KeyRef<'a> {
     /// The URL of external media.
     Url(&'a Text),
-    /// An image sequence: where its images lie, and what stands before and behind the number in an
+    /// An image sequence: where its images lie, and what stands before and after the number in an
     /// image's name.
     Sequence(&'a Text, &'a Text, &'a Text),
     /// What a generator makes, as color bars.

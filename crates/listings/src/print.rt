@@ -35,7 +35,7 @@ pub fn print_show<W: Out>(value: &Picture<'_>, out: &mut W) -> Result<(), WriteF
     buffer.flush(out)
 }
 
-/// Hands the text of a picture to the buffer beside a stream; [`print_show`] says what the text is.
+/// Hands the text of a picture to the buffer of a stream; [`print_show`] says what the text is.
 /// It takes no memory.
 pub fn put_show<W: Out>(buffer: &mut OutBuffer, out: &mut W, value: &Picture<'_>)
     ensures { HandsOver W.known W.faults out.old out.new buffer.old buffer.new

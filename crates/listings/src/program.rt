@@ -17,7 +17,7 @@ use coord::{record_rate, start_frame};
 use otio_model::{Item, ItemOf, Timeline};
 use std::alloc::{AllocError, Global};
 
-/// How the record frames of a timeline are counted. It is reckoned once, and then serves each
+/// How the record frames of a timeline are counted. It is found once, and then serves each
 /// frame.
 #[derive(Clone, Copy)]
 pub struct Clock {
@@ -37,8 +37,8 @@ pub fn clock_of(timeline: &Timeline) -> Clock
     }
 }
 
-/// The instant of a record frame, in ticks from the start, where the first frame has this number
-/// and a frame so many ticks; `None` only where it lies outside every child.
+// The instant of a record frame, in ticks from the start, where the first frame has this number
+// and a frame so many ticks; `None` only where it lies outside every child.
 fn instant(start: i128, ticks: i128, frame: i128) -> Option<i128>
     requires { pos 1 ≤ℤ ticks }
     ensures { IsInstant ((frame -ℤ start) *ℤ ticks) result }
@@ -49,8 +49,8 @@ fn instant(start: i128, ticks: i128, frame: i128) -> Option<i128>
     }
 }
 
-/// The kind of a root child: of a track its own, else video.
-fn root_kind(item: &Item) -> &str
+/// The kind of a root child: of a track its own, else `Video`. It takes no memory.
+pub fn root_kind(item: &Item) -> &str
     ensures { result.now ≡ programs.kind_of item.now }
 {
     match item {
@@ -59,7 +59,7 @@ fn root_kind(item: &Item) -> &str
     }
 }
 
-/// What a root child shows, Blank outside its length.
+// What a root child shows, Blank outside its length.
 fn show_root<'a>(alloc: Global, item: &'a Item, ticks: i128) -> Result<Picture<'a>, AllocError>
     requires few { count_of item.now < 2 ^ 32 }
     requires sound { IsFaultlessItem item.now }
@@ -96,7 +96,7 @@ pub fn show<'a>(
 }
 
 /// The same as [`show`], with the timeline's own clock ([`clock_of`]), so that record rate and
-/// start aren't reckoned anew for each frame. An error comes where memory runs out, and only where
+/// start aren't found again for each frame. An error comes where memory runs out, and only where
 /// a mix is shown.
 pub fn show_at<'a>(
     alloc: Global,

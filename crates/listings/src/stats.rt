@@ -65,8 +65,8 @@ fn put_rate<W: Out>(buffer: &mut OutBuffer, out: &mut W, rate: Rate)
     buffer.put(out, b"\n");
 }
 
-// Hands over the text of a rate.
-fn put_rate_text<W: Out>(buffer: &mut OutBuffer, out: &mut W, rate: Rate)
+/// Hands over the text of a rate, as in JSON. It takes no memory.
+pub fn put_rate_text<W: Out>(buffer: &mut OutBuffer, out: &mut W, rate: Rate)
     ensures { HandsOver W.known W.faults out.old out.new buffer.old buffer.new
         (rate_text (frame_rate rate)) }
 {

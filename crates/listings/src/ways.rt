@@ -32,7 +32,7 @@ pub(crate) fn put_place<W: Out>(buffer: &mut OutBuffer, out: &mut W, way: &Way<'
     put_number(buffer, out, index);
 }
 
-// Hands over the indexes of a way, with `/` behind each.
+// Hands over the indexes of a way, with `/` after each.
 fn put_lead<W: Out>(buffer: &mut OutBuffer, out: &mut W, way: &Way<'_>)
     ensures { HandsOver W.known W.faults out.old out.new buffer.old buffer.new
         (lead_text (place_of way.now)) }

@@ -12,7 +12,7 @@ pub(crate) struct Share {
 }
 
 #[tactic(auto, using(crate::proofs::Euclid::divisor_next, crate::proofs::Euclid::divisor_done, crate::proofs::Euclid::divisor_some))]
-/// The greatest common divisor.
+// The greatest common divisor.
 fn divisor(a: u128, b: u128) -> u128
     ensures value { result ≡ looks.divisor a b }
 {

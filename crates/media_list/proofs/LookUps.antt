@@ -1,11 +1,11 @@
 -- A look-up by a row's place is one among the rows.
-use Rattle.std.proofs.Common.{◌≡◌, ◌≢◌, ◌+◌, ◌<◌, ◌||◌, All, IfSome, Bor, ℕ, zero, suc, Bool, true, false, cond, List, [], ◌∷◌, ◌++◌, map, length, drop, get_or, Option, Some, None, position, slice_get, String, string_bytes, refl, sym, ap, subst, ◌∙◌, length-append, arith}
+use Rattle.std.proofs.Common.{◌≡◌, ◌≢◌, ◌+◌, ◌<◌, ◌||◌, All, IfSome, Bor, ℕ, zero, suc, Bool, true, false, cond, List, [], ◌∷◌, ◌++◌, map, length, take, drop, get_or, Option, Some, None, position, slice_get, String, string_bytes, refl, sym, ap, subst, ◌∙◌, length-append, arith}
 use Rattle.std.proofs.lemmas.Grind.{common_steps}
 use Rattle.std.specs.List.{list_any, position_from}
 use Rattle.std.specs.Str.{bytes_eq}
 use Rattle.std.specs.Cmp.Lexicographic.{bytes_decides}
 use Rattle.std.specs.declared.alloc.Global.{Global}
-use Rattle.std.proofs.lemmas.List.{map-append}
+use Rattle.std.proofs.lemmas.List.{drop_more, map-append, take-append-drop, take_more}
 use Rattle.std.proofs.lemmas.List.Quantifiers.{all_pairs_push}
 use Rattle.std.proofs.lemmas.Iterator.Adapters.{position_from-zero}
 use Rattle.std.specs.Option.{option_copied}
@@ -13,6 +13,7 @@ use Rattle.std.proofs.lemmas.List.Elements.{All-head, All-tail}
 use Rattle.media_rows.specs.Rows.{by_reel, by_url, AreOther, AreRows, IsRowInRange}
 use Rattle.media_rows.specs.declared.row.MediaRow.{MediaRow}
 use Rattle.media_list.specs.Lines.{IsNew}
+use Rattle.media_list.specs.Tables.{PutsName}
 
 -- the first row of a name
 abbrev named : (MediaRow → List ℕ) → List ℕ → List MediaRow → Option MediaRow
@@ -247,3 +248,37 @@ earlier_new rows row others apart = (
   url_named row.url rows ∙ named_none url_of row.url rows
       (λ k d within. (earlier_other rows row others apart k d within).1),
 )
+
+-- rows up to one, that one, and those behind it
+parts_at : (rows : List MediaRow) (i : ℕ) (d : MediaRow) → i < length rows
+    → take i rows ++ get_or rows i d ∷ drop (i + 1) rows ≡ rows
+parts_at rows i d within =
+    ap (λ l. take i rows ++ l) (sym (drop_more rows i d within)) ∙ take-append-drop i rows
+
+new_at : (rows : List MediaRow) (i : ℕ) (d : MediaRow) → i < length rows → AreRows rows
+    → IsNew (take i rows) (get_or rows i d)
+new_at rows i d within apart =
+    earlier_new (take i rows) (get_or rows i d) (drop (i + 1) rows)
+    (subst AreRows (sym (parts_at rows i d within)) apart)
+
+-- the reels of distinct rows, with that of the next row put behind them
+pub reels_put : (rows : List MediaRow) (i : ℕ) (row : MediaRow) (keys new : List (String Global))
+    → i < length rows → get_or rows i row ≡ row → AreRows rows
+    → PutsName row.reel keys new → AreNames reel_of keys (take i rows)
+    → AreNames reel_of new (take (i + 1) rows)
+reels_put rows i row keys new within at apart put names =
+    subst (AreNames reel_of new) (sym (take_more rows i row within
+    ∙ ap (λ r. take i rows ++ r ∷ []) at))
+    (reels_more put.key keys new (take i rows) row names
+    (subst (IsNew (take i rows)) at (new_at rows i row within apart)).0 put.is put.put)
+
+-- the same of URLs
+pub urls_put : (rows : List MediaRow) (i : ℕ) (row : MediaRow) (keys new : List (String Global))
+    → i < length rows → get_or rows i row ≡ row → AreRows rows
+    → PutsName row.url keys new → AreNames url_of keys (take i rows)
+    → AreNames url_of new (take (i + 1) rows)
+urls_put rows i row keys new within at apart put names =
+    subst (AreNames url_of new) (sym (take_more rows i row within
+    ∙ ap (λ r. take i rows ++ r ∷ []) at))
+    (urls_more put.key keys new (take i rows) row names
+    (subst (IsNew (take i rows)) at (new_at rows i row within apart)).1 put.is put.put)

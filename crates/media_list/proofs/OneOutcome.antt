@@ -255,7 +255,7 @@ line_fault_once rows n line f g (twice a is p) (twice b also q) =
     twice_once rows n b f g (subst (λ r. IsTwice rows n r f) (row_once line a b is also) p) q
 
 -- a line that stands before another
-stands_before : (xs ys behind more : List (List ℕ)) (x y : List ℕ)
+pub stands_before : (xs ys behind more : List (List ℕ)) (x y : List ℕ)
     → xs ++ x ∷ behind ≡ ys ++ y ∷ more → length xs < length ys
     → (between : List (List ℕ)) × (ys ≡ xs ++ x ∷ between)
 stands_before xs [] behind more x y e below = absurd (omega (arith, below))
@@ -265,7 +265,7 @@ stands_before (w ∷ xs) (z ∷ ys) behind more x y e below =
     let rest = stands_before xs ys behind more x y (ap (drop 1) e) (omega (arith, below)) in
     (rest.0, ap (λ l. get_or l 0 [] ∷ ys) (sym e) ∙ ap (λ l. w ∷ l) rest.1)
 
-stands_same : (xs ys behind more : List (List ℕ)) (x y : List ℕ) → xs ++ x ∷ behind ≡ ys ++ y ∷ more
+pub stands_same : (xs ys behind more : List (List ℕ)) (x y : List ℕ) → xs ++ x ∷ behind ≡ ys ++ y ∷ more
     → length xs ≡ length ys
     → (xs ≡ ys) × (x ≡ y)
 stands_same [] [] behind more x y e same = (refl, ap (λ l. get_or l 0 []) e)

@@ -1,5 +1,8 @@
 -- Rows with the places of their reels and URLs, and how a reader comes to them.
-use Rattle.std.specs.Prelude.{◌≡◌, ◌++◌, ◌+◌, ◌≤◌, ℕ, List, All, length, map, string_bytes}
+use Rattle.std.specs.Prelude.{◌≡◌, ◌++◌, ◌+◌, ◌≤◌, ℕ, cond, List, [], ◌∷◌, String, All, length, map, string_bytes}
+use Rattle.std.specs.List.{list_any}
+use Rattle.std.specs.Str.{bytes_eq}
+use Rattle.std.specs.declared.alloc.Global.{Global}
 use Rattle.limits.specs.Limits.{most_bytes}
 use Rattle.media_rows.specs.Rows.{AreRows, IsRowInRange}
 use Rattle.media_rows.specs.declared.row.MediaRow.{MediaRow}
@@ -16,7 +19,14 @@ pub record IsIndexed (table : Table) : Type 0 where
   pub apart : AreRows table.rows.items
   pub ranges : All IsRowInRange table.rows.items
 
--- behind a line the rows are those of before and those that the line says
+-- the name stands after the others, or among them where it did before
+pub record PutsName (name : List ℕ) (old new : List (String Global)) : Type 0 where
+  pub key : String Global
+  pub is : string_bytes key ≡ name
+  pub put : new ≡ cond (list_any (λ k. bytes_eq (string_bytes key) (string_bytes k)) old) old
+      (old ++ key ∷ [])
+
+-- after a line the rows are those of before and those that the line says
 abbrev pub HasTaken : List ℕ → List MediaRow → List MediaRow → Type 0
 HasTaken line old new = (here : List MediaRow) × (new ≡ old ++ here) × LineSays line here
 

@@ -14,7 +14,7 @@ use crate::table::Table;
 use limits::MOST_BYTES;
 use media_rows::MediaRow;
 use sequences::Text;
-use std::alloc::Global;
+use std::alloc::{AllocError, Global};
 use std::marker::Model;
 use text_lines::{after, before, first_byte, strip_return};
 
@@ -76,6 +76,20 @@ impl MediaList {
         self.table.by_url(url)
     }
 
+    /// The media list of these rows, in their order. No two of them may have one reel or one URL,
+    /// and their media must lie in range.
+    ///
+    /// # Errors
+    /// An error comes only where memory runs out.
+    pub fn of_rows(alloc: Global, rows: Vec<MediaRow>) -> Result<MediaList, AllocError>
+        requires apart { AreRows rows.items }
+        requires ranges { All IsRowInRange rows.items }
+        ensures { IfOk result (λ list. list ≡ rows.items) }
+    {
+        let table = Table::of(alloc, rows)?;
+        Ok(MediaList { table })
+    }
+
     /// The rows in the order of their lines. It takes no memory.
     pub fn rows(&self) -> &[MediaRow]
         ensures rows { result.now ≡ self.now }
@@ -111,7 +125,7 @@ fn table_of(alloc: Global, bytes: &[u8]) -> Result<Table, MediaFault>
     }
 }
 
-/// Takes a line of that number behind those whose rows the table has.
+/// Takes a line of that number; the table has the rows of the lines before it.
 fn take_line(table: &mut Table, alloc: Global, line: &[u8], number: u32) -> Result<(), MediaFault>
     requires { IsIndexed table.old }
     ensures taken { OnOk result (HasTaken line.now table.old.rows.items table.new.rows.items) }

@@ -1,16 +1,16 @@
 //! Rows with the places of their reels and URLs.
 
-ghost use Rattle.std.specs.Prelude.{◌≡◌, ◌⊎◌, ◌++◌, ◌∷◌, [], None, IsSome, IfErr, IfSome, OnOk, slice_get};
+ghost use Rattle.std.specs.Prelude.{◌≡◌, ◌⊎◌, ◌++◌, ◌∷◌, [], None, All, IsSome, IfErr, IfOk, IfSome, OnOk, slice_get};
 ghost use Rattle.std.specs.Option.{option_copied};
-ghost use Rattle.media_rows.specs.Rows.{by_reel as row_of_reel, by_url as row_of_url, IsRowInRange};
+ghost use Rattle.media_rows.specs.Rows.{by_reel as row_of_reel, by_url as row_of_url, AreRows, IsRowInRange};
 ghost use Rattle.media_list.specs.Lines.{IsNew, IsTwice};
-ghost use Rattle.media_list.specs.Tables.{IsIndexed};
+ghost use Rattle.media_list.specs.Tables.{IsIndexed, PutsName};
 
 use crate::faults::MediaFault;
 use indexmap::IndexSet;
 use media_rows::MediaRow;
 use sequences::Text;
-use std::alloc::Global;
+use std::alloc::{AllocError, Global};
 
 /// Rows in order, each at the index of its reel and of its URL.
 pub struct Table {
@@ -30,6 +30,22 @@ impl Table {
             reels: IndexSet::new(alloc),
             urls: IndexSet::new(alloc),
         }
+    }
+
+    /// The table of these rows, in their order. An error comes where memory runs out.
+    pub(crate) fn of(alloc: Global, rows: Vec<MediaRow>) -> Result<Table, AllocError>
+        requires apart { AreRows rows.items }
+        requires ranges { All IsRowInRange rows.items }
+        ensures rows { IfOk result (λ table. table.rows.items ≡ rows.items) }
+        ensures indexed { IfOk result IsIndexed }
+    {
+        let mut reels = IndexSet::new(alloc);
+        let mut urls = IndexSet::new(alloc);
+        'rows: for row in rows.as_slice() {
+            put_name(&mut reels, alloc, &row.reel)?;
+            put_name(&mut urls, alloc, &row.url)?;
+        }
+        Ok(Table { rows, reels, urls })
     }
 
     /// The row of a reel.
@@ -102,6 +118,15 @@ impl Table {
         self.rows.push(row)?;
         Ok(())
     }
+}
+
+/// Puts a name after the others where it isn't among them. An error comes where memory runs out.
+fn put_name(names: &mut IndexSet<String>, alloc: Global, name: &Text) -> Result<(), AllocError>
+    ensures { OnOk result (PutsName name.now names.old.keys names.new.keys) }
+{
+    let key = String::from_str(alloc, name.as_str())?;
+    names.insert(key)?;
+    Ok(())
 }
 
 // Drops are written out: a derived one is proved anew in each crate that drops such a value.

@@ -36,9 +36,18 @@ use Rattle.schema_rows.specs.Stands as W
 use Rattle.schema_rows.specs.Stands.{Gives, Gives_row, Gives_rows, Gives_fields, Gives_reading, Gives_all, Stands}
 use Rattle.schema_write.specs.Tables.{reading_json}
 use Rattle.object_law.specs.Writable as Q
-use Rattle.object_law.specs.Writable.{AreOthers, IsEffect, AreEffects, IsMarker, AreMarkers, IsMedium, AreMedia, IsItem, IsStack, AreItems, IsObject, AreObjects}
+use Rattle.object_law.specs.Writable.{IsUpgraded, AreOthers, IsEffect, AreEffects, IsMarker, AreMarkers, IsMedium, AreMedia, IsItem, IsStack, AreItems, IsObject, AreObjects}
 use Rattle.object_law.proofs.FoundMembers.{others_twice}
 use Rattle.object_law.proofs.HeldValues.{still_speed, no_children}
+use Rattle.std.proofs.lemmas.Bool.{false≢true}
+use Rattle.sequences.specs.Pairs.{value_of}
+use Rattle.schema_rows.specs.declared.names.Form.{Form}
+use Rattle.schema_rows.specs.declared.names.Row.TheVariants.{Object as ObjectRow, Objects, Media as MediaRow}
+use Rattle.schema_rows.specs.Names.{schema_in}
+use Rattle.schema_rows.specs.Upgrades.{upgraded_at, items_at, pairs_at, map_at}
+use Rattle.schema_rows.proofs.Levels.{upgraded_at-List, upgraded_at-Map}
+use Rattle.schema_rows.proofs.JsonParts.{list_once, map_once}
+use Rattle.object_law.proofs.UpgradedMembers.{Stays, RowsStay, are_flat, all_flat, flat_among, named_name, rows_stay}
 use Rattle.object_law.proofs.StillSpeeds.{all_still, all_break, not_null}
 
 -- what is known of a value that was read in a row of the kind
@@ -185,16 +194,52 @@ effect_read (E.Freeze f) r = (still_speed_is f.time_scalar f.time_scalar (V.Meta
 effect_read (E.Plain p) r = plain_read p.timed p.metadata p.rest p.name p.effect_name r
 effect_read (E.Kept json) r = r
 
-marker_read : (marker : Marker) → IsReading (member C.MARKERS) (marker_reading marker) → IsMarker marker
-marker_read (K.Known m) r = r.rest
-marker_read (K.Kept json) r = r
+-- what a value that was kept is known to be besides
+abbrev Upgrades : Reading → Type 0
+Upgrades (known fields) = Unit {0}
+Upgrades (kept json) = IsUpgraded json
 
-medium_read : (m : Media) → IsReading medium (medium_reading m) → IsMedium m
-medium_read (M.External e) r = r.rest
-medium_read (M.Missing m) r = r.rest
-medium_read (M.Generator g) r = r.rest
-medium_read (M.Sequence s) r = r.rest
-medium_read (M.Kept json) r = r
+marker_read : (marker : Marker) → IsReading (member C.MARKERS) (marker_reading marker) → Upgrades (marker_reading marker) → IsMarker marker
+marker_read (K.Known m) r u = r.rest
+marker_read (K.Kept json) r u = (r, u)
+
+medium_read : (m : Media) → IsReading medium (medium_reading m) → Upgrades (medium_reading m) → IsMedium m
+medium_read (M.External e) r u = r.rest
+medium_read (M.Missing m) r u = r.rest
+medium_read (M.Generator g) r u = r.rest
+medium_read (M.Sequence s) r u = r.rest
+medium_read (M.Kept json) r u = (r.0, r.1, u)
+
+-- each value in a list is upgraded
+abbrev AreUpgraded : List Json → Type 0
+AreUpgraded [] = Unit {0}
+AreUpgraded (json ∷ jsons) = IsUpgraded json × AreUpgraded jsons
+
+abbrev AllUpgrade : List Reading → Type 0
+AllUpgrade [] = Unit {0}
+AllUpgrade (reading ∷ readings) = Upgrades reading × AllUpgrade readings
+
+-- a value that was kept is the value that was read
+known_upgrades : (reading : Reading) (fields : Fields) → reading ≡ known fields → Upgrades reading
+known_upgrades reading fields r = subst Upgrades (sym r) tt
+
+reading_upgrades : (want : Want) (json : Json) (reading : Reading) → Gives_reading want json reading → IsUpgraded json → Upgrades reading
+reading_upgrades want json reading (W.as_child _ _ _ family fields w r g) u = known_upgrades reading fields r
+reading_upgrades want json reading (W.as_member _ _ _ family fields w r g) u = known_upgrades reading fields r
+reading_upgrades want json reading (W.as_kept _ _ _ family w r foreign) u = subst Upgrades (sym r) u
+reading_upgrades want json reading (W.as_missing _ _ _ w j r) u = known_upgrades reading (missing_fields empty_missing) r
+reading_upgrades want json reading (W.as_medium _ _ _ w some g) u = reading_upgrades (member C.MEDIA) json reading g u
+
+one_upgrades : (list : List Json) (readings : List Reading) (json : Json) (others : List Json) (reading : Reading) (behind : List Reading) → list ≡ json ∷ others → readings ≡ reading ∷ behind
+    → (IsUpgraded json → Upgrades reading) → (AreUpgraded others → AllUpgrade behind) → AreUpgraded list → AllUpgrade readings
+one_upgrades list readings json others reading behind l r here below all =
+    let parts : AreUpgraded (json ∷ others) = subst AreUpgraded l all in
+    subst AllUpgrade (sym r) (here parts.0, below parts.1)
+
+all_upgrade : (want : Want) (list : List Json) (readings : List Reading) → Gives_all want list readings → AreUpgraded list → AllUpgrade readings
+all_upgrade want list readings (W.no_more _ _ _ l r) u = subst AllUpgrade (sym r) tt
+all_upgrade want list readings (W.one_more _ _ _ json others reading behind l r h hs) u =
+    one_upgrades list readings json others reading behind l r (reading_upgrades want json reading h) (all_upgrade want others behind hs) u
 
 -- lists that were read
 items_read : (xs : List (ItemOf Listed)) → AreReadings (child C.ITEMS) (map (λ item. known (item_fields item)) xs) → AreItems xs
@@ -209,13 +254,13 @@ effects_read : (xs : List Effect) → AreReadings (member C.EFFECTS) (map effect
 effects_read [] r = tt
 effects_read (x ∷ xs) r = (effect_read x r.0, effects_read xs r.1)
 
-markers_read : (xs : List Marker) → AreReadings (member C.MARKERS) (map marker_reading xs) → AreMarkers xs
-markers_read [] r = tt
-markers_read (x ∷ xs) r = (marker_read x r.0, markers_read xs r.1)
+markers_read : (xs : List Marker) → AreReadings (member C.MARKERS) (map marker_reading xs) → AllUpgrade (map marker_reading xs) → AreMarkers xs
+markers_read [] r u = tt
+markers_read (x ∷ xs) r u = (marker_read x r.0 u.0, markers_read xs r.1 u.1)
 
-media_read : (xs : List (List ℕ × Media)) → AreReadings medium (map (λ member. medium_reading member.1) xs) → AreMedia xs
-media_read [] r = tt
-media_read (x ∷ xs) r = (medium_read x.1 r.0, media_read xs r.1)
+media_read : (xs : List (List ℕ × Media)) → AreReadings medium (map (λ member. medium_reading member.1) xs) → AllUpgrade (map (λ member. medium_reading member.1) xs) → AreMedia xs
+media_read [] r u = tt
+media_read (x ∷ xs) r u = (medium_read x.1 r.0 u.0, media_read xs r.1 u.1)
 
 content_as : (kind k : RowKind) (value : Value) → kind ≡ k → Content k value → Content kind value
 content_as kind k value e h = subst (λ (x : RowKind). Content x value) (sym e) h
@@ -311,48 +356,152 @@ no_readings want readings r = subst (AreReadings want) (sym r) tt
 more_readings : (want : Want) (readings : List Reading) (reading : Reading) (behind : List Reading) → readings ≡ reading ∷ behind → IsReading want reading → AreReadings want behind → AreReadings want readings
 more_readings want readings reading behind r h hs = subst (AreReadings want) (sym r) (h, hs)
 
+-- what is known of a value that is to be read as this: an object of its own is upgraded, and in a member of a family nothing stands inside
+abbrev Suits : Want → Json → Type 0
+Suits (child family) json = IsUpgraded json
+Suits (member family) json = all_flat family ≡ true
+Suits medium json = Unit {0}
+
+abbrev AllSuit : Want → List Json → Type 0
+AllSuit want [] = Unit {0}
+AllSuit want (json ∷ jsons) = Suits want json × AllSuit want jsons
+
+children_suit : (family : List Schema) (list : List Json) → AreUpgraded list → AllSuit (child family) list
+children_suit family [] u = tt
+children_suit family (json ∷ jsons) u = (u.0, children_suit family jsons u.1)
+
+members_suit : (family : List Schema) (list : List Json) → all_flat family ≡ true → AllSuit (member family) list
+members_suit family [] flat = tt
+members_suit family (json ∷ jsons) flat = (flat, members_suit family jsons flat)
+
+media_suit : (list : List Json) → AllSuit medium list
+media_suit [] = tt
+media_suit (json ∷ jsons) = (tt, media_suit jsons)
+
+-- the values in a list that stays are upgraded
+first_of_list : List Json → Json
+first_of_list [] = J.Null
+first_of_list (json ∷ jsons) = json
+
+rest_of_list : List Json → List Json
+rest_of_list [] = []
+rest_of_list (json ∷ jsons) = jsons
+
+items_upgraded : (list : List Json) → items_at ObjectRow list ≡ list → AreUpgraded list
+unfolding first_of_list rest_of_list
+items_upgraded [] e = tt
+items_upgraded (json ∷ jsons) e = (ap first_of_list e, items_upgraded jsons (ap rest_of_list e))
+
+list_upgraded : (json : Json) (list : List Json) → json ≡ J.List list → upgraded_at json Objects ≡ json → AreUpgraded list
+list_upgraded json list is stays =
+    let all : J.List (items_at ObjectRow list) ≡ J.List list = sym (upgraded_at-List list Objects) ∙ ap (λ (v : Json). upgraded_at v Objects) (sym is) ∙ stays ∙ is in
+    items_upgraded list (list_once (J.List (items_at ObjectRow list)) (items_at ObjectRow list) list refl all)
+
+-- and so are the values under keys that stay
+first_pair : List (List ℕ × Json) → Json
+first_pair [] = J.Null
+first_pair (m ∷ ms) = m.1
+
+rest_pairs : List (List ℕ × Json) → List (List ℕ × Json)
+rest_pairs [] = []
+rest_pairs (m ∷ ms) = ms
+
+pairs_upgraded : (form : Form) (ms : List (List ℕ × Json)) → pairs_at MediaRow form ms ≡ ms → AreUpgraded (map (λ (m : List ℕ × Json). m.1) ms)
+unfolding first_pair rest_pairs
+pairs_upgraded form [] e = tt
+pairs_upgraded form (m ∷ ms) e = (ap first_pair e, pairs_upgraded form ms (ap rest_pairs e))
+
+media_upgraded : (json : Json) (ms : List (List ℕ × Json)) → json ≡ J.Map ms → upgraded_at json MediaRow ≡ json → AreUpgraded (map (λ (m : List ℕ × Json). m.1) ms)
+media_upgraded json ms is stays =
+    let all : J.Map (map_at MediaRow ms) ≡ J.Map ms = sym (upgraded_at-Map ms MediaRow) ∙ ap (λ (v : Json). upgraded_at v MediaRow) (sym is) ∙ stays ∙ is in
+    pairs_upgraded (schema_in ms) ms (map_once (J.Map (map_at MediaRow ms)) (map_at MediaRow ms) ms refl all)
+
+stays_as : (kind k : RowKind) (json : Json) → kind ≡ k → Stays kind json → Stays k json
+stays_as kind k json e h = subst (λ (x : RowKind). Stays x json) e h
+
+suits_as : (want w : Want) (json : Json) → want ≡ w → Suits want json → Suits w json
+suits_as want w json e h = subst (λ (x : Want). Suits x json) e h
+
+-- an object of a family in whose rows nothing stands
+flat_object : (family : List Schema) (json : Json) (fields : Fields) → all_flat family ≡ true → Gives_fields family json fields → are_flat (rows_of fields.schema) ≡ true
+flat_object family json fields flat (W.fields _ _ _ members name version values object found newest rows whole still rest) = flat_among name family fields.schema flat found
+
+not_flat : (family : List Schema) (json : Json) (fields : Fields) → all_flat family ≡ true → Gives_fields family json fields → are_flat (rows_of fields.schema) ≡ false → IsUpgraded json
+not_flat family json fields flat g h = absurd (false≢true (sym h ∙ flat_object family json fields flat g))
+
+rows_as : (rows : List Row) (row : Row) (below : List Row) (members : List (List ℕ × Json)) → rows ≡ row ∷ below → RowsStay rows members → RowsStay (row ∷ below) members
+rows_as rows row below members e h = subst (λ (x : List Row). RowsStay x members) e h
+
+all_as : (want : Want) (list : List Json) (json : Json) (others : List Json) → list ≡ json ∷ others → AllSuit want list → AllSuit want (json ∷ others)
+all_as want list json others e h = subst (AllSuit want) e h
+
 mutual
-  value_content : (kind : RowKind) (json : Json) (value : Value) → Gives kind json value → Content kind value
-  value_content kind json value (W.text _ _ _ default characters k j v) = content_as kind (R.text default) value k tt
-  value_content kind json value (W.flag _ _ _ truth k j v) = content_as kind R.flag value k tt
-  value_content kind json value (W.meta _ _ _ members k j v) = content_as kind R.meta value k tt
-  value_content kind json value (W.span _ _ _ fields span k g f v) = content_as kind R.span value k tt
-  value_content kind json value (W.time _ _ _ fields rate decimal time k g f t v) = content_as kind R.time value k tt
-  value_content kind json value (W.number _ _ _ default numeral decimal speed k j s n h v) = content_as kind (R.number default) value k (speed, v, h)
-  value_content kind json value (W.rate _ _ _ numeral decimal rate k j s g v) = content_as kind R.rate value k tt
-  value_content kind json value (W.numeral _ _ _ numeral decimal k j s v) = content_as kind R.numeral value k tt
-  value_content kind json value (W.items _ _ _ list xs k j all v) =
-      content_as kind R.items value k (xs, v, items_read xs (all_content (child C.ITEMS) list (map (λ item. known (item_fields item)) xs) all))
-  value_content kind json value (W.objects _ _ _ list xs k j all v) =
-      content_as kind R.objects value k (xs, v, objects_read xs (all_content (child C.ROOTS) list (map (λ object. known (object_fields object)) xs) all))
-  value_content kind json value (W.effects _ _ _ list xs k j all v) = content_as kind R.effects value k (xs, v, effects_read xs (all_content (member C.EFFECTS) list (map effect_reading xs) all))
-  value_content kind json value (W.markers _ _ _ list xs k j all v) = content_as kind R.markers value k (xs, v, markers_read xs (all_content (member C.MARKERS) list (map marker_reading xs) all))
-  value_content kind json value (W.media _ _ _ members xs k j names all v) =
-      content_as kind R.media value k (xs, v, media_read xs (all_content medium (map (λ member. member.1) members) (map (λ member. medium_reading member.1) xs) all))
-  value_content kind json value (W.stack _ _ _ s k g v) = content_as kind R.stack value k (s, v, stack_read s (fields_content C.STACKS json (stack_fields s) g))
+  value_content : (kind : RowKind) (json : Json) (value : Value) → Gives kind json value → Stays kind json → Content kind value
+  value_content kind json value (W.text _ _ _ default characters k j v) u = content_as kind (R.text default) value k tt
+  value_content kind json value (W.flag _ _ _ truth k j v) u = content_as kind R.flag value k tt
+  value_content kind json value (W.meta _ _ _ members k j v) u = content_as kind R.meta value k tt
+  value_content kind json value (W.span _ _ _ fields span k g f v) u = content_as kind R.span value k tt
+  value_content kind json value (W.time _ _ _ fields rate decimal time k g f t v) u = content_as kind R.time value k tt
+  value_content kind json value (W.number _ _ _ default numeral decimal speed k j s n h v) u = content_as kind (R.number default) value k (speed, v, h)
+  value_content kind json value (W.rate _ _ _ numeral decimal rate k j s g v) u = content_as kind R.rate value k tt
+  value_content kind json value (W.numeral _ _ _ numeral decimal k j s v) u = content_as kind R.numeral value k tt
+  value_content kind json value (W.items _ _ _ list xs k j all v) u =
+      content_as kind R.items value k (
+        xs,
+        v,
+        items_read xs (all_content (child C.ITEMS) list (map (λ item. known (item_fields item)) xs) all (children_suit C.ITEMS list (list_upgraded json list j (stays_as kind R.items json k u)))),
+      )
+  value_content kind json value (W.objects _ _ _ list xs k j all v) u =
+      content_as kind R.objects value k (
+        xs,
+        v,
+        objects_read xs (all_content (child C.ROOTS) list (map (λ object. known (object_fields object)) xs) all (children_suit C.ROOTS list (list_upgraded json list j (stays_as kind R.objects json k u)))),
+      )
+  value_content kind json value (W.effects _ _ _ list xs k j all v) u =
+      content_as kind R.effects value k (xs, v, effects_read xs (all_content (member C.EFFECTS) list (map effect_reading xs) all (members_suit C.EFFECTS list refl)))
+  value_content kind json value (W.markers _ _ _ list xs k j all v) u =
+      content_as kind R.markers value k (
+        xs,
+        v,
+        markers_read xs (all_content (member C.MARKERS) list (map marker_reading xs) all (members_suit C.MARKERS list refl))
+            (all_upgrade (member C.MARKERS) list (map marker_reading xs) all (list_upgraded json list j (stays_as kind R.markers json k u))),
+      )
+  value_content kind json value (W.media _ _ _ members xs k j names all v) u =
+      content_as kind R.media value k (
+        xs,
+        v,
+        media_read xs (all_content medium (map (λ member. member.1) members) (map (λ member. medium_reading member.1) xs) all (media_suit (map (λ member. member.1) members)))
+            (all_upgrade medium (map (λ member. member.1) members) (map (λ member. medium_reading member.1) xs) all (media_upgraded json members j (stays_as kind R.media json k u))),
+      )
+  value_content kind json value (W.stack _ _ _ s k g v) u =
+      content_as kind R.stack value k (s, v, stack_read s (fields_content C.STACKS json (stack_fields s) g (λ _. stays_as kind R.stack json k u)))
 
-  row_content : (row : Row) (members : List (List ℕ × Json)) (value : Value) → Gives_row row members value → Content row.kind value
-  row_content row members value (W.present _ _ _ json there g) = value_content row.kind json value g
-  row_content row members value (W.absent _ _ _ nothing v) = absent_content row value v
+  row_content : (row : Row) (members : List (List ℕ × Json)) (value : Value) → Gives_row row members value → ((json : Json) → value_of row.name members ≡ Some json → Stays row.kind json) → Content row.kind value
+  row_content row members value (W.present _ _ _ json there g) u = value_content row.kind json value g (u json there.0)
+  row_content row members value (W.absent _ _ _ nothing v) u = absent_content row value v
 
-  rows_content : (rows : List Row) (members : List (List ℕ × Json)) (values : List Value) → Gives_rows rows members values → Contents rows values
-  rows_content rows members values (W.no_rows _ _ _ r v) = no_contents rows values r
-  rows_content rows members values (W.more_rows _ _ _ row below value behind r v h hs) = more_contents rows values row below value behind r v (row_content row members value h) (rows_content below members behind hs)
+  rows_content : (rows : List Row) (members : List (List ℕ × Json)) (values : List Value) → Gives_rows rows members values → RowsStay rows members → Contents rows values
+  rows_content rows members values (W.no_rows _ _ _ r v) u = no_contents rows values r
+  rows_content rows members values (W.more_rows _ _ _ row below value behind r v h hs) u =
+      more_contents rows values row below value behind r v (row_content row members value h (rows_as rows row below members r u).0) (rows_content below members behind hs (rows_as rows row below members r u).1)
 
-  fields_content : (family : List Schema) (json : Json) (fields : Fields) → Gives_fields family json fields → IsRead fields
-  fields_content family json fields (W.fields _ _ _ members name version values object found newest rows whole still rest) =
-      fields_read fields members values (rows_content (rows_of fields.schema) members values rows) whole still rest
+  fields_content : (family : List Schema) (json : Json) (fields : Fields) → Gives_fields family json fields → (are_flat (rows_of fields.schema) ≡ false → IsUpgraded json) → IsRead fields
+  fields_content family json fields (W.fields _ _ _ members name version values object found newest rows whole still rest) u =
+      fields_read fields members values
+      (rows_content (rows_of fields.schema) members values rows (rows_stay json members name version fields.schema object (named_name name family fields.schema found) u)) whole still rest
 
-  reading_content : (want : Want) (json : Json) (reading : Reading) → Gives_reading want json reading → IsReading want reading
-  reading_content want json reading (W.as_child _ _ _ family fields w r g) = known_read want reading fields r (fields_content family json fields g)
-  reading_content want json reading (W.as_member _ _ _ family fields w r g) = known_read want reading fields r (fields_content family json fields g)
-  reading_content want json reading (W.as_kept _ _ _ family w r foreign) = kept_read want json reading family w r foreign
-  reading_content want json reading (W.as_missing _ _ _ w j r) = known_read want reading (missing_fields empty_missing) r missing_read
-  reading_content want json reading (W.as_medium _ _ _ w some g) = medium_as want json reading w some g (reading_content (member C.MEDIA) json reading g)
+  reading_content : (want : Want) (json : Json) (reading : Reading) → Gives_reading want json reading → Suits want json → IsReading want reading
+  reading_content want json reading (W.as_child _ _ _ family fields w r g) u = known_read want reading fields r (fields_content family json fields g (λ _. suits_as want (child family) json w u))
+  reading_content want json reading (W.as_member _ _ _ family fields w r g) u =
+      known_read want reading fields r (fields_content family json fields g (not_flat family json fields (suits_as want (member family) json w u) g))
+  reading_content want json reading (W.as_kept _ _ _ family w r foreign) u = kept_read want json reading family w r foreign
+  reading_content want json reading (W.as_missing _ _ _ w j r) u = known_read want reading (missing_fields empty_missing) r missing_read
+  reading_content want json reading (W.as_medium _ _ _ w some g) u = medium_as want json reading w some g (reading_content (member C.MEDIA) json reading g refl)
 
-  all_content : (want : Want) (list : List Json) (readings : List Reading) → Gives_all want list readings → AreReadings want readings
-  all_content want list readings (W.no_more _ _ _ l r) = no_readings want readings r
-  all_content want list readings (W.one_more _ _ _ json others reading behind l r h hs) = more_readings want readings reading behind r (reading_content want json reading h) (all_content want others behind hs)
+  all_content : (want : Want) (list : List Json) (readings : List Reading) → Gives_all want list readings → AllSuit want list → AreReadings want readings
+  all_content want list readings (W.no_more _ _ _ l r) u = no_readings want readings r
+  all_content want list readings (W.one_more _ _ _ json others reading behind l r h hs) u =
+      more_readings want readings reading behind r (reading_content want json reading h (all_as want list json others l u).0) (all_content want others behind hs (all_as want list json others l u).1)
 
-pub read_is_writable : (json : Json) (object : Object) → Stands json object → IsObject object
-read_is_writable json object h = object_read object (fields_content C.ROOTS json (object_fields object) h)
+pub read_is_writable : (json : Json) (object : Object) → IsUpgraded json → Stands json object → IsObject object
+read_is_writable json object u h = object_read object (fields_content C.ROOTS json (object_fields object) h (λ _. u))

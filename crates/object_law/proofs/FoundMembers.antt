@@ -35,10 +35,10 @@ or_left : (a b : Bool) → a ≡ true → (a || b) ≡ true
 or_left true b h = refl
 or_left false b h = absurd (false≢true h)
 
-self_name : (n : List ℕ) → bytes_eq n n ≡ true
+pub self_name : (n : List ℕ) → bytes_eq n n ≡ true
 self_name n = (bytes_eq-Decides n n).1 refl
 
-differs : (a b : List ℕ) → a ≢ b → bytes_eq a b ≡ false
+pub differs : (a b : List ℕ) → a ≢ b → bytes_eq a b ≡ false
 differs a b other = by (bytes_eq a b) refl
   where
     by : (t : Bool) → bytes_eq a b ≡ t → bytes_eq a b ≡ false
@@ -60,10 +60,10 @@ first_row row rows = or_left (bytes_eq row.name row.name) (is_row rows row.name)
 first_value : (n : List ℕ) (json : Json) (rest : List (List ℕ × Json)) → value_of n ((n, json) ∷ rest) ≡ Some json
 first_value n json rest = rw (self_name n) refl
 
-later_value : (name n : List ℕ) (json : Json) (rest : List (List ℕ × Json)) → bytes_eq name n ≡ false → value_of name ((n, json) ∷ rest) ≡ value_of name rest
+pub later_value : (name n : List ℕ) (json : Json) (rest : List (List ℕ × Json)) → bytes_eq name n ≡ false → value_of name ((n, json) ∷ rest) ≡ value_of name rest
 later_value name n json rest e = rw e refl
 
-row_stands : (row : Row) (members : List (List ℕ × Json)) (json : Json) (value : Value) → value_of row.name members ≡ Some json → Holds row json value → Gives_row row members value
+pub row_stands : (row : Row) (members : List (List ℕ × Json)) (json : Json) (value : Value) → value_of row.name members ≡ Some json → Holds row json value → Gives_row row members value
 row_stands row members json value at (given some g) = W.present row members value json (at, some) g
 row_stands row members json value at (left_out null v) = W.absent row members value (inr (at ∙ ap Some null)) v
 
@@ -84,7 +84,7 @@ pub not_schema : (name : List ℕ) (rows : List Row) (text : Json) (rest : List 
     → value_of name ((schema_key, text) ∷ rest) ≡ value_of name rest
 not_schema name rows text rest d h = later_value name schema_key text rest (apart_name schema_key name rows d.0 h)
 
-others_drop : (rows : List Row) (m : List ℕ × Json) (ms : List (List ℕ × Json)) → fixed rows m.0 ≡ true → others rows (m ∷ ms) ≡ others rows ms
+pub others_drop : (rows : List Row) (m : List ℕ × Json) (ms : List (List ℕ × Json)) → fixed rows m.0 ≡ true → others rows (m ∷ ms) ≡ others rows ms
 others_drop rows m ms e = rw e refl
 
 others_keep : (rows : List Row) (m : List ℕ × Json) (ms : List (List ℕ × Json)) → fixed rows m.0 ≡ false → others rows (m ∷ ms) ≡ m ∷ others rows ms

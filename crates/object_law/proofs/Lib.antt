@@ -23,3 +23,9 @@ pub mod StillSpeeds
 pub mod Writables
 pub mod Contents
 pub mod PatchedTimelines
+pub mod OldMembers
+pub mod OldClips
+pub mod OldWritten
+pub mod SchemaForms
+pub mod UpgradedMembers
+pub mod OneOldFault

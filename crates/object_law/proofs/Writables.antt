@@ -1,4 +1,4 @@
--- What is written of a writable object stands for it.
+-- What is written of a writable object reads back as that object.
 use Rattle.std.proofs.Common.{◌≡◌, ℕ, ℤ, pos, Bool, true, false, ◌||◌, List, [], ◌∷◌, map, Option, Some, None, refl, sym, ap, subst, arith}
 use Rattle.std.specs.Prelude.{codes}
 use Rattle.std.specs.List.{list_any}
@@ -39,7 +39,7 @@ use Rattle.otio_model.specs.Misplaced.{side_by_side, is_negative}
 use Rattle.schema_rows.specs.Families.{child, member, medium}
 use Rattle.schema_rows.specs.Stands as W
 use Rattle.schema_rows.specs.Stands.{Gives_fields, Gives_reading, Gives_all, Stands}
-use Rattle.schema_write.specs.Objects.{span_json, offset_json, range_json, time_json, effect_json, effects_json, marker_json, markers_json, medium_json, medium_pair, media_json, clip_json, gap_json, transition_json, stack_by, track_by, children_json, item_json, json_of}
+use Rattle.schema_write.specs.Objects.{span_json, offset_json, range_json, time_json, effect_json, effects_json, marker_json, markers_json, medium_json, medium_pair, media_json, newer, clip_json, gap_in, transition_json, stack_by, track_by, children_json, item_json, json_of}
 use Rattle.schema_write.specs.Tables.{fields_json}
 use Rattle.schema_write.specs.Texts.{decimal_text}
 use Rattle.schema_write.specs.Written.{written}
@@ -52,15 +52,15 @@ use Rattle.object_law.proofs.NamedSchemas.{written_stands}
 use Rattle.object_law.proofs.Leaves.{map_not_null, num_not_null, number_gives, time_gives, span_gives}
 use Rattle.object_law.proofs.HeldValues.{list_not_null, held_as, meta_held, text_held, flag_held}
 
-span_held : (row : Row) (span : Option Span) → row.kind ≡ R.span → row.need ≡ false → Holds row (span_json span) (V.Span span)
+pub span_held : (row : Row) (span : Option Span) → row.kind ≡ R.span → row.need ≡ false → Holds row (span_json span) (V.Span span)
 span_held row None k n = left_out refl (rw (n, k) refl)
 span_held row (Some span) k n = held_as row R.span (range_json span) (V.Span (Some span)) k (map_not_null _) (span_gives span)
 
-offset_held : (row : Row) (offset : Option Time) → row.kind ≡ R.time → row.need ≡ false → Holds row (offset_json offset) (V.Time offset)
+pub offset_held : (row : Row) (offset : Option Time) → row.kind ≡ R.time → row.need ≡ false → Holds row (offset_json offset) (V.Time offset)
 offset_held row None k n = left_out refl (rw (n, k) refl)
 offset_held row (Some time) k n = held_as row R.time (time_json time) (V.Time (Some time)) k (map_not_null _) (time_gives time)
 
-speed_held : (row : Row) (default n : ℤ) → row.kind ≡ R.number default → IsSpeed n → Holds row (J.Num (decimal_text n)) (V.Number n)
+pub speed_held : (row : Row) (default n : ℤ) → row.kind ≡ R.number default → IsSpeed n → Holds row (J.Num (decimal_text n)) (V.Number n)
 speed_held row default n k h = held_as row (R.number default) (J.Num (decimal_text n)) (V.Number n) k (num_not_null _) (number_gives default n h)
 
 zero_speed : IsSpeed (pos 0)
@@ -82,7 +82,7 @@ plain_given false metadata rest name effect_name o =
     (meta_held _ metadata refl, (text_held _ [] name refl, (text_held _ [] effect_name refl, tt))) refl refl o
 
 -- effects, markers and media as they are written
-effect_given : (effect : Effect) → IsEffect effect → Gives_reading (member C.EFFECTS) (effect_json effect) (effect_reading effect)
+pub effect_given : (effect : Effect) → IsEffect effect → Gives_reading (member C.EFFECTS) (effect_json effect) (effect_reading effect)
 effect_given (E.Warp w) h = W.as_member (member C.EFFECTS) _ _ C.EFFECTS (warp_fields w) refl refl
     (written_stands C.EFFECTS S.Warp (J.Map w.metadata ∷ J.Str w.name ∷ J.Str w.effect_name ∷ J.Num (decimal_text w.time_scalar) ∷ []) (V.Meta w.metadata ∷ V.Text w.name ∷ V.Text w.effect_name ∷ V.Number w.time_scalar ∷ []) w.rest refl
     (meta_held _ w.metadata refl, (text_held _ [] w.name refl, (text_held _ [] w.effect_name refl, (speed_held _ (pos 1000000) w.time_scalar refl h.0, tt)))) refl refl h.1)
@@ -98,26 +98,26 @@ effects_given [] h = W.no_more (member C.EFFECTS) [] [] refl refl
 effects_given (effect ∷ effects) h =
     W.one_more (member C.EFFECTS) _ _ (effect_json effect) (map effect_json effects) (effect_reading effect) (map effect_reading effects) refl refl (effect_given effect h.0) (effects_given effects h.1)
 
-effects_held : (row : Row) (effects : List Effect) → row.kind ≡ R.effects → AreEffects effects → Holds row (effects_json effects) (V.Effects effects)
+pub effects_held : (row : Row) (effects : List Effect) → row.kind ≡ R.effects → AreEffects effects → Holds row (effects_json effects) (V.Effects effects)
 effects_held row effects k h = held_as row R.effects (effects_json effects) (V.Effects effects) k (list_not_null _)
     (W.effects R.effects (effects_json effects) (V.Effects effects) (map effect_json effects) effects refl refl (effects_given effects h) refl)
 
-marker_given : (marker : Marker) → IsMarker marker → Gives_reading (member C.MARKERS) (marker_json marker) (marker_reading marker)
+pub marker_given : (marker : Marker) → IsMarker marker → Gives_reading (member C.MARKERS) (marker_json marker) (marker_reading marker)
 marker_given (K.Known m) h = W.as_member (member C.MARKERS) _ _ C.MARKERS (mark_fields m) refl refl
     (written_stands C.MARKERS S.Marker (J.Map m.metadata ∷ J.Str m.name ∷ span_json m.marked_range ∷ []) (V.Meta m.metadata ∷ V.Text m.name ∷ V.Span m.marked_range ∷ []) m.rest refl
     (meta_held _ m.metadata refl, (text_held _ [] m.name refl, (span_held _ m.marked_range refl refl, tt))) refl refl h)
-marker_given (K.Kept json) h = W.as_kept (member C.MARKERS) json (kept json) C.MARKERS refl refl h
+marker_given (K.Kept json) h = W.as_kept (member C.MARKERS) json (kept json) C.MARKERS refl refl h.0
 
-markers_given : (markers : List Marker) → AreMarkers markers → Gives_all (member C.MARKERS) (map marker_json markers) (map marker_reading markers)
+pub markers_given : (markers : List Marker) → AreMarkers markers → Gives_all (member C.MARKERS) (map marker_json markers) (map marker_reading markers)
 markers_given [] h = W.no_more (member C.MARKERS) [] [] refl refl
 markers_given (marker ∷ markers) h =
     W.one_more (member C.MARKERS) _ _ (marker_json marker) (map marker_json markers) (marker_reading marker) (map marker_reading markers) refl refl (marker_given marker h.0) (markers_given markers h.1)
 
-markers_held : (row : Row) (markers : List Marker) → row.kind ≡ R.markers → AreMarkers markers → Holds row (markers_json markers) (V.Markers markers)
+pub markers_held : (row : Row) (markers : List Marker) → row.kind ≡ R.markers → AreMarkers markers → Holds row (markers_json markers) (V.Markers markers)
 markers_held row markers k h = held_as row R.markers (markers_json markers) (V.Markers markers) k (list_not_null _)
     (W.markers R.markers (markers_json markers) (V.Markers markers) (map marker_json markers) markers refl refl (markers_given markers h) refl)
 
-medium_given : (m : Media) → IsMedium m → Gives_reading medium (medium_json m) (medium_reading m)
+pub medium_given : (m : Media) → IsMedium m → Gives_reading medium (medium_json m) (medium_reading m)
 medium_given (M.External e) h = W.as_medium medium _ _ refl (map_not_null _) (W.as_member (member C.MEDIA) _ _ C.MEDIA (external_fields e) refl refl
     (written_stands C.MEDIA S.External (J.Map e.metadata ∷ J.Str e.name ∷ span_json e.available_range ∷ J.Str e.target_url ∷ []) (V.Meta e.metadata ∷ V.Text e.name ∷ V.Span e.available_range ∷ V.Text e.target_url ∷ []) e.rest refl
     (meta_held _ e.metadata refl, (text_held _ [] e.name refl, (span_held _ e.available_range refl refl, (text_held _ [] e.target_url refl, tt)))) refl refl h))
@@ -138,7 +138,7 @@ media_given [] h = W.no_more medium [] [] refl refl
 media_given (m ∷ media) h =
     W.one_more medium _ _ (medium_json m.1) (map (λ (m : List ℕ × Json). m.1) (map medium_pair media)) (medium_reading m.1) (map (λ m. medium_reading m.1) media) refl refl (medium_given m.1 h.0) (media_given media h.1)
 
-media_held : (row : Row) (media : List (List ℕ × Media)) → row.kind ≡ R.media → AreMedia media → Holds row (media_json media) (V.Media media)
+pub media_held : (row : Row) (media : List (List ℕ × Media)) → row.kind ≡ R.media → AreMedia media → Holds row (media_json media) (V.Media media)
 media_held row media k h = held_as row R.media (media_json media) (V.Media media) k (map_not_null _)
     (W.media R.media (media_json media) (V.Media media) (map medium_pair media) media refl refl (media_names media) (media_given media h) refl)
 
@@ -146,14 +146,14 @@ media_held row media k h = held_as row R.media (media_json media) (V.Media media
 abbrev AreGiven : List (ItemOf Listed) → Type 0
 AreGiven items = Gives_all (child C.ITEMS) (map item_json items) (map (λ item. known (item_fields item)) items)
 
-items_held : (row : Row) (items : List (ItemOf Listed)) → row.kind ≡ R.items → AreGiven items → Holds row (J.List (map item_json items)) (V.Items items)
+pub items_held : (row : Row) (items : List (ItemOf Listed)) → row.kind ≡ R.items → AreGiven items → Holds row (J.List (map item_json items)) (V.Items items)
 items_held row items k h = held_as row R.items (J.List (map item_json items)) (V.Items items) k (list_not_null _)
     (W.items R.items (J.List (map item_json items)) (V.Items items) (map item_json items) items refl refl h refl)
 
-or_none : (a : Bool) → a ≡ false → (a || false) ≡ false
+pub or_none : (a : Bool) → a ≡ false → (a || false) ≡ false
 or_none a e = rw e refl
 
-or_nones : (a b : Bool) → a ≡ false → b ≡ false → (a || (b || false)) ≡ false
+pub or_nones : (a b : Bool) → a ≡ false → b ≡ false → (a || (b || false)) ≡ false
 or_nones a b e f = rw (e, f) refl
 
 clip_given : (family : List Schema) → named (name_of S.Clip) family ≡ Some S.Clip → (c : Clip) → IsClip c → Gives_fields family (clip_json c) (clip_fields c)
@@ -180,14 +180,14 @@ clip_given family found c h =
       ),
     ) refl refl h.0
 
-gap_given : (family : List Schema) → named (name_of S.Gap) family ≡ Some S.Gap → (g : Gap) → IsGap g → Gives_fields family (gap_json g) (gap_fields g)
+pub gap_given : (family : List Schema) → named (name_of S.Gap) family ≡ Some S.Gap → (g : Gap) → IsGap g → Gives_fields family (gap_in newer g) (gap_fields g)
 gap_given family found g h =
     written_stands family S.Gap
     (J.Map g.metadata ∷ J.Str g.name ∷ span_json g.source_range ∷ effects_json g.effects ∷ markers_json g.markers ∷ J.Bool g.enabled ∷ [])
     (V.Meta g.metadata ∷ V.Text g.name ∷ V.Span g.source_range ∷ V.Effects g.effects ∷ V.Markers g.markers ∷ V.Flag g.enabled ∷ []) g.rest found
     (meta_held _ g.metadata refl, (text_held _ [] g.name refl, (span_held _ g.source_range refl refl, (effects_held _ g.effects refl h.1, (markers_held _ g.markers refl h.2, (flag_held _ g.enabled refl, tt)))))) refl refl h.0
 
-transition_given : (family : List Schema) → named (name_of S.Transition) family ≡ Some S.Transition → (t : Transition) → IsTransition t → Gives_fields family (transition_json t) (transition_fields t)
+pub transition_given : (family : List Schema) → named (name_of S.Transition) family ≡ Some S.Transition → (t : Transition) → IsTransition t → Gives_fields family (transition_json t) (transition_fields t)
 transition_given family found t h =
     written_stands family S.Transition
     (J.Map t.metadata ∷ J.Str t.name ∷ J.Str t.transition_type ∷ offset_json t.in_offset ∷ offset_json t.out_offset ∷ [])
@@ -196,7 +196,7 @@ transition_given family found t h =
     (or_nones (is_negative t.in_offset) (is_negative t.out_offset) h.1 h.2) refl h.0
 
 stack_given : (family : List Schema) → named (name_of S.Stack) family ≡ Some S.Stack → (s : StackOf Listed) → AreOthers S.Stack s.rest → AreEffects s.effects → AreMarkers s.markers
-    → list_any is_transition (items_of s.children) ≡ false → AreGiven (items_of s.children) → Gives_fields family (stack_by children_json s) (stack_fields s)
+    → list_any is_transition (items_of s.children) ≡ false → AreGiven (items_of s.children) → Gives_fields family (stack_by newer children_json s) (stack_fields s)
 stack_given family found s o effects markers none items =
     let stands : Gives_fields family (fields_json (stack_fields s)) (stack_fields s) =
     written_stands family S.Stack
@@ -223,7 +223,7 @@ stack_given family found s o effects markers none items =
     subst (λ (json : Json). Gives_fields family json (stack_fields s)) (sym (stack_tabled s)) stands
 
 track_given : (family : List Schema) → named (name_of S.Track) family ≡ Some S.Track → (t : TrackOf Listed) → AreOthers S.Track t.rest → AreEffects t.effects → AreMarkers t.markers
-    → side_by_side (items_of t.children) ≡ false → AreGiven (items_of t.children) → Gives_fields family (track_by children_json t) (track_fields t)
+    → side_by_side (items_of t.children) ≡ false → AreGiven (items_of t.children) → Gives_fields family (track_by newer children_json t) (track_fields t)
 track_given family found t o effects markers none items =
     let stands : Gives_fields family (fields_json (track_fields t)) (track_fields t) =
     written_stands family S.Track
@@ -250,17 +250,17 @@ track_given family found t o effects markers none items =
     subst (λ (json : Json). Gives_fields family json (track_fields t)) (sym (track_tabled t)) stands
 
 -- a family that has the schemas of items
-record HasItems (family : List Schema) : Type 0 where
-  clip : named (name_of S.Clip) family ≡ Some S.Clip
-  gap : named (name_of S.Gap) family ≡ Some S.Gap
-  transition : named (name_of S.Transition) family ≡ Some S.Transition
-  stack : named (name_of S.Stack) family ≡ Some S.Stack
-  track : named (name_of S.Track) family ≡ Some S.Track
+pub record HasItems (family : List Schema) : Type 0 where
+  pub clip : named (name_of S.Clip) family ≡ Some S.Clip
+  pub gap : named (name_of S.Gap) family ≡ Some S.Gap
+  pub transition : named (name_of S.Transition) family ≡ Some S.Transition
+  pub stack : named (name_of S.Stack) family ≡ Some S.Stack
+  pub track : named (name_of S.Track) family ≡ Some S.Track
 
-among_items : HasItems C.ITEMS
+pub among_items : HasItems C.ITEMS
 among_items = record { clip = refl; gap = refl; transition = refl; stack = refl; track = refl }
 
-among_roots : HasItems C.ROOTS
+pub among_roots : HasItems C.ROOTS
 among_roots = record { clip = refl; gap = refl; transition = refl; stack = refl; track = refl }
 
 item_as : (family : List Schema) (item i : ItemOf Listed) → item ≡ i → Gives_fields family (item_json i) (item_fields i) → Gives_fields family (item_json item) (item_fields item)
@@ -282,23 +282,23 @@ mutual
   item_given item (Q.stack _ s e h) family has = item_as family item (I.Stack s) e (stack_whole s h family has.stack)
   item_given item (Q.track _ t e h) family has = item_as family item (I.Track t) e (track_whole t h family has.track)
 
-  stack_whole : (s : StackOf Listed) → IsStack s → (family : List Schema) → named (name_of S.Stack) family ≡ Some S.Stack → Gives_fields family (stack_by children_json s) (stack_fields s)
+  stack_whole : (s : StackOf Listed) → IsStack s → (family : List Schema) → named (name_of S.Stack) family ≡ Some S.Stack → Gives_fields family (stack_by newer children_json s) (stack_fields s)
   stack_whole s (Q.stack_of _ o effects markers none items) family found = stack_given family found s o effects markers none (items_given (items_of s.children) items)
 
-  track_whole : (t : TrackOf Listed) → IsTrack t → (family : List Schema) → named (name_of S.Track) family ≡ Some S.Track → Gives_fields family (track_by children_json t) (track_fields t)
+  track_whole : (t : TrackOf Listed) → IsTrack t → (family : List Schema) → named (name_of S.Track) family ≡ Some S.Track → Gives_fields family (track_by newer children_json t) (track_fields t)
   track_whole t (Q.track_of _ o effects markers none items) family found = track_given family found t o effects markers none (items_given (items_of t.children) items)
 
   items_given : (items : List (ItemOf Listed)) → AreItems items → AreGiven items
   items_given items (Q.no_items _ e) = none_given items e
   items_given items (Q.more_items _ item behind e h hs) = more_given items item behind e (item_given item h C.ITEMS among_items) (items_given behind hs)
 
-stack_held : (row : Row) (s : StackOf Listed) → row.kind ≡ R.stack → IsStack s → Holds row (stack_by children_json s) (V.Stack s)
-stack_held row s k h = held_as row R.stack (stack_by children_json s) (V.Stack s) k (map_not_null _)
-    (W.stack R.stack (stack_by children_json s) (V.Stack s) s refl (stack_whole s h C.STACKS refl) refl)
+stack_held : (row : Row) (s : StackOf Listed) → row.kind ≡ R.stack → IsStack s → Holds row (stack_by newer children_json s) (V.Stack s)
+stack_held row s k h = held_as row R.stack (stack_by newer children_json s) (V.Stack s) k (map_not_null _)
+    (W.stack R.stack (stack_by newer children_json s) (V.Stack s) s refl (stack_whole s h C.STACKS refl) refl)
 
 timeline_given : (t : Timeline) → IsTimeline t → Gives_fields C.ROOTS (fields_json (timeline_fields t)) (timeline_fields t)
 timeline_given t h =
-    written_stands C.ROOTS S.Timeline (J.Map t.metadata ∷ J.Str t.name ∷ offset_json t.global_start_time ∷ stack_by children_json t.tracks ∷ [])
+    written_stands C.ROOTS S.Timeline (J.Map t.metadata ∷ J.Str t.name ∷ offset_json t.global_start_time ∷ stack_by newer children_json t.tracks ∷ [])
     (V.Meta t.metadata ∷ V.Text t.name ∷ V.Time t.global_start_time ∷ V.Stack t.tracks ∷ []) t.rest refl
     (meta_held _ t.metadata refl, (text_held _ [] t.name refl, (offset_held _ t.global_start_time refl refl, (stack_held _ t.tracks refl h.1, tt)))) refl refl h.0
 

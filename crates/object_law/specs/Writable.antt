@@ -1,6 +1,6 @@
 -- Objects that are written so that they are read again: other members have no row's name, values
--- that are kept are none of the schemas of their place, speeds are speeds, and transitions stand
--- where they may.
+-- that are kept are none of the schemas of their place and are upgraded, speeds are speeds, and
+-- transitions stand where they may.
 use Rattle.std.specs.Prelude.{◌≡◌, ◌≢◌, ℕ, pos, false, List, [], ◌∷◌}
 use Rattle.std.specs.List.{list_any}
 use Rattle.json_value.specs.declared.Json.{Json}
@@ -32,6 +32,11 @@ use Rattle.schema_rows.specs.Schemas.{rows_of, IsForeign}
 use Rattle.schema_rows.specs.Readings.{plain_schema}
 use Rattle.otio_model.specs.Misplaced.{side_by_side, is_negative}
 use Rattle.schema_rows.specs.Families.{others}
+use Rattle.schema_rows.specs.Upgrades.{upgraded}
+
+-- an upgrade leaves the value as it is: no old name or version is left in it
+abbrev pub IsUpgraded : Json → Type 0
+IsUpgraded json = upgraded json ≡ json
 
 -- none of the members has the name of a row of the schema, or that of the schema's member
 abbrev pub AreOthers : Schema → List (List ℕ × Json) → Type 0
@@ -48,22 +53,22 @@ abbrev pub AreEffects : List Effect → Type 0
 AreEffects [] = Unit {0}
 AreEffects (effect ∷ effects) = IsEffect effect × AreEffects effects
 
--- a marker that was kept is none of the schema of markers
+-- a marker that was kept is none of the schema of markers, and upgraded
 abbrev pub IsMarker : Marker → Type 0
 IsMarker (K.Known m) = AreOthers S.Marker m.rest
-IsMarker (K.Kept json) = IsForeign C.MARKERS json
+IsMarker (K.Kept json) = IsForeign C.MARKERS json × IsUpgraded json
 
 abbrev pub AreMarkers : List Marker → Type 0
 AreMarkers [] = Unit {0}
 AreMarkers (marker ∷ markers) = IsMarker marker × AreMarkers markers
 
--- a medium that was kept is none of the schemas of media, nor null
+-- a medium that was kept is none of the schemas of media, nor null, and upgraded
 abbrev pub IsMedium : Media → Type 0
 IsMedium (M.External e) = AreOthers S.External e.rest
 IsMedium (M.Missing m) = AreOthers S.Missing m.rest
 IsMedium (M.Generator g) = AreOthers S.Generator g.rest
 IsMedium (M.Sequence s) = AreOthers S.Images s.rest
-IsMedium (M.Kept json) = (json ≢ Null) × IsForeign C.MEDIA json
+IsMedium (M.Kept json) = (json ≢ Null) × IsForeign C.MEDIA json × IsUpgraded json
 
 abbrev pub AreMedia : List (List ℕ × Media) → Type 0
 AreMedia [] = Unit {0}

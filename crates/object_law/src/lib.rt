@@ -1,12 +1,12 @@
 //! A JSON value stands for at most one object, or has one first fault, and never both; and what is
-//! written of an object that was read stands for it.
+//! written of an object that was read reads back as that object.
 //!
 //! `specs/Writable.antt` says which objects are written so that they are read again. Each object
 //! that was read is one, and patches keep timelines so.
 #![tactic(auto)]
 
 ghost use Rattle.object_law.specs.One.{HasOneCount, HasOneFault, IsNeverBoth, StandsForOne};
-ghost use Rattle.object_law.specs.Law.{PatchedIsWritable, ReadIsWritable, WritableIsRead, WrittenIsRead};
+ghost use Rattle.object_law.specs.Law.{OldIsRead, PatchedIsWritable, ReadIsWritable, WritableIsRead, WrittenIsRead};
 
 /// Law: a JSON value stands for at most one object by the tables of the schemas, the memory that
 /// timelines keep to spare being set aside; it has at most one first fault; and it has none where
@@ -18,12 +18,14 @@ pub fn one_answer()
     ensures apart { IsNeverBoth }
 {}
 
-/// Law: an object that some JSON value stands for is writable; what is written of a writable object
-/// stands for it; so what is written of an object that was read stands for that object too. It does
-/// nothing.
+/// Law: an object that was read from an upgraded value is writable; what is written of a writable
+/// object reads back as that object, and so does what is written of it in the older family
+/// (`Clip.1`, `Marker.1`), where it has a form there, once that is upgraded; so what is written of
+/// an object that was read reads back as it. It does nothing.
 pub fn written_is_read()
     ensures writable { ReadIsWritable }
     ensures read { WritableIsRead }
+    ensures older { OldIsRead }
     ensures again { WrittenIsRead }
 {}
 

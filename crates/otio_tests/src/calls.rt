@@ -3,7 +3,7 @@
 ghost use Rattle.std.specs.Prelude.{IfSome};
 ghost use Rattle.schema_rows.specs.Numerals.{HasNumerals};
 
-use json_law::read_has_numerals;
+use json_law::{read_has_numerals, upgraded_stays};
 use json_text::JsonReader;
 use json_value::Json;
 use object_law::{one_answer, patched_is_writable, written_is_read};
@@ -79,6 +79,7 @@ fn each_row_has_a_value(rt: HostRuntime) {
 #[test]
 fn laws_do_nothing(_rt: HostRuntime) {
     names_are_distinct();
+    upgraded_stays();
     written_by_tables();
     texts_are_read();
     written_is_read();

@@ -1,5 +1,6 @@
-//! Tests that cross crates: command lines over files in memory, with what they send and tell, and
-//! calls that no other crate of the program makes. There is nothing here but tests.
+//! Tests that cross crates: command lines over files in memory, with their output and messages,
+//! calls that no other crate of the program makes, and three callers of the library. There is
+//! nothing here but tests.
 #![tactic(auto)]
 
 #[cfg(test)]
@@ -11,15 +12,23 @@ mod device_tests;
 #[cfg(test)]
 mod drill_tests;
 #[cfg(test)]
+mod family_tests;
+#[cfg(test)]
 mod frame_tests;
+#[cfg(test)]
+mod library_callers;
 #[cfg(test)]
 mod limit_tests;
 #[cfg(test)]
 mod list_tests;
 #[cfg(test)]
+mod log_tests;
+#[cfg(test)]
 mod object_tests;
 #[cfg(test)]
 mod pieces_tests;
+#[cfg(test)]
+mod pull_tests;
 #[cfg(test)]
 mod run_tests;
 #[cfg(test)]

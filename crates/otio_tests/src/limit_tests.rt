@@ -565,3 +565,15 @@ fn a_longer_script_is_refused(rt: HostRuntime) -> Result<(), Fail> {
     let large: Case = (line, Status::Refused, b"", b"otio: f: P4 Large\n");
     check_full(&rt, rt.alloc(), b'\n', MOST + 1, &large)
 }
+
+#[test]
+fn a_log_of_32_mebibytes_is_read(rt: HostRuntime) -> Result<(), Fail> {
+    let read: Case = ("media f", Status::Refused, b"", b"otio: f: A1 Form at 2\n");
+    check_full(&rt, rt.alloc(), b' ', MOST, &read)
+}
+
+#[test]
+fn a_longer_log_is_refused(rt: HostRuntime) -> Result<(), Fail> {
+    let large: Case = ("media f", Status::Refused, b"", b"otio: f: A4 Large\n");
+    check_full(&rt, rt.alloc(), b'\n', MOST + 1, &large)
+}

@@ -2,12 +2,12 @@
 //! for none.
 
 use crate::runs::{Case, Manner, WHOLE, answer_to, check_case_over, ended, put_text, was_sent};
-use crate::texts::{REFUSED, REWRITTEN};
+use crate::texts::{OLDER, REFUSED, REWRITTEN};
 use dev_io::{MemFiles, MemOut};
 use json_text::write_json;
 use otio_model::Object;
 use otio_tools::Status;
-use schema_write::json_of;
+use schema_write::{FamilyFault, json_of, json_of_old};
 use source_files::{Content, Kind, Source, read_source};
 use std::alloc::{AllocError, Global};
 use std::mem::forget;
@@ -15,7 +15,7 @@ use std::process::Abort;
 use std::test::Fail;
 
 /// Whether bytes are those of a text, blanks and line feeds aside.
-fn is_squeezed(bytes: &[u8], text: &[u8]) -> bool {
+pub fn is_squeezed(bytes: &[u8], text: &[u8]) -> bool {
     let mut rest = text;
     for byte in bytes {
         if *byte != b' ' && *byte != b'\n' {
@@ -182,5 +182,57 @@ fn a_timeline_of_1000_gaps_has_a_value(rt: HostRuntime) -> Result<(), Fail> {
     let out = written?;
     assert!(rt; out.sent().ends_with(b"}\n"));
     drop(out);
+    Ok(())
+}
+
+/// Writes the JSON value of a text's object in the older family; nothing where the text stands for
+/// no object. It is none where the object has no form there, or where memory runs out.
+fn write_old_value(alloc: Global, text: &[u8], out: &mut MemOut) -> Result<(), AllocError> {
+    if let Some(object) = object_in(alloc, text)? {
+        let made = json_of_old(alloc, &object);
+        forget(object);
+        if let Ok(value) = made {
+            let _ = write_json(&value, out);
+            drop(value);
+        }
+    }
+    Ok(())
+}
+
+#[test]
+fn values_of_objects_are_written_in_the_older_family(rt: HostRuntime) -> Result<(), Fail> {
+    for case in &OLDER {
+        let mut out = MemOut::new(rt.alloc(), 8_000)?;
+        write_old_value(rt.alloc(), case.text.as_bytes(), &mut out)?;
+        assert!(rt;
+            is_squeezed(out.sent(), case.older.as_bytes()),
+            "{}",
+            case.text
+        );
+        drop(out);
+    }
+    Ok(())
+}
+
+/// The first index of the place of the clip whose references have no older form; none where there
+/// is no such clip.
+fn index_of_keys(alloc: Global, text: &[u8]) -> Result<Option<u32>, AllocError> {
+    let Some(object) = object_in(alloc, text)? else {
+        return Ok(None);
+    };
+    let made = json_of_old(alloc, &object);
+    forget(object);
+    match made {
+        Err(FamilyFault::Keys(place)) => Ok(place.index(0)),
+        _ => Ok(None),
+    }
+}
+
+#[test]
+fn a_clip_without_an_older_form_is_named(rt: HostRuntime) -> Result<(), Fail> {
+    let text =
+        r#"{"OTIO_SCHEMA":"Track.1","children":[{"OTIO_SCHEMA":"Gap.1"},{"OTIO_SCHEMA":"Clip.2"}]}"#;
+    let index = index_of_keys(rt.alloc(), text.as_bytes())?;
+    assert!(rt; index == Some(1));
     Ok(())
 }

@@ -12,7 +12,7 @@ use std::process::Abort;
 use std::test::Fail;
 
 /// How many lines the usage text has.
-const USAGE_LINES: usize = 8;
+const USAGE_LINES: usize = 10;
 
 /// How many bytes a stream has room for.
 const ROOM: usize = 120_000;

@@ -1,7 +1,7 @@
 -- From a drill to the end of a run.
-use Rattle.std.proofs.Common.{◌≡◌, ◌≢◌, ◌⊎◌, ℕ, List, [], Some, None, refl, sym, ap, subst, ◌∙◌, inl, inr, Result, Ok, Err, IfSome}
+use Rattle.std.proofs.Common.{◌≡◌, ℕ, List, Some, None, refl, sym, subst, inl, Err, IfSome}
 use Rattle.std.specs.declared.option.Option.{Option}
-use Rattle.dev_io.specs.Known.{KnownFiles, KnownOut}
+use Rattle.dev_io.specs.Known.{KnownFiles}
 use Rattle.dev_io.specs.Calls.{Tells}
 use Rattle.undo_log.specs.States.{IsKept, state_of}
 use Rattle.edit_script.specs.Keeping.{HoldsEdits}
@@ -16,8 +16,7 @@ use Rattle.command_words.proofs.Drilling.{drill_once as drill_asked_once, not_bo
 use Rattle.drill.specs.Told.{DrillsTo}
 use Rattle.drill.specs.Lines.{tally_text}
 use Rattle.drill.specs.declared.tally.Tally.{Tally}
-use Rattle.otio_tools.specs.Asked.{Asked, Asks}
-use Rattle.otio_tools.specs.Forms.{Answer, done}
+use Rattle.otio_tools.specs.Forms.{done}
 use Rattle.otio_tools.specs.Answer.{ByDrill, AnswersDrill}
 use Rattle.otio_tools.specs.Drilled.{EndsDrill, EndsDrills, IsDrilled, SendsTally}
 use Rattle.otio_tools.specs.Plan.{IsSendCause, WritesTo, message_unsent, status_unsent}

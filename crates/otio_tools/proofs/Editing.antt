@@ -21,9 +21,8 @@ use Rattle.source_files.specs.declared.file_faults.Refusal.{Refusal}
 use Rattle.source_files.proofs.Handing.{refused_by}
 use Rattle.command_words.specs.declared.requests.Command.{Command}
 use Rattle.command_words.specs.declared.requests.Command.TheVariants.{ListToList, ListToObjects, TimelineToList, ToObjects, ToJson, Frames, ListFrames, Edit, ListEdit}
-use Rattle.command_words.specs.declared.requests.Command.TheVariants.{Cat, ListCat, Stat, ListStat, Tool, ListTool}
-use Rattle.command_words.specs.Asked.{OtherNames}
-use Rattle.otio_tools.specs.Asked.{EditsTimeline, edit_files, files_alone, kind_of, media_source, one_file, read_as, script_source}
+use Rattle.command_words.specs.declared.requests.Command.TheVariants.{Cat, ListCat, Stat, ListStat, Tool, ListTool, Pull, ListPull, LogToMedia}
+use Rattle.otio_tools.specs.Asked.{EditsTimeline, edit_files, files_alone, is_log, kind_of, media_source, one_file, read_as, script_source}
 use Rattle.otio_tools.specs.Answer.{AnswersHeld}
 use Rattle.otio_tools.specs.Conformed.{media_in, Conformed, NotConformed}
 use Rattle.otio_tools.specs.Edited.{IsWorkOn, Faulted, Halted, Edited}
@@ -46,7 +45,7 @@ script_suits (content.Value value) s = absurd s
 script_suits (content.Root object) s = absurd s
 script_suits (content.Film timeline) s = absurd s
 
--- what the files of an edit hold is one content, the script and a media list behind it at most
+-- what the files of an edit hold is one content, the script and a media list after it at most
 pub edit_contents : (command : Command) (name called : List ℕ) (media : Option (List ℕ))
     (contents : List Content)
     → EachIs (λ source held. Suits source.kind held) (edit_files command name called media) contents
@@ -59,7 +58,7 @@ edit_contents command name called None (held ∷ c ∷ x ∷ rest) h = absurd h.
 edit_contents command name called (Some list) (held ∷ c ∷ []) h = absurd h.1.1
 edit_contents command name called (Some list) (held ∷ c ∷ x ∷ []) h =
     let r = script_suits c h.1.0 in
-    let m = media_suits x h.1.1.0 in (
+    let m = media_suits (is_log list) x h.1.1.0 in (
       held,
       r.0,
       Some m.0,
@@ -89,14 +88,17 @@ pub editable : (command : Command) (held : Content) → EditsTimeline command
 editable Edit held e s = film_editable held s
 editable (ListEdit rate) held e s = list_editable rate held s
 editable (ListToList rate drop wide) held e s = absurd e
-editable (ListToObjects rate) held e s = absurd e
+editable (ListToObjects rate older) held e s = absurd e
 editable (TimelineToList drop wide) held e s = absurd e
-editable ToObjects held e s = absurd e
+editable (ToObjects older) held e s = absurd e
 editable ToJson held e s = absurd e
+editable LogToMedia held e s = absurd e
 editable (Frames asked) held e s = absurd e
 editable (ListFrames rate asked) held e s = absurd e
 editable Stat held e s = absurd e
 editable (ListStat rate) held e s = absurd e
+editable (Pull handles) held e s = absurd e
+editable (ListPull rate handles) held e s = absurd e
 editable Cat held e s = absurd e
 editable (ListCat rate) held e s = absurd e
 editable (Tool asked) held e s = absurd e
@@ -143,7 +145,7 @@ without_script command name named media contents e h =
 text_bare : (t : Timeline) → timeline_text t ≡ timeline_text (bare t)
 text_bare t = ap layout (same_json _ _ (bare_json t (bare t) refl))
 
--- ---- the answers, whatever stands behind the script
+-- ---- the answers, whatever stands after the script
 
 done_with : (command : Command) (file called : Source) (files : List Source) (held : Content)
     (commands : Vec script.Command) (more : List Content) (timeline : Timeline) (desk : Desk)
@@ -182,18 +184,23 @@ done_with (ListEdit rate) file called files (content.Root object) commands more 
     f w = absurd s
 done_with (ListToList rate drop wide) file called files held commands more t desk target e s o f w =
     absurd e
-done_with (ListToObjects rate) file called files held commands more t desk target e s o f w =
+done_with (ListToObjects rate older) file called files held commands more t desk target e s o f w =
     absurd e
 done_with (TimelineToList drop wide) file called files held commands more t desk target e s o f w =
     absurd e
-done_with ToObjects file called files held commands more t desk target e s o f w = absurd e
+done_with (ToObjects older) file called files held commands more t desk target e s o f w = absurd e
 done_with ToJson file called files held commands more t desk target e s o f w = absurd e
+done_with LogToMedia file called files held commands more t desk target e s o f w = absurd e
 done_with (Frames asked) file called files held commands more t desk target e s o f w = absurd e
 done_with (ListFrames rate asked) file called files held commands more t desk target e s o f w =
     absurd e
 done_with Stat file called files held commands more t desk target e s o f w =
     absurd e
 done_with (ListStat rate) file called files held commands more t desk target e s o f w =
+    absurd e
+done_with (Pull handles) file called files held commands more t desk target e s o f w =
+    absurd e
+done_with (ListPull rate handles) file called files held commands more t desk target e s o f w =
     absurd e
 done_with Cat file called files held commands more t desk target e s o f w =
     absurd e
@@ -239,18 +246,23 @@ halted_with (ListEdit rate) file called files (content.Root object) commands mor
     f w = absurd s
 halted_with (ListToList rate drop wide) file called files held commands more t why target e s o f
     w = absurd e
-halted_with (ListToObjects rate) file called files held commands more t why target e s o f w =
+halted_with (ListToObjects rate older) file called files held commands more t why target e s o f w =
     absurd e
 halted_with (TimelineToList drop wide) file called files held commands more t why target e s o f w =
     absurd e
-halted_with ToObjects file called files held commands more t why target e s o f w = absurd e
+halted_with (ToObjects older) file called files held commands more t why target e s o f w = absurd e
 halted_with ToJson file called files held commands more t why target e s o f w = absurd e
+halted_with LogToMedia file called files held commands more t why target e s o f w = absurd e
 halted_with (Frames asked) file called files held commands more t why target e s o f w = absurd e
 halted_with (ListFrames rate asked) file called files held commands more t why target e s o f w =
     absurd e
 halted_with Stat file called files held commands more t why target e s o f w =
     absurd e
 halted_with (ListStat rate) file called files held commands more t why target e s o f w =
+    absurd e
+halted_with (Pull handles) file called files held commands more t why target e s o f w =
+    absurd e
+halted_with (ListPull rate handles) file called files held commands more t why target e s o f w =
     absurd e
 halted_with Cat file called files held commands more t why target e s o f w =
     absurd e
@@ -293,17 +305,22 @@ unopened_with (ListEdit rate) file called files (content.Root object) commands m
     u = absurd s
 unopened_with (ListToList rate drop wide) file called files held commands more why target e s u =
     absurd e
-unopened_with (ListToObjects rate) file called files held commands more why target e s u = absurd e
+unopened_with (ListToObjects rate older) file called files held commands more why target e s u = absurd e
 unopened_with (TimelineToList drop wide) file called files held commands more why target e s u =
     absurd e
-unopened_with ToObjects file called files held commands more why target e s u = absurd e
+unopened_with (ToObjects older) file called files held commands more why target e s u = absurd e
 unopened_with ToJson file called files held commands more why target e s u = absurd e
+unopened_with LogToMedia file called files held commands more why target e s u = absurd e
 unopened_with (Frames asked) file called files held commands more why target e s u = absurd e
 unopened_with (ListFrames rate asked) file called files held commands more why target e s u =
     absurd e
 unopened_with Stat file called files held commands more why target e s u =
     absurd e
 unopened_with (ListStat rate) file called files held commands more why target e s u =
+    absurd e
+unopened_with (Pull handles) file called files held commands more why target e s u =
+    absurd e
+unopened_with (ListPull rate handles) file called files held commands more why target e s u =
     absurd e
 unopened_with Cat file called files held commands more why target e s u =
     absurd e
@@ -333,14 +350,17 @@ work_with (ListEdit rate) (content.Film film) commands more t desk e s o f w = a
 work_with (ListEdit rate) (content.Value value) commands more t desk e s o f w = absurd s
 work_with (ListEdit rate) (content.Root object) commands more t desk e s o f w = absurd s
 work_with (ListToList rate drop wide) held commands more t desk e s o f w = absurd e
-work_with (ListToObjects rate) held commands more t desk e s o f w = absurd e
+work_with (ListToObjects rate older) held commands more t desk e s o f w = absurd e
 work_with (TimelineToList drop wide) held commands more t desk e s o f w = absurd e
-work_with ToObjects held commands more t desk e s o f w = absurd e
+work_with (ToObjects older) held commands more t desk e s o f w = absurd e
 work_with ToJson held commands more t desk e s o f w = absurd e
+work_with LogToMedia held commands more t desk e s o f w = absurd e
 work_with (Frames asked) held commands more t desk e s o f w = absurd e
 work_with (ListFrames rate asked) held commands more t desk e s o f w = absurd e
 work_with Stat held commands more t desk e s o f w = absurd e
 work_with (ListStat rate) held commands more t desk e s o f w = absurd e
+work_with (Pull handles) held commands more t desk e s o f w = absurd e
+work_with (ListPull rate handles) held commands more t desk e s o f w = absurd e
 work_with Cat held commands more t desk e s o f w = absurd e
 work_with (ListCat rate) held commands more t desk e s o f w = absurd e
 work_with (Tool asked) held commands more t desk e s o f w = absurd e

@@ -14,17 +14,19 @@ use Rattle.otio_model.specs.Timelines.{bare}
 use Rattle.schema_rows.specs.Upgrades.{upgraded}
 use Rattle.schema_rows.specs.Stands.{Stands}
 use Rattle.schema_rows.specs.Faults.{IsFirstFault}
-use Rattle.schema_write.specs.Objects.{json_of, object_step, collection_step}
+use Rattle.schema_write.specs.Objects.{Style, newer, older, json_of, old_json_of, object_in, object_step, collection_step}
 use Rattle.object_law.proofs.SeenValues.{Folded, of_object}
 use Rattle.object_law.proofs.Verdicts.{folded_once, has_one_fault, is_never_both}
 use Rattle.media_list.specs.Lists.{IsMediaList}
 use Rattle.media_list.proofs.OneOutcome.{fault_once as media_fault_once, list_or_fault as media_or_fault}
+use Rattle.ale_text.specs.Logs.{IsLog}
+use Rattle.ale_text.proofs.OneOutcome.{fault_once as ale_fault_once, log_or_fault}
 use Rattle.media_rows.specs.declared.row.MediaRow.{MediaRow}
-use Rattle.source_files.specs.Faults.{json_fault_text, list_fault_text, media_fault_text, fault_text, script_fault_text}
+use Rattle.source_files.specs.Faults.{ale_fault_text, json_fault_text, list_fault_text, media_fault_text, fault_text, script_fault_text}
 use Rattle.edit_script.specs.Scripts.{IsScript}
 use Rattle.edit_script.specs.declared.commands.Command.{Command}
 use Rattle.edit_script.proofs.Once.{fault_once as script_fault_once, never_both as script_or_fault}
-use Rattle.source_files.specs.Formats.{IsJson, IsObject, IsTimeline, IsNoTimeline, Holds, Refuses, RefusesJson, RefusesObject, RefusesTimeline, RefusesList, RefusesMedia, RefusesScript}
+use Rattle.source_files.specs.Formats.{IsJson, IsObject, IsTimeline, IsNoTimeline, Holds, Refuses, RefusesJson, RefusesObject, RefusesTimeline, RefusesList, RefusesMedia, RefusesLog, RefusesScript}
 use Rattle.source_files.specs.declared.kinds.Kind.{Kind}
 use Rattle.source_files.specs.declared.kinds.Kind.TheVariants as kinds
 use Rattle.source_files.specs.declared.kinds.Content.{Content}
@@ -39,18 +41,19 @@ json_or_reason : (bytes why : List ℕ) (value : Json) → IsJson bytes value �
 json_or_reason bytes why value is p = fault_or_text bytes value p.0 is.small is.text p.1
 
 -- objects in JSON, as a fold that sets spare memory aside
-abbrev in_json : Folded
-in_json = record {
+abbrev in_json : Style → Folded
+in_json style = record {
   A = Json;
   B = Json;
-  object = object_step;
+  object = object_step style;
   collection = collection_step;
   spare =
       λ t. refl;
 }
 
-one_json : (value : Json) (a b : Object) → Stands value a → Stands value b → json_of a ≡ json_of b
-one_json = folded_once in_json
+one_json : (style : Style) (value : Json) (a b : Object) → Stands value a → Stands value b
+    → object_in style a ≡ object_in style b
+one_json style = folded_once (in_json style)
 
 object_reason_once : (bytes v w : List ℕ) → RefusesObject bytes v → RefusesObject bytes w → v ≡ w
 object_reason_once bytes v w (inl p) (inl q) = json_reason_once bytes v w p q
@@ -113,20 +116,36 @@ one_root value a b p q = sym (root_is a) ∙ folded_once in_roots value a b p q 
 -- two objects of the same bytes have the same JSON
 pub object_json_once : (bytes : List ℕ) (a b : Object) → IsObject bytes a → IsObject bytes b
     → json_of a ≡ json_of b
-object_json_once bytes a b p q = one_json (upgraded p.value) a b p.stands (stands_too bytes a b p q)
+object_json_once bytes a b p q =
+    one_json newer (upgraded p.value) a b p.stands (stands_too bytes a b p q)
 
-timeline_json : (t : Timeline) → json_of (ObjectOfTimeline t)
-    ≡ object_step (Object-F.Timeline (bare t))
+-- and in the older family
+pub old_json_once : (bytes : List ℕ) (a b : Object) → IsObject bytes a → IsObject bytes b
+    → old_json_of a ≡ old_json_of b
+old_json_once bytes a b p q =
+    one_json older (upgraded p.value) a b p.stands (stands_too bytes a b p q)
+
+timeline_json : (style : Style) (t : Timeline) → object_in style (ObjectOfTimeline t)
+    ≡ object_step style (Object-F.Timeline (bare t))
 unfolding Rattle.otio_model.specs.declared.roots.Object.TheViews.roll-Object
     denote.Hole.Carrier.roll
-timeline_json t = fold-roll-Object in_json.A in_json.B in_json.object in_json.collection
-    (Object-F.Timeline t) ∙ in_json.spare t
+timeline_json style t =
+    fold-roll-Object (in_json style).A (in_json style).B (in_json style).object
+    (in_json style).collection (Object-F.Timeline t) ∙ (in_json style).spare t
 
 -- two timelines that differ in spare memory at the most have the same JSON
 pub bare_json : (t u : Timeline) → bare t ≡ bare u
     → json_of (ObjectOfTimeline t) ≡ json_of (ObjectOfTimeline u)
-bare_json t u same = timeline_json t ∙ ap (λ x. object_step (Object-F.Timeline x)) same
-    ∙ sym (timeline_json u)
+bare_json t u same =
+    timeline_json newer t ∙ ap (λ x. object_step newer (Object-F.Timeline x)) same
+    ∙ sym (timeline_json newer u)
+
+-- and in the older family
+pub bare_old_json : (t u : Timeline) → bare t ≡ bare u
+    → old_json_of (ObjectOfTimeline t) ≡ old_json_of (ObjectOfTimeline u)
+bare_old_json t u same =
+    timeline_json older t ∙ ap (λ x. object_step older (Object-F.Timeline x)) same
+    ∙ sym (timeline_json older u)
 
 roots_once : (bytes : List ℕ) (a b : Object) → IsObject bytes a → IsObject bytes b
     → timeline_at (out-Object a) ≡ timeline_at (out-Object b)
@@ -175,6 +194,14 @@ media_or_reason : (bytes why : List ℕ) (rows : List MediaRow) → IsMediaList 
     → RefusesMedia bytes why → ⊥
 media_or_reason bytes why rows is p = media_or_fault bytes rows p.0 is p.1
 
+log_reason_once : (bytes v w : List ℕ) → RefusesLog bytes v → RefusesLog bytes w → v ≡ w
+log_reason_once bytes v w p q =
+    p.2 ∙ ap ale_fault_text (ale_fault_once bytes p.0 q.0 p.1 q.1) ∙ sym q.2
+
+log_or_reason : (bytes why : List ℕ) (rows : List MediaRow) → IsLog bytes rows
+    → RefusesLog bytes why → ⊥
+log_or_reason bytes why rows is p = log_or_fault bytes rows p.0 is p.1
+
 script_reason_once : (bytes v w : List ℕ) → RefusesScript bytes v → RefusesScript bytes w → v ≡ w
 script_reason_once bytes v w p q =
     p.2 ∙ ap script_fault_text (script_fault_once bytes p.0 q.0 p.1 q.1) ∙ sym q.2
@@ -191,6 +218,7 @@ reason_once kinds.Object bytes v w p q = object_reason_once bytes v w p q
 reason_once kinds.Timeline bytes v w p q = timeline_reason_once bytes v w p q
 reason_once (kinds.List rate) bytes v w p q = list_reason_once rate bytes v w p q
 reason_once kinds.Media bytes v w p q = media_reason_once bytes v w p q
+reason_once kinds.Log bytes v w p q = log_reason_once bytes v w p q
 reason_once kinds.Script bytes v w p q = script_reason_once bytes v w p q
 
 -- bytes that hold something are not refused
@@ -228,6 +256,12 @@ held_or_refused kinds.Media bytes why (Root object) h r = h
 held_or_refused kinds.Media bytes why (Film timeline) h r = h
 held_or_refused kinds.Media bytes why (Events list) h r = h
 held_or_refused kinds.Media bytes why (Commands commands) h r = h
+held_or_refused kinds.Log bytes why (Rows rows) h r = log_or_reason bytes why rows h r
+held_or_refused kinds.Log bytes why (Value value) h r = h
+held_or_refused kinds.Log bytes why (Root object) h r = h
+held_or_refused kinds.Log bytes why (Film timeline) h r = h
+held_or_refused kinds.Log bytes why (Events list) h r = h
+held_or_refused kinds.Log bytes why (Commands commands) h r = h
 held_or_refused kinds.Script bytes why (Commands commands) h r =
     script_or_reason bytes why commands.items h r
 held_or_refused kinds.Script bytes why (Value value) h r = h

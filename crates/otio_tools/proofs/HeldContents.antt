@@ -1,5 +1,5 @@
 -- What files hold, by what they are read as.
-use Rattle.std.proofs.Common.{◌≡◌, ℕ, List, [], ◌∷◌, Some, None, refl, sym, ◌∙◌}
+use Rattle.std.proofs.Common.{◌≡◌, ℕ, Bool, true, false, cond, List, Some, None, refl, sym, ◌∙◌}
 use Rattle.std.specs.declared.option.Option.{Option}
 use Rattle.std.specs.Global.{Vec}
 use Rattle.json_value.specs.declared.Json.{Json}
@@ -9,13 +9,19 @@ use Rattle.edl_text.specs.Lists.{IsList}
 use Rattle.otio_model.specs.declared.roots.Object.{Object}
 use Rattle.otio_model.specs.declared.timelines.Timeline.{Timeline}
 use Rattle.media_rows.specs.declared.row.MediaRow.{MediaRow}
+use Rattle.media_rows.specs.Rows.{AreRows}
 use Rattle.media_list.specs.Lists.{IsMediaList}
+use Rattle.media_list.proofs.OneOutcome.{list_once}
+use Rattle.ale_text.specs.Logs.{IsLog}
+use Rattle.ale_text.proofs.OneOutcome.{log_once}
+use Rattle.ale_text.proofs.PlainRows.{log_plain}
 use Rattle.edit_script.specs.declared.commands.Command as script
 use Rattle.edit_script.specs.Scripts.{IsScript}
 use Rattle.source_files.specs.Formats.{IsJson, IsObject, IsTimeline, Holds}
 use Rattle.source_files.specs.declared.kinds.Kind.TheVariants as kinds
 use Rattle.source_files.specs.declared.kinds.Content.{Content}
 use Rattle.source_files.specs.declared.kinds.Content.TheVariants.{Value, Root, Film, Events, Rows, Commands}
+use Rattle.otio_tools.specs.Kept.{AreRowsAs}
 
 pub gone_or_there : (bytes : List ℕ) (o : Option (List ℕ)) → o ≡ None → o ≡ Some bytes → ⊥
 gone_or_there bytes None e f = cc
@@ -69,6 +75,34 @@ media_held bytes (Root object) h = absurd h
 media_held bytes (Film timeline) h = absurd h
 media_held bytes (Events list) h = absurd h
 media_held bytes (Commands commands) h = absurd h
+
+pub log_held : (bytes : List ℕ) (content : Content) → Holds kinds.Log bytes content
+    → (rows : List MediaRow) × (content ≡ Rows rows) × IsLog bytes rows
+log_held bytes (Rows rows) h = (rows, refl, h)
+log_held bytes (Value value) h = absurd h
+log_held bytes (Root object) h = absurd h
+log_held bytes (Film timeline) h = absurd h
+log_held bytes (Events list) h = absurd h
+log_held bytes (Commands commands) h = absurd h
+
+-- rows of a log or of a media list
+pub rows_held_as : (log : Bool) (bytes : List ℕ) (content : Content)
+    → Holds (cond log kinds.Log kinds.Media) bytes content
+    → (rows : List MediaRow) × (content ≡ Rows rows) × AreRowsAs log bytes rows
+rows_held_as true bytes content h = log_held bytes content h
+rows_held_as false bytes content h = media_held bytes content h
+
+-- the same bytes have the same rows
+pub same_rows_as : (log : Bool) (bytes : List ℕ) (a b : List MediaRow) → AreRowsAs log bytes a
+    → AreRowsAs log bytes b → a ≡ b
+same_rows_as true bytes a b p q = log_once bytes a b p q
+same_rows_as false bytes a b p q = list_once bytes a b p q
+
+-- no two of them have one reel or one URL
+pub rows_apart_as : (log : Bool) (bytes : List ℕ) (rows : List MediaRow)
+    → AreRowsAs log bytes rows → AreRows rows
+rows_apart_as true bytes rows h = (log_plain bytes rows h).0
+rows_apart_as false bytes rows h = h.apart
 
 pub script_held : (bytes : List ℕ) (content : Content) → Holds kinds.Script bytes content
     → (commands : Vec script.Command) × (content ≡ Commands commands)

@@ -15,7 +15,7 @@ use Rattle.source_files.specs.declared.kinds.Kind.TheVariants as kinds
 use Rattle.command_words.specs.Asked.{Ask, OtherNames}
 use Rattle.command_words.proofs.Drilling.{not_both as never_drill}
 use Rattle.command_words.specs.declared.requests.Command.TheVariants.{TimelineToList}
-use Rattle.otio_tools.specs.Asked.{Asked, asked_for, files_of, media_source, script_source, read_as}
+use Rattle.otio_tools.specs.Asked.{Asked, asked_for, files_of, is_log, media_source, script_source, read_as}
 use Rattle.otio_tools.specs.Forms.{Answer}
 use Rattle.otio_tools.specs.Conformed.{media_in}
 use Rattle.otio_tools.specs.Carried.{AnswersCarried, NotSound, Left, Carried}
@@ -26,7 +26,7 @@ use Rattle.otio_tools.specs.declared.Status.{Status}
 use Rattle.otio_tools.specs.declared.Status.TheVariants.{Done, Usage, Refused, Input, Output, Memory}
 use Rattle.otio_tools.proofs.RunEnds.{asks_once, asks_for}
 use Rattle.otio_tools.proofs.OneAnswer.{first_read}
-use Rattle.otio_tools.proofs.HeldContents.{timeline_held, media_held}
+use Rattle.otio_tools.proofs.HeldContents.{timeline_held, rows_held_as, rows_apart_as}
 use Rattle.otio_tools.proofs.CalmTimelines.{read_is_calm}
 use Rattle.otio_tools.proofs.WrittenLists.{written_keeps}
 
@@ -52,7 +52,7 @@ rows_held held None (c ∷ more) p = absurd p
 rows_held held (Some name) [] p = absurd p
 rows_held held (Some name) (c ∷ x ∷ more) p = absurd p.1
 rows_held held (Some name) (c ∷ []) p =
-    let v = media_held p.0.bytes c p.0.holds in
+    let v = rows_held_as (is_log name) p.0.bytes c p.0.holds in
     subst (λ x. HoldsRows held (Some name) (media_in (x ∷ []))) (sym v.1)
     (p.0.bytes, p.0.there, v.2)
 
@@ -61,7 +61,7 @@ listed_rows : (held : Held) (media : Option (List ℕ)) (rows : MediaRows)
 listed_rows held None None h = tt
 listed_rows held None (Some rows) h = absurd h
 listed_rows held (Some name) None h = absurd h
-listed_rows held (Some name) (Some rows) h = h.2.apart
+listed_rows held (Some name) (Some rows) h = rows_apart_as (is_log name) h.0 rows h.2
 
 -- the answer to a timeline that is written as a list, where it is done
 carried_kept : (held : Held) (drop wide : Bool) (name bytes : List ℕ)
@@ -88,7 +88,7 @@ carried_kept held drop wide name bytes media target rows t answer d there is hol
           (listed_rows held media rows holds) none i texts;
     }
 
--- the media list is all that was read behind a file where no script is named
+-- the media list is all that was read after a file where no script is named
 rows_alone : (held : Held) (script media : Option (List ℕ)) (more : List Content) → script ≡ None
     → AreRead held (script_source script ++ media_source media) more
     → AreRead held (media_source media) more

@@ -1,11 +1,10 @@
 -- There is one answer, and without faults of devices it is given.
-use Rattle.std.proofs.Common.{◌≡◌, ◌||◌, ◌++◌, ℕ, Bool, Option, List, [], ◌∷◌, All, Some, None, IsSome, false, length, refl, sym, ap, subst, ◌∙◌, IfSome, inl, inr, arith}
+use Rattle.std.proofs.Common.{◌≡◌, ◌||◌, ◌++◌, ℕ, Bool, Option, List, [], ◌∷◌, All, Some, None, IsSome, true, false, cond, length, refl, sym, ap, subst, ◌∙◌, IfSome, inl, inr, arith}
 use Rattle.std.specs.Global.{Vec}
 use Rattle.std.proofs.lemmas.List.Elements.{All-head, All-tail}
 use Rattle.std.proofs.lemmas.Grind.{common_steps}
 use Rattle.dev_io.specs.Known.{KnownFiles}
 use Rattle.dev_io.specs.Calls.{Tells}
-use Rattle.json_value.specs.declared.Json.{Json}
 use Rattle.json_text.proofs.OneText.{text_once}
 use Rattle.json_text.specs.Layout.{layout}
 use Rattle.tick_time.specs.declared.rates.Rate.{Rate}
@@ -15,27 +14,30 @@ use Rattle.edl_list.specs.Labelled.{IsLabelled}
 use Rattle.edl_list.specs.Layouts.{narrow, layout_of, FitsEvent}
 use Rattle.edl_text.specs.Labelled.{IsFirstNot}
 use Rattle.edl_text.specs.Wide.{IsFirstWide}
-use Rattle.edl_text.specs.Lists.{IsList}
 use Rattle.edl_text.proofs.OneList.{one_list}
-use Rattle.otio_model.specs.declared.roots.Object.{Object}
 use Rattle.otio_model.specs.declared.timelines.Timeline.{Timeline}
 use Rattle.otio_model.specs.Timelines.{bare}
-use Rattle.schema_write.specs.Objects.{json_of}
+use Rattle.schema_write.specs.Objects.{json_of, old_json_of}
+use Rattle.schema_rows.specs.Upgrades.{upgraded}
+use Rattle.otio_model.specs.declared.roots.Object.{Object, Timeline as ObjectOfTimeline}
+use Rattle.object_law.proofs.OneOldFault.{SamePlaces, one_old_fault, no_old_fault, same_places, bare_places}
+use Rattle.source_files.specs.Faults.{family_fault_text}
+use Rattle.otio_tools.specs.Objects.{AnswersObject, NoForm, Older}
 use Rattle.coord.proofs.OneFault.{same_fault, no_fault_of}
 use Rattle.coord.proofs.SpareLemmas.{faultless_bare, fault_bare}
 use Rattle.source_files.specs.Faults.{coord_fault_text, conform_fault_text, reel_text, day_text}
 use Rattle.listings.specs.Rows.{listing_of, listing_text}
 use Rattle.listings.specs.declared.listing.Listing.{Listing}
 use Rattle.listings.proofs.SpareLemmas.{listing_bare, text_bare}
-use Rattle.source_files.specs.Formats.{IsJson, IsObject, IsTimeline, Holds, Refuses}
+use Rattle.source_files.specs.Formats.{Holds, Refuses}
 use Rattle.source_files.specs.Reading.{Held, Source, IsRead, AreRead}
 use Rattle.source_files.specs.declared.kinds.Kind.TheVariants as kinds
 use Rattle.source_files.specs.declared.kinds.Content.{Content}
-use Rattle.source_files.specs.declared.kinds.Content.TheVariants.{Value, Root, Film, Events, Rows, Commands}
+use Rattle.source_files.specs.declared.kinds.Content.TheVariants.{Film, Events, Rows, Commands}
 use Rattle.source_files.proofs.Order.{first_once, each_or_first}
 use Rattle.command_words.specs.declared.requests.Command.{Command}
 use Rattle.command_words.specs.declared.requests.Command.TheVariants.{ListToList, ListToObjects, TimelineToList, ToObjects, ToJson, Frames, ListFrames, Edit, ListEdit}
-use Rattle.command_words.specs.declared.requests.Command.TheVariants.{Cat, ListCat, Stat, ListStat, Tool, ListTool}
+use Rattle.command_words.specs.declared.requests.Command.TheVariants.{Cat, ListCat, Stat, ListStat, Tool, ListTool, Pull, ListPull, LogToMedia}
 use Rattle.command_words.specs.Asked.{OtherNames}
 use Rattle.command_words.specs.Drills.{AsksDrill}
 use Rattle.command_words.proofs.Drilling.{drill_once as drill_asked_once, not_both as never_drill}
@@ -44,37 +46,37 @@ use Rattle.drill.specs.Lines.{tally_text}
 use Rattle.drill.specs.declared.tally.Tally.{Tally}
 use Rattle.undo_log.specs.States.{State}
 use Rattle.edit_script.specs.declared.commands.Command as script
-use Rattle.edit_script.specs.Scripts.{IsScript}
 use Rattle.edit_script.proofs.Once.{script_once}
 use Rattle.edit_script.specs.Runs.{Runs, Halts}
 use Rattle.edit_script.proofs.Outcomes.{one_state, one_halt, never_both}
 use Rattle.command_words.specs.declared.requests.FramesAsked.{FramesAsked}
-use Rattle.media_rows.specs.declared.row.MediaRow.{MediaRow}
-use Rattle.media_list.specs.Lists.{IsMediaList}
-use Rattle.media_list.proofs.OneOutcome.{list_once as media_list_once}
+use Rattle.ale_text.proofs.OneOutcome.{log_once}
+use Rattle.media_text.specs.Texts.{media_text}
 use Rattle.media_rows.specs.Rows.{MediaRows}
 use Rattle.edl_law.proofs.OneTimeline.{one_timeline}
 use Rattle.otio_tools.proofs.OneCarried.{carried_once}
+use Rattle.otio_tools.proofs.OnePulled.{pulled_once}
 use Rattle.edl_law.proofs.OneFault.{one_fault as one_conform_fault, no_fault as no_conform_fault}
-use Rattle.otio_tools.specs.Asked.{Asked, Asks, asked_alone, asked_for, files_alone, files_of, kind_of, media_source, script_source, read_as, takes_several}
+use Rattle.otio_tools.specs.Asked.{Asked, Asks, asked_alone, asked_for, files_alone, files_of, is_log, kind_of, media_source, script_source, read_as, takes_several}
 use Rattle.otio_tools.specs.Edited.{command_fault_text, AnswersEdited, Faulted, Halted, Edited}
 use Rattle.script_law.specs.Shown.{opened}
 use Rattle.otio_tools.specs.Forms.{Answer, done, refused}
 use Rattle.otio_tools.specs.Frames.{AnswersTimeline, Unsound, NoLabel, Listed}
 use Rattle.otio_tools.specs.Events.{AnswersEvents, NoTimecode, TooMany, WideReel, PastDay, Spelled}
 use Rattle.otio_tools.specs.Carried.{AnswersCarried}
+use Rattle.otio_tools.specs.Pulled.{AnswersPull}
 use Rattle.otio_tools.specs.Conformed.{media_in, AnswersConformed, NotConformed, Conformed}
 use Rattle.otio_tools.specs.Tools.{AnswersCounted, Counted, Uncounted, counts_alone}
-use Rattle.otio_tools.proofs.OneText.{same_json, same_listings}
-use Rattle.otio_tools.specs.Written.{object_json, AnswersWritten, timeline_text}
+use Rattle.otio_tools.proofs.OneText.{same_json, same_old_json, same_listings}
+use Rattle.otio_tools.specs.Written.{AnswersWritten, timeline_text}
 use Rattle.otio_tools.specs.Answer.{Answers, NoCommand, OnFiles, ByDrill, AnswersDrill, AnswersHeld, AnswersUnread, Gone, Faulty, AnswersAsked, Unread, Judged}
 use Rattle.otio_tools.specs.Run.{Streams, Ends, Gives, Completes}
 use Rattle.otio_tools.specs.declared.Status.{Status}
 use Rattle.otio_tools.specs.declared.Status.TheVariants.{Done, Usage, Refused, Input, Output, Memory}
 use Rattle.otio_tools.proofs.RunEnds.{asks_once, whole}
-use Rattle.otio_tools.proofs.HeldContents.{gone_or_there, there_once, value_held, object_held, timeline_held, list_held, media_held, script_held}
+use Rattle.otio_tools.proofs.HeldContents.{gone_or_there, there_once, value_held, object_held, timeline_held, list_held, log_held, rows_held_as, same_rows_as, script_held}
 use Rattle.otio_tools.proofs.OneSeveral.{cat_once, worked_once}
-use Rattle.otio_tools.proofs.Formats.{reason_once, held_or_refused, object_json_once, bare_json, timeline_bare_once}
+use Rattle.otio_tools.proofs.Formats.{reason_once, held_or_refused, object_json_once, old_json_once, stands_too, bare_json, bare_old_json, timeline_bare_once}
 
 -- the timecode of a rate is there or not
 none_some : {X : Type 0} (o : Option X) → o ≡ None → IsSome o → ⊥
@@ -223,7 +225,7 @@ unread_once held file a b (Faulty why p e) (Faulty also q f) =
     (subst (λ x. Refuses file.kind x also) same q.2)) ∙ sym f
 
 -- a file that is read has none of these
-read_or_unread : (held : Held) (file : Source) (content : Content) (a : Answer)
+pub read_or_unread : (held : Held) (file : Source) (content : Content) (a : Answer)
     → IsRead held file content → AnswersUnread held file a → ⊥
 read_or_unread held file content a is (Gone p e) =
     gone_or_there is.bytes (held file.name) p is.there
@@ -232,7 +234,7 @@ read_or_unread held file content a is (Faulty why p e) =
     (subst (λ x. Refuses file.kind x why)
     (there_once p.0 is.bytes (held file.name) p.1 is.there) p.2)
 
--- what a file holds, and what those behind it do
+-- what a file holds, and what those after it do
 pub record Reads (held : Held) (file : Source) (files : List Source)
     (contents : List Content) : Type 0 where
   pub content : Content
@@ -248,14 +250,15 @@ first_read held file files (content ∷ more) h =
     record { content = content; more = more; are = refl; first = h.0; others = h.1 }
 
 -- a media list that is read is one
-rows_once : (held : Held) (file : Source) (c d : Content) → file.kind ≡ kinds.Media
+rows_once : (held : Held) (file : Source) (log : Bool) (c d : Content)
+    → file.kind ≡ cond log kinds.Log kinds.Media
     → IsRead held file c → IsRead held file d → c ≡ d
-rows_once held file c d k p q =
+rows_once held file log c d k p q =
     let same = there_once q.bytes p.bytes (held file.name) q.there p.there in
-    let v = media_held p.bytes c (subst (λ x. Holds x p.bytes c) k p.holds) in
-    let w = media_held p.bytes d (subst (λ x. Holds kinds.Media x d) same
+    let v = rows_held_as log p.bytes c (subst (λ x. Holds x p.bytes c) k p.holds) in
+    let w = rows_held_as log p.bytes d (subst (λ x. Holds (cond log kinds.Log kinds.Media) x d) same
     (subst (λ x. Holds x q.bytes d) k q.holds)) in
-    v.1 ∙ ap Rows (media_list_once p.bytes v.0 w.0 v.2 w.2) ∙ sym w.1
+    v.1 ∙ ap Rows (same_rows_as log p.bytes v.0 w.0 v.2 w.2) ∙ sym w.1
 
 media_once : (held : Held) (media : Option (List ℕ)) (m n : List Content)
     → AreRead held (media_source media) m → AreRead held (media_source media) n
@@ -268,7 +271,7 @@ media_once held (Some name) (c ∷ m) [] p q = absurd q
 media_once held (Some name) (c ∷ x ∷ m) n p q = absurd p.1
 media_once held (Some name) (c ∷ []) (d ∷ x ∷ n) p q = absurd q.1
 media_once held (Some name) (c ∷ []) (d ∷ []) p q =
-    ap (λ x. media_in (x ∷ [])) (rows_once held _ c d refl p.0 q.0)
+    ap (λ x. media_in (x ∷ [])) (rows_once held _ (is_log name) c d refl p.0 q.0)
 
 -- a script that is read is one
 commands_once : (held : Held) (name : List ℕ) (c d : Content)
@@ -281,7 +284,7 @@ commands_once held name c d p q =
     let w = script_held p.bytes d (subst (λ x. Holds kinds.Script x d) same q.holds) in
     (v.0, w.0, v.1, w.1, script_once p.bytes w.0.items v.0.items w.2 v.2)
 
--- what is read behind a file has one media list at its front, or none
+-- what is read after a file has one media list at its front, or none
 front_once : (held : Held) (script media : Option (List ℕ)) (m n : List Content)
     → AreRead held (script_source script ++ media_source media) m
     → AreRead held (script_source script ++ media_source media) n → media_in m ≡ media_in n
@@ -335,6 +338,30 @@ written_once : (target : Option (List ℕ)) (t u : Timeline) (a b : Answer) → 
     → AnswersWritten target t a → AnswersWritten target u b → a ≡ b
 written_once target t u a b same e f =
     e ∙ ap (λ json. done target (layout json)) (same_json _ _ (bare_json t u same)) ∙ sym f
+
+-- an object that is written has at most one answer
+object_once : (older : Bool) (name : List ℕ) (target : Option (List ℕ)) (v w : Object)
+    (a b : Answer) → json_of v ≡ json_of w → old_json_of v ≡ old_json_of w → SamePlaces v w
+    → AnswersObject older name target v a → AnswersObject older name target w b → a ≡ b
+object_once false name target v w a b new old places x y =
+    x ∙ ap (λ json. done target (layout json)) (same_json v w new) ∙ sym y
+object_once true name target v w a b new old places (NoForm f n p e) (NoForm g m q h) =
+    e ∙ ap (λ fault. refused name (family_fault_text fault)) (one_old_fault v w f g places n m p q)
+    ∙ sym h
+object_once true name target v w a b new old places (NoForm f n p e) (Older free h) =
+    absurd (no_old_fault w v f (λ place. sym (places place)) n free p)
+object_once true name target v w a b new old places (Older free e) (NoForm g m q h) =
+    absurd (no_old_fault v w g places m free q)
+object_once true name target v w a b new old places (Older free e) (Older also h) =
+    e ∙ ap (λ json. done target (layout json)) (same_old_json v w old) ∙ sym h
+
+-- and so has a timeline, whatever memory it has to spare
+timeline_object_once : (older : Bool) (name : List ℕ) (target : Option (List ℕ)) (t u : Timeline)
+    (a b : Answer) → bare t ≡ bare u → AnswersObject older name target (ObjectOfTimeline t) a
+    → AnswersObject older name target (ObjectOfTimeline u) b → a ≡ b
+timeline_object_once older name target t u a b same x y =
+    object_once older name target (ObjectOfTimeline t) (ObjectOfTimeline u) a b
+    (bare_json t u same) (bare_old_json t u same) (bare_places t u same) x y
 
 -- a timeline that is counted has at most one answer, whatever memory it has to spare
 counted_once : (name : List ℕ) (target : Option (List ℕ)) (t u : Timeline) (a b : Answer)
@@ -394,7 +421,7 @@ edit_once : (name : List ℕ) (called media target : Option (List ℕ)) (held : 
 edit_once name None None target held t u m n a b same p q x y = absurd x
 edit_once name None (Some l) target held t u [] n a b same p q x y = absurd x
 edit_once name None (Some l) target held t u (c ∷ m) n a b same p q x y =
-    let v = media_held p.0.bytes c p.0.holds in
+    let v = rows_held_as (is_log l) p.0.bytes c p.0.holds in
     absurd (subst (λ z. Answered Edit name (names_behind None (Some l)) target
     (z ∷ m) a (Film t)) v.1 x)
 edit_once name (Some s) media target held t u [] n a b same p q x y = absurd p
@@ -423,7 +450,7 @@ list_edit_once : (rate : Rate) (name : List ℕ) (called media target : Option (
 list_edit_once rate name None None target held list m n a b p q x y = absurd x
 list_edit_once rate name None (Some l) target held list [] n a b p q x y = absurd x
 list_edit_once rate name None (Some l) target held list (c ∷ m) n a b p q x y =
-    let v = media_held p.0.bytes c p.0.holds in
+    let v = rows_held_as (is_log l) p.0.bytes c p.0.holds in
     absurd (subst (λ z. Answered (ListEdit rate) name (names_behind None (Some l))
     target (z ∷ m) a (Events list)) v.1 x)
 list_edit_once rate name (Some s) media target held list [] n a b p q x y = absurd p
@@ -459,13 +486,22 @@ content_once ToJson name bytes others target held c d m n a b alone p q r s x y 
     let second = subst (Answered ToJson name others target n b) w.1 y in
     first ∙ ap (λ value. done target (layout value)) (text_once bytes v.0 w.0 v.2.text w.2.text)
     ∙ sym second
-content_once ToObjects name bytes others target held c d m n a b alone p q r s x y =
+content_once LogToMedia name bytes others target held c d m n a b alone p q r s x y =
+    let v = log_held bytes c p in
+    let w = log_held bytes d q in
+    let first = subst (Answered LogToMedia name others target m a) v.1 x in
+    let second = subst (Answered LogToMedia name others target n b) w.1 y in
+    first ∙ ap (λ rows. done target (media_text rows)) (log_once bytes v.0 w.0 v.2 w.2)
+    ∙ sym second
+content_once (ToObjects older) name bytes others target held c d m n a b alone p q r s x y =
     let v = object_held bytes c p in
     let w = object_held bytes d q in
-    let first = subst (Answered ToObjects name others target m a) v.1 x in
-    let second = subst (Answered ToObjects name others target n b) w.1 y in
-    first ∙ ap (λ json. done target (layout json))
-    (same_json v.0 w.0 (object_json_once bytes v.0 w.0 v.2 w.2)) ∙ sym second
+    let first = subst (Answered (ToObjects older) name others target m a) v.1 x in
+    let second = subst (Answered (ToObjects older) name others target n b) w.1 y in
+    object_once older name target v.0 w.0 a b (object_json_once bytes v.0 w.0 v.2 w.2)
+    (old_json_once bytes v.0 w.0 v.2 w.2)
+    (same_places (upgraded v.2.value) v.0 w.0 v.2.stands (stands_too bytes v.0 w.0 v.2 w.2))
+    first second
 content_once (ListToList rate drop wide) name bytes others target held c d m n a b alone p q r s x
     y =
     let v = list_held rate bytes c p in
@@ -485,14 +521,17 @@ content_once (TimelineToList drop wide) name bytes others target held c d m n a 
     carried_once drop wide name (media_in m) target v.0 w.0 a b
     (timeline_bare_once bytes v.0 w.0 v.2 w.2) first
     (subst (λ r. AnswersCarried drop wide name r target w.0 b) (sym rows) second)
-content_once (ListToObjects rate) name bytes others target held c d m n a b alone p q r s x y =
+content_once (ListToObjects rate older) name bytes others target held c d m n a b alone p q r s x y =
     let rows = front_once held others.script others.media m n r s in
     let v = list_held rate bytes c p in
     let w = list_held rate bytes d q in
-    let first = subst (Answered (ListToObjects rate) name others target m a) v.1 x in
-    let second = subst (Answered (ListToObjects rate) name others target n b) w.1 y in
-    conformed_once name v.0 (media_in m) (AnswersWritten target) (written_once target) a b first
-    (conformed_as name v.0 w.0 (media_in m) (media_in n) (AnswersWritten target) b
+    let first = subst (Answered (ListToObjects rate older) name others target m a) v.1 x in
+    let second = subst (Answered (ListToObjects rate older) name others target n b) w.1 y in
+    conformed_once name v.0 (media_in m)
+    (λ t. AnswersObject older name target (ObjectOfTimeline t))
+    (timeline_object_once older name target) a b first
+    (conformed_as name v.0 w.0 (media_in m) (media_in n)
+    (λ t. AnswersObject older name target (ObjectOfTimeline t)) b
     (one_list rate bytes w.0 v.0 w.2 v.2) (sym rows) second)
 content_once (Frames asked) name bytes others target held c d m n a b alone p q r s x y =
     let v = timeline_held bytes c p in
@@ -541,6 +580,22 @@ content_once (ListStat rate) name bytes others target held c d m n a b alone p q
     conformed_once name v.0 (media_in m) (AnswersCounted name target)
     (counted_once name target) a b first
     (conformed_as name v.0 w.0 (media_in m) (media_in n) (AnswersCounted name target) b
+    (one_list rate bytes w.0 v.0 w.2 v.2) (sym rows) second)
+content_once (Pull handles) name bytes others target held c d m n a b alone p q r s x y =
+    let v = timeline_held bytes c p in
+    let w = timeline_held bytes d q in
+    pulled_once handles name target v.0 w.0 a b (timeline_bare_once bytes v.0 w.0 v.2 w.2)
+    (subst (Answered (Pull handles) name others target m a) v.1 x)
+    (subst (Answered (Pull handles) name others target n b) w.1 y)
+content_once (ListPull rate handles) name bytes others target held c d m n a b alone p q r s x y =
+    let rows = front_once held others.script others.media m n r s in
+    let v = list_held rate bytes c p in
+    let w = list_held rate bytes d q in
+    let first = subst (Answered (ListPull rate handles) name others target m a) v.1 x in
+    let second = subst (Answered (ListPull rate handles) name others target n b) w.1 y in
+    conformed_once name v.0 (media_in m) (AnswersPull handles name target)
+    (pulled_once handles name target) a b first
+    (conformed_as name v.0 w.0 (media_in m) (media_in n) (AnswersPull handles name target) b
     (one_list rate bytes w.0 v.0 w.2 v.2) (sym rows) second)
 content_once Cat name bytes others target held c d m n a b alone p q r s x y = absurd (cc alone)
 content_once (ListCat rate) name bytes others target held c d m n a b alone p q r s x y =
@@ -608,16 +663,22 @@ one_once Stat name others target held a b =
     alone_once Stat name others target held a b refl
 one_once (ListStat rate) name others target held a b =
     alone_once (ListStat rate) name others target held a b refl
+one_once (Pull handles) name others target held a b =
+    alone_once (Pull handles) name others target held a b refl
+one_once (ListPull rate handles) name others target held a b =
+    alone_once (ListPull rate handles) name others target held a b refl
 one_once (ListToList rate drop wide) name others target held a b =
     alone_once (ListToList rate drop wide) name others target held a b refl
-one_once (ListToObjects rate) name others target held a b =
-    alone_once (ListToObjects rate) name others target held a b refl
+one_once (ListToObjects rate older) name others target held a b =
+    alone_once (ListToObjects rate older) name others target held a b refl
 one_once (TimelineToList drop wide) name others target held a b =
     alone_once (TimelineToList drop wide) name others target held a b refl
-one_once ToObjects name others target held a b =
-    alone_once ToObjects name others target held a b refl
+one_once (ToObjects older) name others target held a b =
+    alone_once (ToObjects older) name others target held a b refl
 one_once ToJson name others target held a b =
     alone_once ToJson name others target held a b refl
+one_once LogToMedia name others target held a b =
+    alone_once LogToMedia name others target held a b refl
 one_once (Frames asked) name others target held a b =
     alone_once (Frames asked) name others target held a b refl
 one_once (ListFrames rate asked) name others target held a b =

@@ -1,10 +1,7 @@
 -- There is one answer to several inputs.
-use Rattle.std.proofs.Common.{◌≡◌, ◌++◌, ℕ, Option, List, [], ◌∷◌, Some, None, map, refl, sym, ap, ap₂, cond, subst, ◌∙◌, inl, inr}
-use Rattle.json_text.specs.Layout.{layout}
+use Rattle.std.proofs.Common.{◌≡◌, ℕ, Option, List, [], ◌∷◌, None, map, refl, sym, ap, ap₂, cond, subst, ◌∙◌, inl, inr}
 use Rattle.edl_list.specs.declared.list.EventList.{EventList}
-use Rattle.edl_text.specs.Lists.{IsList}
 use Rattle.edl_text.proofs.OneList.{one_list}
-use Rattle.tick_time.specs.declared.rates.Rate.{Rate}
 use Rattle.otio_model.specs.declared.timelines.Timeline.{Timeline}
 use Rattle.otio_model.specs.Timelines.{bare}
 use Rattle.coord.specs.Soundness.{IsFaultless}
@@ -14,24 +11,24 @@ use Rattle.media_rows.specs.Rows.{MediaRows}
 use Rattle.edl_law.proofs.OneTimeline.{one_timeline}
 use Rattle.edl_law.proofs.OneFault.{one_fault as one_conform_fault, no_fault as no_conform_fault}
 use Rattle.source_files.specs.Faults.{coord_fault_text, conform_fault_text}
-use Rattle.source_files.specs.Formats.{Holds, IsTimeline}
+use Rattle.source_files.specs.Formats.{Holds}
 use Rattle.source_files.specs.Order.{EachIs, FirstIsNot}
 use Rattle.source_files.specs.Reading.{Held, Source, IsRead, AreRead}
 use Rattle.source_files.specs.declared.kinds.Kind.{Kind}
 use Rattle.source_files.specs.declared.kinds.Kind.TheVariants as kinds
 use Rattle.source_files.specs.declared.kinds.Content.{Content}
 use Rattle.source_files.specs.declared.kinds.Content.TheVariants as content
-use Rattle.source_files.proofs.Order.{first_once, each_or_first}
 use Rattle.command_words.specs.declared.tools.ToolAsked.{ToolAsked}
 use Rattle.otio_tools.specs.Forms.{Answer, done, refused}
 use Rattle.otio_tools.specs.Opened.{AnswersOpened, AnswersUnopened, Input, IsConformedTo, IsOpened, IsOpenedInput, IsUnconformed, IsUnopened, IsUnsound, Opened, Unopened, inputs_in, media_behind, names_in}
 use Rattle.otio_tools.specs.Answer.{AnswersCat, AnswersWorked}
 use Rattle.otio_tools.specs.Tools.{AnswersFault, AnswersJoined, AnswersTool, Joined, NotJoined, NotWorked, Worked, does_list, listings_asked, name_told, tool_fault_text, tool_text}
 use Rattle.otio_tools.proofs.Formats.{timeline_bare_once}
-use Rattle.otio_tools.proofs.HeldContents.{list_held, media_held, object_held, script_held, there_once, timeline_held, value_held}
+use Rattle.otio_tools.proofs.HeldContents.{list_held, log_held, media_held, object_held, script_held, there_once, timeline_held, value_held}
 use Rattle.otio_tools.proofs.OneText.{same_listings, same_text}
 use Rattle.media_rows.specs.declared.row.MediaRow.{MediaRow}
 use Rattle.media_list.proofs.OneOutcome.{list_once as media_list_once}
+use Rattle.ale_text.proofs.OneOutcome.{log_once}
 use Rattle.flat_timelines.specs.declared.step_faults.ToolFault.{ToolFault}
 use Rattle.flat_timelines.proofs.OneGathered.{concat_sure}
 use Rattle.flat_timelines.proofs.OneOutcome.{one_result, never_both, one_fault}
@@ -248,6 +245,10 @@ same_held kinds.Media bytes c d p q =
     let v = media_held bytes c p in
     let w = media_held bytes d q in
     rows_too v.0 v.1 (w.1 ∙ ap content.Rows (media_list_once bytes w.0 v.0 w.2 v.2))
+same_held kinds.Log bytes c d p q =
+    let v = log_held bytes c p in
+    let w = log_held bytes d q in
+    rows_too v.0 v.1 (w.1 ∙ ap content.Rows (log_once bytes w.0 v.0 w.2 v.2))
 same_held kinds.Timeline bytes c d p q =
     let v = timeline_held bytes c p in
     let w = timeline_held bytes d q in

@@ -4,15 +4,21 @@ use Rattle.json_text.specs.Layout.{layout}
 use Rattle.otio_model.specs.declared.roots.Object.{Object}
 use Rattle.otio_model.specs.declared.timelines.Timeline.{Timeline}
 use Rattle.otio_model.specs.Timelines.{bare}
-use Rattle.schema_write.specs.Objects.{json_of}
+use Rattle.schema_write.specs.Objects.{json_of, old_json_of}
 use Rattle.listings.specs.declared.asked.Listings.{Listings}
-use Rattle.otio_tools.specs.Written.{listings_text, object_json, timeline_text}
+use Rattle.otio_tools.specs.Written.{listings_text, object_json, old_object_json, timeline_text}
 use Rattle.otio_tools.proofs.Formats.{bare_json}
 
 -- the JSON of objects that are written
 pub same_json : (a b : Object) → json_of a ≡ json_of b → object_json a ≡ object_json b
 unfolding object_json
 same_json a b e = e
+
+-- the same in the older family
+pub same_old_json : (a b : Object) → old_json_of a ≡ old_json_of b
+    → old_object_json a ≡ old_object_json b
+unfolding old_object_json
+same_old_json a b e = e
 
 pub same_text : (t u : Timeline) → bare t ≡ bare u → timeline_text t ≡ timeline_text u
 same_text t u same = ap layout (same_json _ _ (bare_json t u same))

@@ -1,11 +1,11 @@
 -- From what was read of files to what is planned.
-use Rattle.std.proofs.Common.{◌≡◌, ◌≢◌, ◌≤◌, ◌<◌, ◌^◌, ℕ, Bool, List, [], ◌∷◌, Some, None, Result, Ok, Err, IfOk, IfErr, refl, sym, subst, ap, arith}
+use Rattle.std.proofs.Common.{◌≡◌, ◌≢◌, ◌≤◌, ◌<◌, ◌^◌, ℕ, Bool, true, false, cond, List, [], ◌∷◌, Some, None, Result, Ok, Err, IfOk, IfErr, refl, sym, subst, ap, arith}
 use Rattle.std.specs.declared.option.Option.{Option}
 use Rattle.dev_io.specs.Known.{KnownFiles}
 use Rattle.dev_io.specs.Calls.{Tells}
 use Rattle.otio_model.specs.declared.roots.Object.{Object, Timeline as ObjectOfTimeline}
-use Rattle.schema_write.specs.Objects.{json_of, timeline_json}
-use Rattle.schema_write.proofs.Trees.{json_of-Timeline}
+use Rattle.schema_write.specs.Objects.{newer, json_of, old_json_of, timeline_json}
+use Rattle.schema_write.proofs.Trees.{object_in-Timeline}
 use Rattle.source_files.specs.Reasons.{reason_text}
 use Rattle.tick_time.specs.declared.rates.Rate.{Rate}
 use Rattle.source_files.specs.Order.{EachIs, FirstIsNot}
@@ -30,7 +30,11 @@ use Rattle.edl_frames.specs.Counted.{item_count}
 use Rattle.edl_frames.specs.Faults.{IsConformFault}
 use Rattle.edl_frames.specs.declared.faults.ConformFault.{ConformFault}
 use Rattle.edl_frames.specs.declared.faults.ConformFault.TheVariants as conform
-use Rattle.source_files.specs.Faults.{conform_fault_text, coord_fault_text, not_carried_text}
+use Rattle.source_files.specs.Faults.{conform_fault_text, coord_fault_text, not_carried_text, family_fault_text}
+use Rattle.schema_write.specs.OldForms.{IsOldFault}
+use Rattle.schema_write.specs.declared.old_faults.FamilyFault.{FamilyFault}
+use Rattle.schema_write.specs.declared.old_faults.FamilyFault.TheVariants as family
+use Rattle.otio_tools.specs.Objects.{AnswersObject, NoForm}
 use Rattle.coord.specs.Soundness.{IsFaultless, IsFaultOf}
 use Rattle.coord.specs.declared.faults.CoordFault.{CoordFault}
 use Rattle.coord.specs.declared.faults.CoordFault.TheVariants as coord
@@ -44,9 +48,9 @@ use Rattle.otio_tools.specs.Carried.{AnswersCarried, NotSound, Left}
 use Rattle.edl_law.proofs.ItemCounts.{timeline_count}
 use Rattle.limits.specs.Limits.{most_items}
 use Rattle.otio_model.specs.Counts.{count as count_below}
-use Rattle.otio_tools.specs.Asked.{Asked, one_file, media_source, kind_of}
+use Rattle.otio_tools.specs.Asked.{Asked, is_log, one_file, media_source, kind_of}
 use Rattle.otio_tools.specs.Forms.{Answer, done, absent, refused}
-use Rattle.otio_tools.specs.Written.{object_json}
+use Rattle.otio_tools.specs.Written.{object_json, old_object_json}
 use Rattle.otio_tools.specs.Tools.{AnswersCounted, Uncounted}
 use Rattle.otio_tools.specs.Answer.{AnswersHeld, AnswersUnread, Gone, Faulty, AnswersAsked, Unread, Judged}
 use Rattle.otio_tools.specs.Run.{FailsUnder}
@@ -139,16 +143,21 @@ pub suits_of_list : (command : Command) (rate : Rate) (held : Content)
 suits_of_list command rate held e s = suits_list rate held (subst (λ k. Suits k held) e s)
 
 -- what is read as a media list is one
-pub media_suits : (held : Content) → Suits kinds.Media held
+pub media_suits : (log : Bool) (held : Content) → Suits (cond log kinds.Log kinds.Media) held
     → (rows : List MediaRow) × (held ≡ content.Rows rows)
-media_suits (content.Rows rows) s = (rows, refl)
-media_suits (content.Events list) s = absurd s
-media_suits (content.Value value) s = absurd s
-media_suits (content.Root object) s = absurd s
-media_suits (content.Film timeline) s = absurd s
-media_suits (content.Commands commands) s = absurd s
+media_suits log (content.Rows rows) s = (rows, refl)
+media_suits true (content.Events list) s = absurd s
+media_suits true (content.Value value) s = absurd s
+media_suits true (content.Root object) s = absurd s
+media_suits true (content.Film timeline) s = absurd s
+media_suits true (content.Commands commands) s = absurd s
+media_suits false (content.Events list) s = absurd s
+media_suits false (content.Value value) s = absurd s
+media_suits false (content.Root object) s = absurd s
+media_suits false (content.Film timeline) s = absurd s
+media_suits false (content.Commands commands) s = absurd s
 
--- what the files of a command hold is one content, and a media list behind it at most
+-- what the files of a command hold is one content, and a media list after it at most
 pub are_contents : (command : Command) (name : List ℕ) (media : Option (List ℕ))
     (contents : List Content)
     → EachIs (λ source held. Suits source.kind held) (one_file command name media) contents
@@ -159,7 +168,7 @@ are_contents command name None (held ∷ more ∷ rest) h = absurd h.1
 are_contents command name (Some list) [] h = absurd h
 are_contents command name (Some list) (held ∷ []) h = absurd h.1
 are_contents command name (Some list) (held ∷ rows ∷ []) h =
-    let r = media_suits rows h.1.0 in (held, Some r.0, ap (λ c. held ∷ c ∷ []) r.1)
+    let r = media_suits (is_log list) rows h.1.0 in (held, Some r.0, ap (λ c. held ∷ c ∷ []) r.1)
 are_contents command name (Some list) (held ∷ rows ∷ other ∷ rest) h = absurd h.1.1
 
 -- the file of a command suits its kind
@@ -201,11 +210,16 @@ pub object_is : (object : Object) → object_json object ≡ json_of object
 unfolding object_json
 object_is object = refl
 
+-- and in the older family its JSON there
+pub old_object_is : (object : Object) → old_object_json object ≡ old_json_of object
+unfolding old_object_json
+old_object_is object = refl
+
 -- what is written of a timeline is its JSON
 pub timeline_is : (timeline : Timeline)
     → object_json (ObjectOfTimeline timeline) ≡ timeline_json timeline
 unfolding object_json
-timeline_is timeline = json_of-Timeline timeline
+timeline_is timeline = object_in-Timeline newer timeline
 
 -- what is planned for a command and contents that are known is planned for these
 pub held_as : (command other : Command) (held known : Content) (more : List Content)
@@ -221,7 +235,7 @@ held_as command other held known more file files result e f h =
     (subst (λ c. Suffices (λ target answer.
     AnswersHeld other (file ∷ files) target (c ∷ more) answer) file.name result) (sym f) h)
 
--- the media list behind a list is the one that was read
+-- the media list after a list is the one that was read
 pub media_is : (media : MediaRows) → media_in (media_content media) ≡ media
 media_is None = refl
 media_is (Some rows) = refl
@@ -271,6 +285,16 @@ pub not_conformed_as : (name : List ℕ) (list : EventList) (media : MediaRows)
 not_conformed_as name list media Is fault (Broken reason) is told =
     λ target. NotConformed fault told.0 is (ap (refused name) told.1)
 not_conformed_as name list media Is fault Memory is told = λ target. tt
+
+-- how an object without a form in the older family is refused
+pub without_form : (older : Bool) (name : List ℕ) (object : Object) (fault : FamilyFault)
+    (refusal : Refusal) → older ≡ true → IsOldFault object fault
+    → IsRefused (λ why. (fault ≢ family.Memory) × (why ≡ family_fault_text fault)) refusal
+    → Suffices (λ target answer. AnswersObject older name target object answer) name (Err refusal)
+without_form true name object fault (Broken reason) asked is told =
+    λ target. NoForm fault told.0 is (ap (refused name) told.1)
+without_form true name object fault Memory asked is told = λ target. tt
+without_form false name object fault refusal asked is told = absurd (cc asked)
 
 -- how a timeline that isn't sound is refused where its frames are asked for
 pub unsound_frames : (asked : FramesAsked) (name : List ℕ) (timeline : Timeline)

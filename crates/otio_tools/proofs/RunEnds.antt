@@ -275,7 +275,7 @@ written_here text (Ok u) (Some old) (Some new) h = h
 written_here text (Err Sink) (Some old) (Some new) h = inr h
 written_here text (Err NoMemory) (Some old) (Some new) h = h
 
--- what is written behind an aim goes to the file of that name
+-- what is written after an aim goes to the file of that name
 pub written_there : (F : Type 0) (name text : List ℕ) (u : Unit {0})
     (result : Result (Unit {0}) RowFault) (old mid new : Option KnownOut)
     → Tells (Aims {E = F} name (Ok u)) old mid

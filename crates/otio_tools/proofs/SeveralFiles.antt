@@ -1,5 +1,5 @@
 -- From what several files hold to what is planned.
-use Rattle.std.proofs.Common.{◌≡◌, ◌≢◌, ◌++◌, ◌||◌, ℕ, suc, Bool, true, false, cond, List, [], ◌∷◌, All, Option, Some, None, Result, Ok, Err, IfOk, IfErr, IsTrue, ◌↔◌, zero, ◌<◌, ◌+◌, get_or, length, map, take, drop, refl, sym, ap, ap₂, subst, ◌∙◌, inl, inr, bytes_eq, codes, arith}
+use Rattle.std.proofs.Common.{◌≡◌, ◌≢◌, ◌++◌, ◌||◌, ℕ, suc, Bool, true, false, cond, List, [], ◌∷◌, All, Option, Some, None, Result, Ok, Err, IfOk, IsTrue, ◌↔◌, zero, ◌<◌, ◌+◌, get_or, length, map, take, drop, refl, sym, ap, ap₂, subst, ◌∙◌, inl, inr, bytes_eq, codes, arith}
 use Rattle.std.proofs.lemmas.Slice.Eq.{bytes_eq-Decides}
 use Rattle.std.proofs.lemmas.List.{take_more}
 use Rattle.std.proofs.lemmas.List.Elements.{All-nil, All-cons, All-head, All-tail, All-push}
@@ -9,7 +9,6 @@ use Rattle.dev_io.specs.Calls.{Tells}
 use Rattle.otio_model.specs.declared.timelines.Timeline.{Timeline}
 use Rattle.media_rows.specs.Rows.{MediaRows}
 use Rattle.source_files.specs.Reasons.{reason_text}
-use Rattle.media_rows.specs.declared.row.MediaRow.{MediaRow}
 use Rattle.source_files.specs.Order.{EachIs, FirstIsNot}
 use Rattle.source_files.specs.Formats.{Suits}
 use Rattle.source_files.specs.Reading.{Source, HasStopped, HaveRead, IsRefused, RaisedBy, source_of}
@@ -28,8 +27,8 @@ use Rattle.command_words.specs.Asked.{OtherNames}
 use Rattle.command_words.specs.Names.{IsListName}
 use Rattle.command_words.specs.declared.requests.Command.{Command}
 use Rattle.command_words.specs.declared.requests.Command.TheVariants.{ListToList, ListToObjects, TimelineToList, ToObjects, ToJson, Frames, ListFrames, Edit, ListEdit}
-use Rattle.command_words.specs.declared.requests.Command.TheVariants.{Cat, ListCat, Stat, ListStat, Tool, ListTool}
-use Rattle.otio_tools.specs.Asked.{Asked, EditsTimeline, IsScripted, asked_alone, asked_for, files_of, input_named, is_list, kind_named, media_source, read_as, script_source, takes_several}
+use Rattle.command_words.specs.declared.requests.Command.TheVariants.{Cat, ListCat, Stat, ListStat, Tool, ListTool, Pull, ListPull, LogToMedia}
+use Rattle.otio_tools.specs.Asked.{Asked, EditsTimeline, IsScripted, asked_alone, asked_for, files_of, input_named, is_list, is_log, kind_named, media_source, script_source, takes_several}
 use Rattle.otio_tools.specs.Answer.{AnswersHeld}
 use Rattle.otio_tools.specs.Forms.{Answer, done, refused}
 use Rattle.otio_tools.specs.Opened.{AnswersOpened, AnswersUnopened, Input, IsOpened, IsOpenedInput, IsUnopened, Opened, Unopened, inputs_in, media_behind, names_in}
@@ -44,9 +43,9 @@ use Rattle.flat_timelines.specs.declared.step_faults.ToolFault.{ToolFault}
 use Rattle.flat_timelines.specs.declared.step_faults.ToolFault.TheVariants as tool
 use Rattle.otio_model.specs.declared.roots.Object.{Timeline as ObjectOfTimeline}
 use Rattle.command_words.specs.declared.tools.ToolAsked.{ToolAsked}
-use Rattle.otio_tools.proofs.Planning.{held_planned, stop_planned}
+use Rattle.otio_tools.proofs.Planning.{held_planned, media_suits, stop_planned}
 use Rattle.otio_tools.specs.declared.planned.Planned.{Planned}
-use Rattle.otio_tools.specs.declared.planned.Planned.TheVariants.{Events, Value, Root, Rows, Edited, Listed}
+use Rattle.otio_tools.specs.declared.planned.Planned.TheVariants.{Events, Value, Root, OldRoot, Rows, Edited, Listed, Text, Media}
 
 -- ---- the names of lists
 
@@ -76,7 +75,7 @@ list_is [] e = absurd (cc e)
 list_is (b ∷ name) e =
     list_or b name (bytes_eq (b ∷ name) (codes ".edl")) refl (list_is name) e
 
-by_truth : (r s : Bool) → (IsTrue r → s ≡ true) → (s ≡ true → IsTrue r) → r ≡ s
+pub by_truth : (r s : Bool) → (IsTrue r → s ≡ true) → (s ≡ true → IsTrue r) → r ≡ s
 by_truth true s to from = sym (to refl)
 by_truth false true to from = absurd (cc (from refl))
 by_truth false false to from = refl
@@ -97,11 +96,14 @@ no_edit_several (Tool asked) e t = t
 no_edit_several (ListTool rate asked) e t = t
 no_edit_several Stat e t = t
 no_edit_several (ListStat rate) e t = t
+no_edit_several (Pull handles) e t = t
+no_edit_several (ListPull rate handles) e t = t
 no_edit_several (ListToList rate drop wide) e t = t
-no_edit_several (ListToObjects rate) e t = t
+no_edit_several (ListToObjects rate older) e t = t
 no_edit_several (TimelineToList drop wide) e t = t
-no_edit_several ToObjects e t = t
+no_edit_several (ToObjects older) e t = t
 no_edit_several ToJson e t = t
+no_edit_several LogToMedia e t = t
 no_edit_several (Frames asked) e t = t
 no_edit_several (ListFrames rate asked) e t = t
 no_edit_several Edit e t = cc e
@@ -129,11 +131,14 @@ pub asked_as : (command : Command) (name : List ℕ) (others : OtherNames)
     → asked_alone command name others target ≡ asked_for command name others target
 asked_as Stat name others target e = refl
 asked_as (ListStat rate) name others target e = refl
+asked_as (Pull handles) name others target e = refl
+asked_as (ListPull rate handles) name others target e = refl
 asked_as (ListToList rate drop wide) name others target e = refl
-asked_as (ListToObjects rate) name others target e = refl
+asked_as (ListToObjects rate older) name others target e = refl
 asked_as (TimelineToList drop wide) name others target e = refl
-asked_as ToObjects name others target e = refl
+asked_as (ToObjects older) name others target e = refl
 asked_as ToJson name others target e = refl
+asked_as LogToMedia name others target e = refl
 asked_as (Frames asked) name others target e = refl
 asked_as (ListFrames rate asked) name others target e = refl
 asked_as Edit name others target e = refl
@@ -149,8 +154,11 @@ leaves_none command contents (Edited desk) other none = absurd (none tt)
 leaves_none command contents (Events list drop wide) other none = other
 leaves_none command contents (Value value) other none = other
 leaves_none command contents (Root object) other none = other
+leaves_none command contents (OldRoot object) other none = other
 leaves_none command contents (Rows timeline listing) other none = other
 leaves_none command contents (Listed timeline asked) other none = other
+leaves_none command contents (Text text) other none = other
+leaves_none command contents (Media list) other none = other
 
 pub leaves_nothing : (command : Command) (contents : List Content)
     (result : Result Planned SourceFault) → takes_several command ≡ true
@@ -159,7 +167,7 @@ leaves_nothing command contents (Ok planned) e none =
     leaves_none command contents planned (no_edit_several command e) none
 leaves_nothing command contents (Err stop) e none = tt
 
--- want of memory tells nothing of the files
+-- out of memory tells nothing of the files
 pub memory_planned : (asked : Asked) (stop : SourceFault) (known : Option KnownFiles)
     → stop.fault ≡ Refused Memory → Tells (Plans asked (Err stop)) known known
 memory_planned asked stop None e = tt
@@ -200,7 +208,7 @@ sources_more command sources names rest name source e f s =
     ∙ sym (named_append command names name)
     ∙ sym (ap (λ l. map (input_named command) (names_now l)) f)
 
--- ---- what several inputs hold, and the media list behind them
+-- ---- what several inputs hold, and the media list after them
 
 media_editable : (media : Option (List ℕ)) (contents : List Content)
     → EachIs (λ source held. Suits source.kind held) (media_source media) contents
@@ -208,13 +216,9 @@ media_editable : (media : Option (List ℕ)) (contents : List Content)
 media_editable None [] s = (None, refl)
 media_editable None (c ∷ cs) s = absurd s
 media_editable (Some name) [] s = absurd s
-media_editable (Some name) (content.Rows rows ∷ []) s = (Some rows, refl)
-media_editable (Some name) (content.Value value ∷ cs) s = absurd s.0
-media_editable (Some name) (content.Root object ∷ cs) s = absurd s.0
-media_editable (Some name) (content.Film timeline ∷ cs) s = absurd s.0
-media_editable (Some name) (content.Events list ∷ cs) s = absurd s.0
-media_editable (Some name) (content.Commands commands ∷ cs) s = absurd s.0
-media_editable (Some name) (content.Rows rows ∷ c ∷ cs) s = absurd s.1
+media_editable (Some name) (c ∷ []) s =
+    let r = media_suits (is_log name) c s.0 in (Some r.0, ap (λ x. x ∷ []) r.1)
+media_editable (Some name) (c ∷ d ∷ cs) s = absurd s.1
 
 film_editable : (held : Content) → Suits kinds.Timeline held → IsEditable held
 film_editable (content.Film timeline) s = s
@@ -254,11 +258,14 @@ input_editable (ListTool rate asked) name held e s =
     (λ h. list_editable h (kinds.List rate) (rate, refl)) s
 input_editable Stat name held e s = absurd (cc e)
 input_editable (ListStat rate) name held e s = absurd (cc e)
+input_editable (Pull handles) name held e s = absurd (cc e)
+input_editable (ListPull rate handles) name held e s = absurd (cc e)
 input_editable (ListToList rate drop wide) name held e s = absurd (cc e)
-input_editable (ListToObjects rate) name held e s = absurd (cc e)
+input_editable (ListToObjects rate older) name held e s = absurd (cc e)
 input_editable (TimelineToList drop wide) name held e s = absurd (cc e)
-input_editable ToObjects name held e s = absurd (cc e)
+input_editable (ToObjects older) name held e s = absurd (cc e)
 input_editable ToJson name held e s = absurd (cc e)
+input_editable LogToMedia name held e s = absurd (cc e)
 input_editable (Frames asked) name held e s = absurd (cc e)
 input_editable (ListFrames rate asked) name held e s = absurd (cc e)
 input_editable Edit name held e s = absurd (cc e)
@@ -362,11 +369,14 @@ held_several (Tool asked) files target contents answer e h = h
 held_several (ListTool rate asked) files target contents answer e h = h
 held_several Stat files target contents answer e h = absurd (cc e)
 held_several (ListStat rate) files target contents answer e h = absurd (cc e)
+held_several (Pull handles) files target contents answer e h = absurd (cc e)
+held_several (ListPull rate handles) files target contents answer e h = absurd (cc e)
 held_several (ListToList rate drop wide) files target contents answer e h = absurd (cc e)
-held_several (ListToObjects rate) files target contents answer e h = absurd (cc e)
+held_several (ListToObjects rate older) files target contents answer e h = absurd (cc e)
 held_several (TimelineToList drop wide) files target contents answer e h = absurd (cc e)
-held_several ToObjects files target contents answer e h = absurd (cc e)
+held_several (ToObjects older) files target contents answer e h = absurd (cc e)
 held_several ToJson files target contents answer e h = absurd (cc e)
+held_several LogToMedia files target contents answer e h = absurd (cc e)
 held_several (Frames asked) files target contents answer e h = absurd (cc e)
 held_several (ListFrames rate asked) files target contents answer e h = absurd (cc e)
 held_several Edit files target contents answer e h = absurd (cc e)

@@ -1,5 +1,5 @@
 -- Words that ask for one command, and how several files become one.
-use Rattle.std.proofs.Common.{◌≡◌, ℕ, suc, Bool, true, false, List, [], ◌∷◌, Some, None, length, refl, sym, ap, subst, ◌∙◌, inl, inr}
+use Rattle.std.proofs.Common.{◌≡◌, ℕ, suc, Bool, true, false, List, [], ◌∷◌, None, length, refl, sym, ap, ◌∙◌, inl, inr}
 use Rattle.std.specs.declared.option.Option.{Option}
 use Rattle.tick_time.specs.declared.rates.Rate.{Rate}
 use Rattle.command_words.specs.Asked.{Ask, IsByNames, IsRequest, OtherNames}
@@ -9,7 +9,7 @@ use Rattle.command_words.specs.declared.names.Verb.{Verb}
 use Rattle.command_words.specs.declared.names.Verb.TheVariants as verbs
 use Rattle.command_words.specs.declared.requests.Command.{Command}
 use Rattle.command_words.specs.declared.requests.Command.TheVariants.{ListToList, ListToObjects, TimelineToList, ToObjects, ToJson, Frames, ListFrames, Edit, ListEdit}
-use Rattle.command_words.specs.declared.requests.Command.TheVariants.{Cat, ListCat, Stat, ListStat, Tool, ListTool}
+use Rattle.command_words.specs.declared.requests.Command.TheVariants.{Cat, ListCat, Stat, ListStat, Tool, ListTool, Pull, ListPull, LogToMedia}
 use Rattle.command_words.specs.declared.tools.Joining.{Joining}
 use Rattle.command_words.specs.declared.tools.ToolAsked.{ToolAsked}
 use Rattle.otio_tools.specs.Several.{FitsJoining, HasJoining}
@@ -64,6 +64,8 @@ joining_by (Tool asked) verbs.Convert name others target given r = absurd r.aske
 joining_by (Tool asked) verbs.Frames name others target given r = absurd r.asked.means
 joining_by (Tool asked) verbs.Edit name others target given r = absurd r.asked.means
 joining_by (Tool asked) verbs.Drill name others target given r = absurd r.asked
+joining_by (Tool asked) verbs.Media name others target given r =
+    absurd (let k = r.asked.means in cc k)
 joining_by (Tool asked) verbs.Cat name others target given r =
     absurd (not_named Cat ListCat (Tool asked) (name ∷ given.more) r.asked.rate r.asked.means
     (λ k. cc k) (λ q k. cc k))
@@ -74,21 +76,32 @@ joining_by (ListTool rate asked) verbs.Convert name others target given r = absu
 joining_by (ListTool rate asked) verbs.Frames name others target given r = absurd r.asked.means
 joining_by (ListTool rate asked) verbs.Edit name others target given r = absurd r.asked.means
 joining_by (ListTool rate asked) verbs.Drill name others target given r = absurd r.asked
+joining_by (ListTool rate asked) verbs.Media name others target given r =
+    absurd (let k = r.asked.means in cc k)
 joining_by (ListTool rate asked) verbs.Cat name others target given r =
     absurd (not_named Cat ListCat (ListTool rate asked) (name ∷ given.more) r.asked.rate
     r.asked.means (λ k. cc k) (λ q k. cc k))
 joining_by (ListTool rate asked) verbs.Stat name others target given r =
     absurd (not_named Stat ListStat (ListTool rate asked) (name ∷ []) r.asked.rate r.asked.means
     (λ k. cc k) (λ q k. cc k))
+joining_by (Tool asked) verbs.Pull name others target given r =
+    absurd (not_named (Pull r.asked.handles) (λ q. ListPull q r.asked.handles) (Tool asked)
+    (name ∷ []) r.asked.rate r.asked.means (λ k. cc k) (λ q k. cc k))
+joining_by (ListTool rate asked) verbs.Pull name others target given r =
+    absurd (not_named (Pull r.asked.handles) (λ q. ListPull q r.asked.handles)
+    (ListTool rate asked) (name ∷ []) r.asked.rate r.asked.means (λ k. cc k) (λ q k. cc k))
 joining_by Cat verb name others target given r = tt
 joining_by (ListCat rate) verb name others target given r = tt
 joining_by Stat verb name others target given r = tt
 joining_by (ListStat rate) verb name others target given r = tt
+joining_by (Pull handles) verb name others target given r = tt
+joining_by (ListPull rate handles) verb name others target given r = tt
 joining_by (ListToList rate drop wide) verb name others target given r = tt
-joining_by (ListToObjects rate) verb name others target given r = tt
+joining_by (ListToObjects rate older) verb name others target given r = tt
 joining_by (TimelineToList drop wide) verb name others target given r = tt
-joining_by ToObjects verb name others target given r = tt
+joining_by (ToObjects older) verb name others target given r = tt
 joining_by ToJson verb name others target given r = tt
+joining_by LogToMedia verb name others target given r = tt
 joining_by (Frames asked) verb name others target given r = tt
 joining_by (ListFrames rate asked) verb name others target given r = tt
 joining_by Edit verb name others target given r = tt

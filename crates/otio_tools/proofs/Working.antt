@@ -14,7 +14,7 @@ use Rattle.command_words.specs.declared.names.Verb.{Verb}
 use Rattle.command_words.specs.declared.names.Verb.TheVariants as verbs
 use Rattle.command_words.specs.declared.requests.Command.{Command}
 use Rattle.command_words.specs.declared.requests.Command.TheVariants.{ListToList, ListToObjects, TimelineToList, ToObjects, ToJson, Frames, ListFrames, Edit, ListEdit}
-use Rattle.command_words.specs.declared.requests.Command.TheVariants.{Cat, ListCat, Stat, ListStat, Tool, ListTool}
+use Rattle.command_words.specs.declared.requests.Command.TheVariants.{Cat, ListCat, Stat, ListStat, Tool, ListTool, Pull, ListPull, LogToMedia}
 use Rattle.command_words.proofs.Asking.{ask_once}
 use Rattle.otio_tools.proofs.SeveralWords.{not_named}
 use Rattle.otio_tools.specs.Asked.{EditsTimeline, IsScripted, asked_for}
@@ -23,7 +23,7 @@ use Rattle.otio_tools.specs.Run.{Streams}
 use Rattle.otio_tools.specs.Worked.{AskNoEdit, IsWorkOf, LeavesDesk, WorksOn}
 use Rattle.otio_tools.specs.declared.Desk.{Desk}
 use Rattle.otio_tools.specs.declared.planned.Planned.{Planned}
-use Rattle.otio_tools.specs.declared.planned.Planned.TheVariants.{Events, Value, Root, Rows, Edited, Listed}
+use Rattle.otio_tools.specs.declared.planned.Planned.TheVariants.{Events, Value, Root, OldRoot, Rows, Edited, Listed, Text, Media}
 use Rattle.otio_tools.specs.declared.Status.{Status}
 use Rattle.otio_tools.specs.declared.Status.TheVariants.{Done, Usage, Refused, Input, Output, Memory}
 
@@ -45,7 +45,11 @@ edit_named : (command : Command) (verb : Verb) (name : List ℕ) (others : Other
 edit_named Edit verbs.Edit name others target given r e = r.asked.script
 edit_named (ListEdit rate) verbs.Edit name others target given r e = r.asked.script
 edit_named Edit verbs.Drill name others target given r e = absurd r.asked
+edit_named Edit verbs.Media name others target given r e =
+    absurd (let k = r.asked.means in cc k)
 edit_named (ListEdit rate) verbs.Drill name others target given r e = absurd r.asked
+edit_named (ListEdit rate) verbs.Media name others target given r e =
+    absurd (let k = r.asked.means in cc k)
 edit_named Edit verbs.Convert name others target given r e = absurd r.asked.means
 edit_named (ListEdit rate) verbs.Convert name others target given r e = absurd r.asked.means
 edit_named Edit verbs.Frames name others target given r e = absurd r.asked.means
@@ -64,15 +68,24 @@ edit_named (ListEdit rate) verbs.Stat name others target given r e =
 edit_named (ListEdit rate) verbs.Tool name others target given r e =
     absurd (not_named (Tool r.asked.tool) (λ q. ListTool q r.asked.tool) (ListEdit rate)
     (name ∷ given.more) r.asked.rate r.asked.means (λ k. cc k) (λ q k. cc k))
+edit_named Edit verbs.Pull name others target given r e =
+    absurd (not_named (Pull r.asked.handles) (λ q. ListPull q r.asked.handles) Edit (name ∷ [])
+    r.asked.rate r.asked.means (λ k. cc k) (λ q k. cc k))
+edit_named (ListEdit rate) verbs.Pull name others target given r e =
+    absurd (not_named (Pull r.asked.handles) (λ q. ListPull q r.asked.handles) (ListEdit rate)
+    (name ∷ []) r.asked.rate r.asked.means (λ k. cc k) (λ q k. cc k))
 edit_named (ListToList rate drop wide) verb name others target given r e = absurd e
-edit_named (ListToObjects rate) verb name others target given r e = absurd e
+edit_named (ListToObjects rate older) verb name others target given r e = absurd e
 edit_named (TimelineToList drop wide) verb name others target given r e = absurd e
-edit_named ToObjects verb name others target given r e = absurd e
+edit_named (ToObjects older) verb name others target given r e = absurd e
 edit_named ToJson verb name others target given r e = absurd e
+edit_named LogToMedia verb name others target given r e = absurd e
 edit_named (Frames asked) verb name others target given r e = absurd e
 edit_named (ListFrames rate asked) verb name others target given r e = absurd e
 edit_named Stat verb name others target given r e = absurd e
 edit_named (ListStat rate) verb name others target given r e = absurd e
+edit_named (Pull handles) verb name others target given r e = absurd e
+edit_named (ListPull rate handles) verb name others target given r e = absurd e
 edit_named Cat verb name others target given r e = absurd e
 edit_named (ListCat rate) verb name others target given r e = absurd e
 edit_named (Tool asked) verb name others target given r e = absurd e
@@ -89,14 +102,16 @@ scripted_by (ListEdit rate) verb name others target given r =
     (edit_named (ListEdit rate) verb name others target given r tt) r.script_is
 scripted_by (ListToList rate drop wide) verb name others target given r =
     none_named (ListToList rate drop wide) others.script (λ e. e) r.script_is
-scripted_by (ListToObjects rate) verb name others target given r =
-    none_named (ListToObjects rate) others.script (λ e. e) r.script_is
+scripted_by (ListToObjects rate older) verb name others target given r =
+    none_named (ListToObjects rate older) others.script (λ e. e) r.script_is
 scripted_by (TimelineToList drop wide) verb name others target given r =
     none_named (TimelineToList drop wide) others.script (λ e. e) r.script_is
-scripted_by ToObjects verb name others target given r =
-    none_named ToObjects others.script (λ e. e) r.script_is
+scripted_by (ToObjects older) verb name others target given r =
+    none_named (ToObjects older) others.script (λ e. e) r.script_is
 scripted_by ToJson verb name others target given r =
     none_named ToJson others.script (λ e. e) r.script_is
+scripted_by LogToMedia verb name others target given r =
+    none_named LogToMedia others.script (λ e. e) r.script_is
 scripted_by (Frames asked) verb name others target given r =
     none_named (Frames asked) others.script (λ e. e) r.script_is
 scripted_by (ListFrames rate asked) verb name others target given r =
@@ -105,6 +120,10 @@ scripted_by Stat verb name others target given r =
     none_named Stat others.script (λ e. e) r.script_is
 scripted_by (ListStat rate) verb name others target given r =
     none_named (ListStat rate) others.script (λ e. e) r.script_is
+scripted_by (Pull handles) verb name others target given r =
+    none_named (Pull handles) others.script (λ e. e) r.script_is
+scripted_by (ListPull rate handles) verb name others target given r =
+    none_named (ListPull rate handles) others.script (λ e. e) r.script_is
 scripted_by Cat verb name others target given r =
     none_named Cat others.script (λ e. e) r.script_is
 scripted_by (ListCat rate) verb name others target given r =
@@ -131,8 +150,11 @@ work_of command name others target held (Edited desk) before e w =
 work_of command name others target held (Events list drop wide) before e w = absurd (w.2 e)
 work_of command name others target held (Value value) before e w = absurd (w.2 e)
 work_of command name others target held (Root object) before e w = absurd (w.2 e)
+work_of command name others target held (OldRoot object) before e w = absurd (w.2 e)
 work_of command name others target held (Rows timeline listing) before e w = absurd (w.2 e)
 work_of command name others target held (Listed timeline asked) before e w = absurd (w.2 e)
+work_of command name others target held (Text text) before e w = absurd (w.2 e)
+work_of command name others target held (Media list) before e w = absurd (w.2 e)
 
 -- another reading of the same words asks for the same
 as_asked : (words : List (List ℕ)) (c d : Command) (a b : List ℕ) (m n : OtherNames)
@@ -207,8 +229,11 @@ desk_alone command (Edited desk) before is other = absurd (other (is tt))
 desk_alone command (Events list drop wide) before is other = refl
 desk_alone command (Value value) before is other = refl
 desk_alone command (Root object) before is other = refl
+desk_alone command (OldRoot object) before is other = refl
 desk_alone command (Rows timeline listing) before is other = refl
 desk_alone command (Listed timeline asked) before is other = refl
+desk_alone command (Text text) before is other = refl
+desk_alone command (Media list) before is other = refl
 
 -- a command that edits nothing leaves the desk as it was
 pub untouched : (command : Command) (plan : Result Planned SourceFault) (before : Option Desk)

@@ -5,13 +5,14 @@ use Rattle.json_text.specs.Layout.{layout}
 use Rattle.source_files.specs.Order.{FirstIsNot}
 use Rattle.source_files.specs.Reading.{Held, Source, IsRead, AreRead, IsRefusedIn}
 use Rattle.source_files.specs.declared.kinds.Content.{Content}
-use Rattle.source_files.specs.declared.kinds.Content.TheVariants.{Value, Root, Film, Events, Commands}
+use Rattle.source_files.specs.declared.kinds.Content.TheVariants.{Value, Root, Film, Events, Rows, Commands}
 use Rattle.command_words.specs.Asked.{AskNothing}
 use Rattle.command_words.specs.Drills.{AsksDrill}
 use Rattle.command_words.specs.declared.requests.Command.{Command}
 use Rattle.command_words.specs.declared.tools.ToolAsked.{ToolAsked}
 use Rattle.command_words.specs.declared.requests.Command.TheVariants.{ListToList, ListToObjects, TimelineToList, ToObjects, ToJson, Frames, ListFrames, Edit, ListEdit}
-use Rattle.command_words.specs.declared.requests.Command.TheVariants.{Cat, ListCat, Stat, ListStat, Tool, ListTool}
+use Rattle.command_words.specs.declared.requests.Command.TheVariants.{Cat, ListCat, Stat, ListStat, Tool, ListTool, Pull, ListPull, LogToMedia}
+use Rattle.media_text.specs.Texts.{media_text}
 use Rattle.undo_log.specs.States.{State}
 use Rattle.drill.specs.Told.{DrillsTo}
 use Rattle.drill.specs.Lines.{tally_text}
@@ -22,9 +23,11 @@ use Rattle.otio_tools.specs.Events.{AnswersEvents}
 use Rattle.otio_tools.specs.Frames.{AnswersTimeline}
 use Rattle.otio_tools.specs.Carried.{AnswersCarried}
 use Rattle.otio_tools.specs.Conformed.{media_in, AnswersConformed}
-use Rattle.otio_tools.specs.Written.{object_json, AnswersWritten}
+use Rattle.otio_model.specs.declared.roots.Object.{Timeline as ObjectOfTimeline}
+use Rattle.otio_tools.specs.Objects.{AnswersObject}
 use Rattle.otio_tools.specs.Edited.{AnswersEdited}
 use Rattle.otio_tools.specs.Opened.{AnswersOpened, inputs_in, media_behind, names_in}
+use Rattle.otio_tools.specs.Pulled.{AnswersPull}
 use Rattle.otio_tools.specs.Tools.{AnswersCounted, AnswersJoined, AnswersTool}
 
 -- the answer to files whose timelines are joined
@@ -41,19 +44,21 @@ AnswersWorked asked files target contents answer = AnswersOpened (media_behind c
     (AnswersTool asked (names_in files contents) target) answer
 
 -- The answer to a command on what its files hold, in their order: a value or an object in the one
--- layout, a list in its one spelling, with drop-frame timecode where that is asked for or is in
--- force at its first event line, the timeline that a list conforms to with the media list behind
--- it, the list of a timeline's events with the media list behind it, the rows of frames, the counts
--- of items, the timeline that a script behind it leads to, or the one that several become. A
--- refusal is told of one of the files.
+-- layout, in the older family of schemas where that is asked for, a list in its one spelling, with
+-- drop-frame timecode where that is asked for or is in force at its first event line, the timeline
+-- that a list conforms to with the media list after it, written as an object is, the list of a
+-- timeline's events with the media list after it, the rows of frames, the counts of items, the
+-- pull list, the timeline that a script after it leads to, the one that several become, or the
+-- media list of a log. A refusal is told of one of the files.
 abbrev pub AnswersHeld : Command → List Source → Option (List ℕ) → List Content → Answer → Type 0
 AnswersHeld ToJson files target (Value value ∷ more) answer = answer ≡ done target (layout value)
-AnswersHeld ToObjects files target (Root object ∷ more) answer =
-    answer ≡ done target (layout (object_json object))
+AnswersHeld (ToObjects older) (file ∷ files) target (Root object ∷ more) answer =
+    AnswersObject older file.name target object answer
 AnswersHeld (ListToList rate drop wide) (file ∷ files) target (Events list ∷ more) answer =
     AnswersEvents file.name target list (drop || list.drop) wide answer
-AnswersHeld (ListToObjects rate) (file ∷ files) target (Events list ∷ more) answer =
-    AnswersConformed file.name list (media_in more) (AnswersWritten target) answer
+AnswersHeld (ListToObjects rate older) (file ∷ files) target (Events list ∷ more) answer =
+    AnswersConformed file.name list (media_in more)
+    (λ t. AnswersObject older file.name target (ObjectOfTimeline t)) answer
 AnswersHeld (TimelineToList drop wide) (file ∷ files) target (Film timeline ∷ more) answer =
     AnswersCarried drop wide file.name (media_in more) target timeline answer
 AnswersHeld (Frames asked) (file ∷ files) target (Film timeline ∷ more) answer =
@@ -69,6 +74,12 @@ AnswersHeld Stat (file ∷ files) target (Film timeline ∷ more) answer =
     AnswersCounted file.name target timeline answer
 AnswersHeld (ListStat rate) (file ∷ files) target (Events list ∷ more) answer =
     AnswersConformed file.name list (media_in more) (AnswersCounted file.name target) answer
+AnswersHeld (Pull handles) (file ∷ files) target (Film timeline ∷ more) answer =
+    AnswersPull handles file.name target timeline answer
+AnswersHeld (ListPull rate handles) (file ∷ files) target (Events list ∷ more) answer =
+    AnswersConformed file.name list (media_in more) (AnswersPull handles file.name target) answer
+AnswersHeld LogToMedia files target (Rows rows ∷ more) answer =
+    answer ≡ done target (media_text rows)
 AnswersHeld Cat files target contents answer = AnswersCat files target contents answer
 AnswersHeld (ListCat rate) files target contents answer = AnswersCat files target contents answer
 AnswersHeld (Tool asked) files target contents answer =

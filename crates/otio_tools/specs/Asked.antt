@@ -7,7 +7,7 @@ use Rattle.source_files.specs.declared.kinds.Kind.TheVariants as kinds
 use Rattle.command_words.specs.Asked.{Ask, OtherNames}
 use Rattle.command_words.specs.declared.requests.Command.{Command}
 use Rattle.command_words.specs.declared.requests.Command.TheVariants.{ListToList, ListToObjects, TimelineToList, ToObjects, ToJson, Frames, ListFrames, Edit, ListEdit}
-use Rattle.command_words.specs.declared.requests.Command.TheVariants.{Cat, ListCat, Stat, ListStat, Tool, ListTool}
+use Rattle.command_words.specs.declared.requests.Command.TheVariants.{Cat, ListCat, Stat, ListStat, Tool, ListTool, Pull, ListPull, LogToMedia}
 
 pub record Asked : Type 0 where
   pub command : Command
@@ -18,16 +18,19 @@ pub record Asked : Type 0 where
 -- what a command reads its file as; one that takes several reads each by its name
 abbrev pub kind_of : Command → Kind
 kind_of (ListToList rate drop wide) = kinds.List rate
-kind_of (ListToObjects rate) = kinds.List rate
+kind_of (ListToObjects rate older) = kinds.List rate
 kind_of (TimelineToList drop wide) = kinds.Timeline
-kind_of ToObjects = kinds.Object
+kind_of (ToObjects older) = kinds.Object
 kind_of ToJson = kinds.Json
+kind_of LogToMedia = kinds.Log
 kind_of (Frames asked) = kinds.Timeline
 kind_of (ListFrames rate asked) = kinds.List rate
 kind_of Edit = kinds.Timeline
 kind_of (ListEdit rate) = kinds.List rate
 kind_of Stat = kinds.Timeline
 kind_of (ListStat rate) = kinds.List rate
+kind_of (Pull handles) = kinds.Timeline
+kind_of (ListPull rate handles) = kinds.List rate
 kind_of Cat = kinds.Timeline
 kind_of (ListCat rate) = kinds.List rate
 kind_of (Tool asked) = kinds.Timeline
@@ -38,25 +41,38 @@ abbrev pub script_source : Option (List ℕ) → List Source
 script_source None = []
 script_source (Some name) = record { name = name; kind = kinds.Script } ∷ []
 
+-- the name ends with these bytes
+abbrev pub ends_with : List ℕ → List ℕ → Bool
+ends_with end [] = false
+ends_with end (byte ∷ name) = bytes_eq (byte ∷ name) end || ends_with end name
+
+-- the name of a log ends with `.ale` or `.ALE`
+abbrev pub is_log : List ℕ → Bool
+is_log name = ends_with (codes ".ale") name || ends_with (codes ".ALE") name
+
+-- what a media list of that name is read as: a log where the name is that of one
+abbrev pub media_kind : List ℕ → Kind
+media_kind name = cond (is_log name) kinds.Log kinds.Media
+
 -- the media list of that name, where one is read
 abbrev pub media_source : Option (List ℕ) → List Source
 media_source None = []
-media_source (Some name) = record { name = name; kind = kinds.Media } ∷ []
+media_source (Some name) = record { name = name; kind = media_kind name } ∷ []
 
 -- a file of that name that is read as this
 abbrev pub read_as : List ℕ → Kind → Source
 read_as name kind = record { name = name; kind = kind }
 
--- the file of that name, with no script behind it
+-- the file of that name, with no script after it
 abbrev pub one_file : Command → List ℕ → Option (List ℕ) → List Source
 one_file command name media = read_as name (kind_of command) ∷ media_source media
 
--- the file of that name, with this script behind it
+-- the file of that name, with this script after it
 abbrev pub edit_files : Command → List ℕ → List ℕ → Option (List ℕ) → List Source
 edit_files command name script media =
     read_as name (kind_of command) ∷ read_as script kinds.Script ∷ media_source media
 
--- the files of a command on the file of that name alone, the script behind it and then the media
+-- the files of a command on the file of that name alone, the script after it and then the media
 -- list
 abbrev pub files_alone : Command → List ℕ → (script media : Option (List ℕ)) → List Source
 files_alone command name script media =
@@ -85,7 +101,7 @@ takes_several (Tool asked) = true
 takes_several (ListTool rate asked) = true
 takes_several command = false
 
--- the inputs of a command: the file of that name, and those behind it where it takes several
+-- the inputs of a command: the file of that name, and those after it where it takes several
 abbrev pub inputs : Command → List ℕ → List (List ℕ) → List Source
 inputs command name more = input_named command name
     ∷ cond (takes_several command) (map (input_named command) more) []
@@ -111,16 +127,19 @@ asked_alone command name others target = record {
 -- the command edits a timeline
 abbrev pub EditsTimeline : Command → Type 0
 EditsTimeline (ListToList rate drop wide) = ⊥
-EditsTimeline (ListToObjects rate) = ⊥
+EditsTimeline (ListToObjects rate older) = ⊥
 EditsTimeline (TimelineToList drop wide) = ⊥
-EditsTimeline ToObjects = ⊥
+EditsTimeline (ToObjects older) = ⊥
 EditsTimeline ToJson = ⊥
+EditsTimeline LogToMedia = ⊥
 EditsTimeline (Frames asked) = ⊥
 EditsTimeline (ListFrames rate asked) = ⊥
 EditsTimeline Edit = Unit {0}
 EditsTimeline (ListEdit rate) = Unit {0}
 EditsTimeline Stat = ⊥
 EditsTimeline (ListStat rate) = ⊥
+EditsTimeline (Pull handles) = ⊥
+EditsTimeline (ListPull rate handles) = ⊥
 EditsTimeline Cat = ⊥
 EditsTimeline (ListCat rate) = ⊥
 EditsTimeline (Tool asked) = ⊥
@@ -134,16 +153,19 @@ IsScripted command (Some script) = EditsTimeline command
 -- the command lists frames
 abbrev pub ListsFrames : Command → Type 0
 ListsFrames (ListToList rate drop wide) = ⊥
-ListsFrames (ListToObjects rate) = ⊥
+ListsFrames (ListToObjects rate older) = ⊥
 ListsFrames (TimelineToList drop wide) = ⊥
-ListsFrames ToObjects = ⊥
+ListsFrames (ToObjects older) = ⊥
 ListsFrames ToJson = ⊥
+ListsFrames LogToMedia = ⊥
 ListsFrames (Frames asked) = Unit {0}
 ListsFrames (ListFrames rate asked) = Unit {0}
 ListsFrames Edit = ⊥
 ListsFrames (ListEdit rate) = ⊥
 ListsFrames Stat = ⊥
 ListsFrames (ListStat rate) = ⊥
+ListsFrames (Pull handles) = ⊥
+ListsFrames (ListPull rate handles) = ⊥
 ListsFrames Cat = ⊥
 ListsFrames (ListCat rate) = ⊥
 ListsFrames (Tool asked) = ⊥

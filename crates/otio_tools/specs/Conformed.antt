@@ -15,7 +15,7 @@ use Rattle.source_files.specs.declared.kinds.Content.{Content}
 use Rattle.source_files.specs.declared.kinds.Content.TheVariants.{Value, Root, Film, Events, Rows, Commands}
 use Rattle.otio_tools.specs.Forms.{Answer, refused}
 
--- the media list behind a list, where one was read
+-- the media list after a list, where one was read
 abbrev pub media_in : List Content → MediaRows
 media_in [] = None
 media_in (Rows rows ∷ more) = Some rows

@@ -1,13 +1,12 @@
 -- The answer to a drill, and what it leaves on the desk.
 use Rattle.std.specs.Prelude.{◌≡◌, ℕ, List, [], Some, None}
 use Rattle.std.specs.declared.option.Option.{Option}
-use Rattle.undo_log.specs.States.{IsKept, State, state_of}
+use Rattle.undo_log.specs.States.{IsKept, state_of}
 use Rattle.edit_script.specs.Keeping.{HoldsEdits}
 use Rattle.command_words.specs.Drills.{AsksDrill}
 use Rattle.drill.specs.Told.{DrillsTo}
 use Rattle.drill.specs.Lines.{tally_text}
 use Rattle.drill.specs.declared.tally.Tally.{Tally}
-use Rattle.otio_tools.specs.Forms.{Answer, done}
 use Rattle.otio_tools.specs.Run.{Streams, Sends, SendsNothing, Directs, DirectsPrefix, Message, OutFailed, no_memory, output_failed}
 use Rattle.otio_tools.specs.declared.Desk.{Desk}
 use Rattle.otio_tools.specs.declared.Status.{Status}

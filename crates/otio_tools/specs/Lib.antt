@@ -3,10 +3,12 @@ pub mod Forms
 pub mod Asked
 pub mod Events
 pub mod Frames
+pub mod Pulled
 pub mod Conformed
 pub mod Opened
 pub mod Tools
 pub mod Written
+pub mod Objects
 pub mod Edited
 pub mod Answer
 pub mod Run
@@ -15,5 +17,6 @@ pub mod Several
 pub mod Texts
 pub mod Carried
 pub mod Kept
+pub mod Alike
 pub mod Worked
 pub mod Drilled

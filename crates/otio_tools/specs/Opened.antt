@@ -80,7 +80,7 @@ inputs_in (file ∷ files) (content.Commands commands ∷ more) = []
 abbrev pub names_in : List Source → List Content → List (List ℕ)
 names_in files contents = map (λ i. i.name) (inputs_in files contents)
 
--- the media list behind the inputs, where one was read
+-- the media list after the inputs, where one was read
 abbrev pub media_behind : List Content → MediaRows
 media_behind [] = None
 media_behind (content.Rows rows ∷ more) = Some rows

@@ -1,5 +1,5 @@
 -- What is planned before anything is sent, and how it is carried out.
-use Rattle.std.specs.Prelude.{◌≡◌, ◌≢◌, ◌⊎◌, ◌<◌, ◌≤◌, ◌^◌, ℕ, Bool, List, [], ◌∷◌, Some, None, Result, Ok, Err, MatchResult}
+use Rattle.std.specs.Prelude.{◌≡◌, ◌<◌, ◌≤◌, ◌^◌, ℕ, Bool, List, [], ◌∷◌, Some, None, Result, Ok, Err, MatchResult}
 use Rattle.std.specs.declared.option.Option.{Option}
 use Rattle.std.specs.Global.{Vec}
 use Rattle.json_text.specs.Layout.{layout}
@@ -33,6 +33,7 @@ use Rattle.command_words.specs.declared.requests.Command.TheVariants.{Edit, List
 use Rattle.dev_io.specs.Known.{KnownFiles, KnownOut}
 use Rattle.dev_io.specs.Causes.{Rose}
 use Rattle.media_rows.specs.Rows.{MediaRows}
+use Rattle.media_text.specs.Texts.{media_text}
 use Rattle.edl_frames.specs.Carried.{not_carried, IsListOf}
 use Rattle.edl_law.specs.Premises.{AreListed}
 use Rattle.otio_tools.specs.Asked.{Asked, EditsTimeline, ListsFrames, kind_of}
@@ -43,25 +44,28 @@ use Rattle.otio_tools.specs.Conformed.{media_in}
 use Rattle.otio_tools.specs.Opened.{IsConformedTo}
 use Rattle.script_law.specs.Shown.{opened}
 use Rattle.otio_tools.specs.Edited.{IsWorkOn, command_fault_text}
-use Rattle.otio_tools.specs.Written.{listings_text, object_json, timeline_text}
+use Rattle.otio_tools.specs.Written.{listings_text, object_json, old_object_json, timeline_text}
 use Rattle.otio_tools.specs.declared.Desk.{Desk}
 use Rattle.otio_tools.specs.Run.{Streams, Sends, Directs, DirectsFront, DirectsPrefix, FailsUnder, Message, OutFailed, SendsNothing, no_memory, output_failed}
 use Rattle.otio_tools.specs.declared.Status.{Status}
 use Rattle.otio_tools.specs.declared.Status.TheVariants as status
 use Rattle.otio_tools.specs.declared.planned.Planned.{Planned}
-use Rattle.otio_tools.specs.declared.planned.Planned.TheVariants.{Events, Value, Root, Rows, Edited, Listed}
+use Rattle.otio_tools.specs.declared.planned.Planned.TheVariants.{Events, Value, Root, OldRoot, Rows, Edited, Listed, Text, Media}
 
 -- the text of what is to be sent
 abbrev pub text_planned : Planned → List ℕ
 text_planned (Events list drop wide) = spelling list drop wide
 text_planned (Value value) = layout value
 text_planned (Root object) = layout (object_json object)
+text_planned (OldRoot object) = layout (old_object_json object)
 text_planned (Rows timeline listing) = listing_text timeline listing
 text_planned (Edited desk) = timeline_text desk.timeline
 text_planned (Listed timeline asked) = listings_text timeline asked
+text_planned (Text text) = text.items
+text_planned (Media list) = media_text list
 
 -- What is planned of contents is the answer, or why there is nothing to send, told of the file of
--- that name; want of memory is free.
+-- that name; out of memory is free.
 abbrev pub Suffices : (Option (List ℕ) → Answer → Type 0) → List ℕ → Result Planned Refusal → Type 0
 Suffices Is name (Ok planned) = (target : Option (List ℕ))
     → Is target (done target (text_planned planned))
@@ -97,7 +101,7 @@ abbrev pub media_content : MediaRows → List Content
 media_content None = []
 media_content (Some rows) = content.Rows rows ∷ []
 
--- one content, and a media list behind it at most
+-- one content, and a media list after it at most
 abbrev pub AreContents : List Content → Type 0
 AreContents contents =
     (first : Content) × (media : MediaRows) × (contents ≡ first ∷ media_content media)
@@ -118,8 +122,11 @@ LeavesWork command contents (Edited desk) = IsWorkHeld command contents desk
 LeavesWork command contents (Events list drop wide) = EditsTimeline command → ⊥
 LeavesWork command contents (Value value) = EditsTimeline command → ⊥
 LeavesWork command contents (Root object) = EditsTimeline command → ⊥
+LeavesWork command contents (OldRoot object) = EditsTimeline command → ⊥
 LeavesWork command contents (Rows timeline listing) = EditsTimeline command → ⊥
 LeavesWork command contents (Listed timeline asked) = EditsTimeline command → ⊥
+LeavesWork command contents (Text text) = EditsTimeline command → ⊥
+LeavesWork command contents (Media list) = EditsTimeline command → ⊥
 
 -- it is so of what these files hold
 abbrev pub LeavesWorkOf : Asked → Held → Planned → Type 0
@@ -133,8 +140,11 @@ IsDesk (Edited desk) = Unit {0}
 IsDesk (Events list drop wide) = ⊥
 IsDesk (Value value) = ⊥
 IsDesk (Root object) = ⊥
+IsDesk (OldRoot object) = ⊥
 IsDesk (Rows timeline listing) = ⊥
 IsDesk (Listed timeline asked) = ⊥
+IsDesk (Text text) = ⊥
+IsDesk (Media list) = ⊥
 
 abbrev pub IsDeskFor : Command → Planned → Type 0
 IsDeskFor command planned = IsDesk planned → EditsTimeline command
@@ -145,8 +155,11 @@ desk_planned (Edited desk) before = Some desk
 desk_planned (Events list drop wide) before = before
 desk_planned (Value value) before = before
 desk_planned (Root object) before = before
+desk_planned (OldRoot object) before = before
 desk_planned (Rows timeline listing) before = before
 desk_planned (Listed timeline asked) before = before
+desk_planned (Text text) before = before
+desk_planned (Media list) before = before
 
 abbrev pub desk_after : Result Planned SourceFault → Option Desk → Option Desk
 desk_after (Ok planned) before = desk_planned planned before
@@ -166,7 +179,7 @@ IsEditable (content.Root object) = ⊥
 IsEditable (content.Rows rows) = ⊥
 IsEditable (content.Commands commands) = ⊥
 
--- what an edit reads: what is edited, the script, and the media list behind it where one is read
+-- what an edit reads: what is edited, the script, and the media list after it where one is read
 abbrev pub AreEditContents : List Content → Type 0
 AreEditContents contents = (first : Content) × (commands : Vec script.Command) × (media : MediaRows)
     × (contents ≡ first ∷ content.Commands commands ∷ media_content media)
@@ -219,17 +232,23 @@ abbrev pub Fits : Planned → Type 0
 Fits (Events list drop wide) = IsWritableIn list drop wide
 Fits (Value value) = Unit {0}
 Fits (Root object) = Unit {0}
+Fits (OldRoot object) = Unit {0}
 Fits (Rows timeline listing) = CanBeShown timeline
 Fits (Edited desk) = Unit {0}
 Fits (Listed timeline asked) = count_below timeline.tracks.children < 2 ^ 32
+Fits (Text text) = Unit {0}
+Fits (Media list) = Unit {0}
 
 abbrev pub AreRows : Planned → Type 0
 AreRows (Events list drop wide) = ⊥
 AreRows (Value value) = ⊥
 AreRows (Root object) = ⊥
+AreRows (OldRoot object) = ⊥
 AreRows (Rows timeline listing) = Unit {0}
 AreRows (Edited desk) = ⊥
 AreRows (Listed timeline asked) = ⊥
+AreRows (Text text) = ⊥
+AreRows (Media list) = ⊥
 
 -- rows are planned for frames alone
 abbrev pub IsFor : Command → Planned → Type 0

@@ -1,5 +1,5 @@
 -- What is known of several inputs on the way to an answer.
-use Rattle.std.specs.Prelude.{◌≡◌, ◌≢◌, ◌++◌, ℕ, Bool, List, [], ◌∷◌, All, None, length, map}
+use Rattle.std.specs.Prelude.{◌≡◌, ◌++◌, ℕ, List, [], ◌∷◌, All, None, length, map}
 use Rattle.std.specs.declared.option.Option.{Option}
 use Rattle.otio_model.specs.declared.timelines.Timeline.{Timeline}
 use Rattle.media_rows.specs.Rows.{MediaRows}
@@ -11,7 +11,7 @@ use Rattle.source_files.specs.declared.file_faults.ReadFault.TheVariants.{Absent
 use Rattle.source_files.specs.declared.file_faults.SourceFault.{SourceFault}
 use Rattle.command_words.specs.declared.requests.Command.{Command}
 use Rattle.command_words.specs.declared.requests.Command.TheVariants.{ListToList, ListToObjects, TimelineToList, ToObjects, ToJson, Frames, ListFrames, Edit, ListEdit}
-use Rattle.command_words.specs.declared.requests.Command.TheVariants.{Cat, ListCat, Stat, ListStat, Tool, ListTool}
+use Rattle.command_words.specs.declared.requests.Command.TheVariants.{Cat, ListCat, Stat, ListStat, Tool, ListTool, Pull, ListPull, LogToMedia}
 use Rattle.command_words.specs.declared.tools.ToolAsked.{ToolAsked}
 use Rattle.flat_timelines.specs.Ready.{IsReady}
 use Rattle.otio_tools.specs.Forms.{Answer}
@@ -31,7 +31,7 @@ named_inputs (name ∷ names) [] = []
 named_inputs (name ∷ names) (content ∷ contents) =
     record { name = name; content = content } ∷ named_inputs names contents
 
--- what so many inputs hold, and the media list behind them
+-- what so many inputs hold, and the media list after them
 pub record AreInputs (count : ℕ) (contents : List Content) : Type 0 where
   pub front : List Content
   pub media : MediaRows
@@ -49,7 +49,7 @@ pub record IsOpening (media : MediaRows) (all : List Input) (names : List (List 
   pub editable : All IsEditable rest
   pub ready : All IsReady timelines
 
--- a refusal, for such a reason; want of memory is free
+-- a refusal, for such a reason; out of memory is free
 abbrev pub IsRefusedAt : (List ℕ → Type 0) → ReadFault → Type 0
 IsRefusedAt Why Absent = ⊥
 IsRefusedAt Why Failed = ⊥
@@ -71,16 +71,19 @@ AnswersTimelines (Tool asked) names target timelines answer =
 AnswersTimelines (ListTool rate asked) names target timelines answer =
     AnswersTool asked names target timelines answer
 AnswersTimelines (ListToList rate drop wide) names target timelines answer = ⊥
-AnswersTimelines (ListToObjects rate) names target timelines answer = ⊥
+AnswersTimelines (ListToObjects rate older) names target timelines answer = ⊥
 AnswersTimelines (TimelineToList drop wide) names target timelines answer = ⊥
-AnswersTimelines ToObjects names target timelines answer = ⊥
+AnswersTimelines (ToObjects older) names target timelines answer = ⊥
 AnswersTimelines ToJson names target timelines answer = ⊥
+AnswersTimelines LogToMedia names target timelines answer = ⊥
 AnswersTimelines (Frames asked) names target timelines answer = ⊥
 AnswersTimelines (ListFrames rate asked) names target timelines answer = ⊥
 AnswersTimelines Edit names target timelines answer = ⊥
 AnswersTimelines (ListEdit rate) names target timelines answer = ⊥
 AnswersTimelines Stat names target timelines answer = ⊥
 AnswersTimelines (ListStat rate) names target timelines answer = ⊥
+AnswersTimelines (Pull handles) names target timelines answer = ⊥
+AnswersTimelines (ListPull rate handles) names target timelines answer = ⊥
 
 -- one input alone stands where nothing says how several become one
 abbrev pub FitsJoining : ToolAsked → ℕ → Type 0
@@ -93,13 +96,16 @@ HasJoining (ListTool rate asked) count = FitsJoining asked count
 HasJoining Cat count = Unit {0}
 HasJoining (ListCat rate) count = Unit {0}
 HasJoining (ListToList rate drop wide) count = Unit {0}
-HasJoining (ListToObjects rate) count = Unit {0}
+HasJoining (ListToObjects rate older) count = Unit {0}
 HasJoining (TimelineToList drop wide) count = Unit {0}
-HasJoining ToObjects count = Unit {0}
+HasJoining (ToObjects older) count = Unit {0}
 HasJoining ToJson count = Unit {0}
+HasJoining LogToMedia count = Unit {0}
 HasJoining (Frames asked) count = Unit {0}
 HasJoining (ListFrames rate asked) count = Unit {0}
 HasJoining Edit count = Unit {0}
 HasJoining (ListEdit rate) count = Unit {0}
 HasJoining Stat count = Unit {0}
 HasJoining (ListStat rate) count = Unit {0}
+HasJoining (Pull handles) count = Unit {0}
+HasJoining (ListPull rate handles) count = Unit {0}

@@ -1,5 +1,5 @@
 -- The answers to sound timelines that are counted, joined, or worked on by `tool`.
-use Rattle.std.specs.Prelude.{◌≡◌, ◌≢◌, ◌||◌, ℕ, Bool, true, false, cond, List, [], ◌∷◌, get_or}
+use Rattle.std.specs.Prelude.{◌≡◌, ◌≢◌, ◌||◌, ℕ, Bool, true, false, cond, List, [], get_or}
 use Rattle.std.specs.declared.option.Option.{Option}
 use Rattle.otio_model.specs.declared.timelines.Timeline.{Timeline}
 use Rattle.coord.specs.Soundness.{IsFaultless, IsFaultOf}

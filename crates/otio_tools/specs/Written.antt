@@ -5,7 +5,7 @@ use Rattle.json_value.specs.declared.Json.{Json}
 use Rattle.json_text.specs.Layout.{layout}
 use Rattle.otio_model.specs.declared.roots.Object.{Object, Timeline as ObjectOfTimeline}
 use Rattle.otio_model.specs.declared.timelines.Timeline.{Timeline}
-use Rattle.schema_write.specs.Objects.{json_of}
+use Rattle.schema_write.specs.Objects.{json_of, old_json_of}
 use Rattle.listings.specs.ListingTexts.{listed_text}
 use Rattle.listings.specs.declared.asked.Listings.{Listings}
 use Rattle.otio_tools.specs.Forms.{Answer, done}
@@ -13,6 +13,10 @@ use Rattle.otio_tools.specs.Forms.{Answer, done}
 -- the JSON of an object that is written, in the current schemas and the written order
 unfoldable pub object_json : Object → Json
 object_json object = json_of object
+
+-- the same in the older family, where the object has a form there
+unfoldable pub old_object_json : Object → Json
+old_object_json object = old_json_of object
 
 -- the text of a timeline
 abbrev pub timeline_text : Timeline → List ℕ

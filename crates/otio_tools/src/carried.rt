@@ -27,7 +27,7 @@ use std::mem;
 /// What is to be sent of a timeline that is written as the list of its events, with the media of
 /// this media list, with drop-frame timecode or without, in the wide layout or the narrow one: the
 /// list's spelling. An error tells the first fault of a timeline that isn't sound, or else the
-/// first child that a list doesn't carry; or it is want of memory.
+/// first child that a list doesn't carry; or memory ran out.
 pub fn timeline_to_list(
     alloc: Global,
     timeline: Timeline,

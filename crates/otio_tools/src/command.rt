@@ -4,12 +4,14 @@ ghost use Rattle.dev_io.specs.Calls.{Tells, SendsAll, IsFresh};
 ghost use Rattle.edl_text.specs.Spelling.{spelling};
 ghost use Rattle.json_text.specs.Layout.{layout};
 ghost use Rattle.listings.specs.Rows.{listing_text};
+ghost use Rattle.media_text.specs.Texts.{media_text};
 ghost use Rattle.command_words.specs.Asked.{Ask, AskNothing};
 ghost use Rattle.command_words.specs.Asked.{other_names};
 ghost use Rattle.otio_tools.specs.Asked.{IsScripted, EditsTimeline};
 ghost use Rattle.otio_model.specs.Counts.{count as count_below};
 ghost use Rattle.otio_tools.specs.Several.{HasJoining};
-ghost use Rattle.otio_tools.specs.Written.{listings_text, object_json, timeline_text};
+ghost use Rattle.otio_tools.specs.Pulled.{HasFewHandles};
+ghost use Rattle.otio_tools.specs.Written.{listings_text, object_json, old_object_json, timeline_text};
 ghost use Rattle.otio_tools.specs.Worked.{AskNoWork, LeavesDesk};
 ghost use Rattle.otio_tools.specs.Drilled.{EndsDrills};
 ghost use Rattle.otio_tools.specs.Texts.{text_at};
@@ -23,29 +25,33 @@ use crate::planned::{Planned, plan};
 use crate::say::{say, say_of, say_why};
 use crate::{Desk, Status};
 use command_words::{Request, Task, WordsFault, request_of};
-use dev_io::{Files, Out};
+use dev_io::{Files, Out, write_all};
 use edl_list::EventList;
 use edl_text::write_list;
 use json_text::write_json;
 use json_value::Json;
 use listings::{Listing, Listings, RowFault, write_listings, write_rows};
+use media_list::MediaList;
+use media_text::write_media;
 use otio_model::{Object, Timeline};
-use schema_write::{write_object, write_timeline};
+use schema_write::{write_object, write_old_object, write_timeline};
 use source_files::{ReadFault, Refusal, SourceFault};
 use std::alloc::Global;
 use std::mem;
 
 const USAGE: &[u8] = b"otio: usage
-  otio convert [--from F] [--to T] [--rate R] [--drop] [--wide] [--media LIST] [-o OUT] FILE
+  otio convert [--from F] [--to T] [--family N] [--rate R] [--drop] [--wide] [--media LIST] [-o OUT] FILE
   otio cat [--rate R] [--media LIST] [-o OUT] FILE...
   otio stat [--rate R] [--media LIST] [-o OUT] FILE
   otio tool [OPTIONS] [--rate R] [--media LIST] [-o OUT] FILE...
   otio frames [--child K] [--start P] [--count N] [--rate R] [--media LIST] [-o OUT] FILE
   otio edit --script S [--rate R] [--media LIST] [-o OUT] FILE
   otio drill [-o OUT] SEED COUNT
+  otio pull [--handles H] [--rate R] [--media LIST] [-o OUT] FILE
+  otio media [-o OUT] FILE
 ";
 
-/// Does what the words behind the program's name ask for, and says how it ended.
+/// Does what the words after the program's name ask for, and says how it ended.
 ///
 /// `convert FILE`, where FILE ends with `.edl` or `--from edl` stands, reads a CMX 3600 list, at 24
 /// frames a second or at the rate that `--rate` gives, and sends the timeline that it conforms to,
@@ -54,7 +60,9 @@ const USAGE: &[u8] = b"otio: usage
 /// sends the one spelling of the list, with drop-frame timecode where `--drop` stands or the list
 /// has it. For any other FILE, or with `--from otio`, it reads an object of OpenTimelineIO, old
 /// names and versions included, and sends its layout in the current schemas; with `--to json` it
-/// sends the layout of the JSON text, and reads no schema.
+/// sends the layout of the JSON text, and reads no schema. With `--family 1` objects and conformed
+/// timelines are sent in the older family, with clips as `Clip.1` and markers as `Marker.1`;
+/// refused is the first item that has no form there.
 ///
 /// With `--to edl`, or where OUT ends with `.edl`, it sends the list of the events of a sound
 /// timeline, with drop-frame timecode where `--drop` stands and with the reels of the media list
@@ -81,9 +89,9 @@ const USAGE: &[u8] = b"otio: usage
 /// does in this order what its options ask for: `--concat` or `--stack` makes one timeline of
 /// several, `--video-only` or `--audio-only` keeps root tracks of one kind, `--remove-transitions`
 /// takes them out of all tracks, `--trim A,B` keeps the record frames from A up to B, and
-/// `--flatten KIND` makes one track of those of a kind, beside them with `--keep-flattened-tracks`.
-/// Then it sends the listings that `--list-tracks`, `--list-clips`, `--list-media` and `--stats`
-/// ask for, in this order, else the timeline. `stat FILE` sends the listing of `--stats` of one
+/// `--flatten KIND` makes one track of those of a kind, next to them with
+/// `--keep-flattened-tracks`. Then it sends the listings that `--list-tracks`, `--list-clips`,
+/// `--list-media` and `--stats` ask for, in this order, else the timeline. `stat FILE` sends the listing of `--stats` of one
 /// timeline. Refused are the first input that isn't a sound timeline or isn't conformed, and then
 /// the first step that can't be done: told of the input that it fails in, where several are
 /// joined, else of the first.
@@ -98,11 +106,21 @@ const USAGE: &[u8] = b"otio: usage
 /// with the log of the edits, all undone. Every command but `edit` and `drill` leaves `desk` as it
 /// is.
 ///
+/// `pull FILE` reads a timeline, or a list, which it conforms in the same way, and sends a line for
+/// each run of frames of media that a sound timeline uses: the key and the rate of the media, the
+/// number of the first frame and how many they are. With `--handles` it adds those that are at most
+/// so many frames away from one that is used, and that a clip of the same key and rate has
+/// available. Refused are a timeline that isn't sound, and then one whose root children have more
+/// than 10 000 000 record frames together.
+///
+/// `media FILE` reads a log of the Avid Log Exchange and sends the media list that it is read as, a
+/// line for each tape. A media list whose name ends with `.ale` or `.ALE` is read as a log by every
+/// command that reads one.
+///
 /// `-o OUT` aims `out` at that file before anything is sent.
 /// Each status but `Done` sends one message to `err`; where `err` fails, a prefix of it was sent,
-/// and the status is the same. Nothing is sent to `out` before the file is judged. Want of memory
-/// alone may come at any time: behind a prefix of the rows of `frames`, and else before anything is
-/// sent.
+/// and the status is the same. Nothing is sent to `out` before the file is judged. Memory may
+/// run out at any time: after a prefix of the rows of `frames`, and else before anything is sent.
 pub fn run<F: Files, W: Out, E: Out>(
     alloc: Global,
     words: &Vec<String>,
@@ -183,6 +201,7 @@ fn serve<F: Files, W: Out, E: Out>(
     requires scripted { IsScripted request.command (text_at request.others.script) }
     requires joining { HasJoining request.command
         (suc (length (other_names request.others).more)) }
+    requires handles { HasFewHandles request.command }
     ensures ends { (words : List (List ℕ)) →
         Ask words request.entry.command request.entry.name.now (other_names request.entry.others)
         (text_at request.entry.target) →
@@ -310,9 +329,12 @@ fn write_planned<W: Out>(alloc: Global, planned: &Planned, out: &mut W) -> Resul
         Planned::Events { list, drop, wide } => write_events(list, *drop, *wide, out),
         Planned::Value(value) => write_value(value, out),
         Planned::Root(object) => write_root(object, out),
+        Planned::OldRoot(object) => write_old_root(object, out),
         Planned::Rows(timeline, listing) => write_frames(alloc, timeline, listing, out),
         Planned::Edited(desk) => write_edited(&desk.timeline, out),
         Planned::Listed(timeline, asked) => write_listed(timeline, *asked, out),
+        Planned::Text(text) => write_text(text.as_slice(), out),
+        Planned::Media(list) => write_rows_of(list, out),
     }
 }
 
@@ -352,6 +374,18 @@ fn write_root<W: Out>(object: &Object, out: &mut W) -> Result<(), RowFault>
     ensures cause { HasSendCause ⊥ (W.faults out.old) (W.faults out.new) result }
 {
     match write_object(object, out) {
+        Ok(()) => Ok(()),
+        Err(_) => Err(RowFault::Sink),
+    }
+}
+
+// Sends an object in the older family.
+fn write_old_root<W: Out>(object: &Object, out: &mut W) -> Result<(), RowFault>
+    ensures told { Tells (SendsAll (layout (old_object_json object.now)) result) (W.known out.old)
+        (W.known out.new) }
+    ensures cause { HasSendCause ⊥ (W.faults out.old) (W.faults out.new) result }
+{
+    match write_old_object(object, out) {
         Ok(()) => Ok(()),
         Err(_) => Err(RowFault::Sink),
     }
@@ -401,6 +435,29 @@ fn write_listed<W: Out>(timeline: &Timeline, asked: Listings, out: &mut W) -> Re
     }
 }
 
+// Sends a text.
+fn write_text<W: Out>(text: &[u8], out: &mut W) -> Result<(), RowFault>
+    ensures told { Tells (SendsAll text.now result) (W.known out.old) (W.known out.new) }
+    ensures cause { HasSendCause ⊥ (W.faults out.old) (W.faults out.new) result }
+{
+    match write_all(out, text) {
+        Ok(()) => Ok(()),
+        Err(_) => Err(RowFault::Sink),
+    }
+}
+
+// Sends a media list.
+fn write_rows_of<W: Out>(list: &MediaList, out: &mut W) -> Result<(), RowFault>
+    ensures told { Tells (SendsAll (media_text list.now) result) (W.known out.old)
+        (W.known out.new) }
+    ensures cause { HasSendCause ⊥ (W.faults out.old) (W.faults out.new) result }
+{
+    match write_media(list, out) {
+        Ok(()) => Ok(()),
+        Err(_) => Err(RowFault::Sink),
+    }
+}
+
 // Sends the message of a file that isn't taken.
 fn complain<E: Out>(stop: SourceFault<'_>, err: &mut E) -> Status
     ensures status { result ≡ status_of stop.entry.fault }
@@ -436,7 +493,7 @@ fn complain_of_refusal<E: Out>(name: &str, refusal: Refusal, err: &mut E) -> Sta
     }
 }
 
-/// Sends the message of want of memory.
+/// Sends the message that memory ran out.
 pub(crate) fn complain_of_memory<E: Out>(err: &mut E) -> Status
     ensures status { result ≡ Status.Memory }
     ensures message { Says (E.faults err.old) (E.faults err.new) (E.known err.old)

@@ -6,12 +6,14 @@ ghost use Rattle.source_files.specs.Faults.{conform_fault_text};
 ghost use Rattle.source_files.specs.Reading.{IsRefused};
 ghost use Rattle.edl_frames.specs.Faults.{IsConformFault};
 ghost use Rattle.otio_tools.specs.Conformed.{AnswersConformed};
-ghost use Rattle.otio_tools.specs.Written.{AnswersWritten};
+ghost use Rattle.otio_tools.specs.Objects.{AnswersObject};
+ghost use Rattle.otio_model.specs.declared.roots.Object.{Timeline as ObjectOfTimeline};
 ghost use Rattle.otio_tools.specs.Frames.{AnswersTimeline};
 ghost use Rattle.otio_tools.specs.Opened.{IsConformedTo};
 ghost use Rattle.otio_tools.specs.Plan.{AreRows, Fits, IsDesk, Suffices};
 
 use crate::frames::frames_to_write;
+use crate::objects::object_to_write;
 use crate::planned::Planned;
 use command_words::FramesAsked;
 use edl_conform::conform;
@@ -23,22 +25,25 @@ use source_files::{Refusal, conform_reason};
 use std::alloc::Global;
 use std::mem;
 
-/// What is to be sent of a list that is conformed with this media list and written: its timeline,
-/// or the first fault of an event, or that there are too many items.
+/// What is to be sent of a list that is conformed with this media list and written, in the older
+/// family or the newer one: its timeline, or the first fault of an event, or that there are too
+/// many items.
 pub fn conformed_to_write(
     alloc: Global,
     list: EventList,
     media: Option<MediaList>,
+    older: bool,
 ) -> Result<Planned, Refusal>
     requires { IsWellFormed list }
     ensures owed { (name : List ℕ) → Suffices (λ target answer.
-        AnswersConformed name list media (AnswersWritten target) answer) name result }
+        AnswersConformed name list media
+        (λ t. AnswersObject older name target (ObjectOfTimeline t)) answer) name result }
     ensures fits { IfOk result (λ planned. Fits planned) }
     ensures kind { IfOk result (λ planned. AreRows planned → ⊥) }
     ensures desk { IfOk result (λ planned. IsDesk planned → ⊥) }
 {
     match conformed(alloc, list, media) {
-        Ok(timeline) => Ok(Planned::Root(Object::Timeline(timeline))),
+        Ok(timeline) => object_to_write(alloc, Object::Timeline(timeline), older),
         Err(fault) => Err(not_conformed(fault)),
     }
 }

@@ -19,7 +19,7 @@ use std::mem;
 /// What is to be sent of a timeline whose frames are asked for: the rows of one child of its root
 /// or of all, from a record point or its first frame on, so many or up to its end. An error tells
 /// the first fault of a timeline that isn't sound, or else a start that is no label at the record
-/// rate; or it is want of memory.
+/// rate; or memory ran out.
 pub fn frames_to_write(
     alloc: Global,
     timeline: Timeline,

@@ -3,6 +3,7 @@
 
 ghost use Rattle.std.specs.Prelude.{◌≡◌, ℕ, List};
 ghost use Rattle.source_files.specs.Reading.{Held};
+ghost use Rattle.otio_tools.specs.Alike.{AreAlike};
 ghost use Rattle.otio_tools.specs.Answer.{Answers};
 ghost use Rattle.otio_tools.specs.Forms.{Answer};
 
@@ -14,7 +15,9 @@ mod drilled;
 mod edited;
 mod frames;
 mod list;
+mod objects;
 mod planned;
+mod pulled;
 mod say;
 mod several;
 mod texts;
@@ -29,6 +32,14 @@ pub fn one_answer()
         → Answers words held b → a ≡ b }
 {}
 
+/// Law: words that name a log as a media list have the same answers as words that name a plain
+/// list of the same rows in its place. It does nothing.
+pub fn same_answers()
+    ensures { (words swapped : List (List ℕ)) (held : Held) (answer : Answer)
+        → AreAlike held words swapped → Answers words held answer
+        → Answers swapped held answer }
+{}
+
 /// What a command has worked on: a timeline, and the log of the edits that led to it.
 pub struct Desk {
     /// The timeline at the log's position.
@@ -37,7 +48,7 @@ pub struct Desk {
     pub log: Log,
 }
 
-/// How a run ended. The number beside each is the exit status of the program.
+/// How a run ended. The number next to each is the exit status of the program.
 #[derive(Clone, Copy, PartialEq, Eq)]
 pub enum Status {
     /// 0: all input was read to its end, and all output was taken.

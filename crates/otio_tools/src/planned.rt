@@ -10,11 +10,12 @@ ghost use Rattle.source_files.specs.Reading.{RaisedAt, HaveRead, HasStopped, Sou
 ghost use Rattle.edit_script.specs.declared.commands.Command.{Command as Line};
 ghost use Rattle.source_files.specs.declared.kinds.Content.{Content as AnyContent};
 ghost use Rattle.source_files.specs.declared.kinds.Content.TheVariants.{Value, Root, Film, Events as ListOf, Rows, Commands};
-ghost use Rattle.source_files.specs.declared.kinds.Kind.TheVariants.{Json as AsJson, Object as AsObject, Timeline as AsTimeline};
+ghost use Rattle.source_files.specs.declared.kinds.Kind.TheVariants.{Json as AsJson, Object as AsObject, Timeline as AsTimeline, Log as AsLog};
 ghost use Rattle.command_words.specs.Asked.{other_names};
-ghost use Rattle.otio_tools.specs.Asked.{EditsTimeline, IsScripted, asked_alone, asked_for, edit_files, files_alone, kind_of, one_file};
+ghost use Rattle.otio_tools.specs.Asked.{EditsTimeline, IsScripted, asked_alone, asked_for, edit_files, files_alone, is_log as is_log_text, kind_of, media_kind as media_kind_of, one_file};
 ghost use Rattle.otio_tools.specs.Asked as asking;
 ghost use Rattle.otio_tools.specs.Several.{HasJoining};
+ghost use Rattle.otio_tools.specs.Pulled.{HasFewHandles};
 ghost use Rattle.otio_tools.specs.Answer.{AnswersHeld};
 ghost use Rattle.otio_tools.specs.Plan.{Plans, PlansHeld, Suffices, AreContents, AreEditContents, AreEditParts, AreRows, Fits, HasFormedList, IsDesk, IsDeskFor, IsEditable, IsFor, LeavesWork, media_content};
 ghost use Rattle.otio_tools.specs.Texts.{text_at};
@@ -26,8 +27,10 @@ use crate::counted::{conformed_counts_to_write, counts_to_write};
 use crate::edited::{opened_timeline, run_script};
 use crate::frames::frames_to_write;
 use crate::list::list_to_write;
+use crate::objects::object_to_write;
+use crate::pulled::{conformed_pull_to_write, pull_to_write};
 use crate::several::plan_several;
-use command_words::{Command, Others};
+use command_words::{Command, Others, is_log_name};
 use dev_io::Files;
 use edit_script::Command as ScriptCommand;
 use edl_list::EventList;
@@ -55,15 +58,21 @@ pub enum Planned {
     Value(Json),
     /// An object, in the layout of its JSON.
     Root(Object),
+    /// An object that has a form in the older family, in the layout of its JSON there.
+    OldRoot(Object),
     /// Rows of a timeline's frames, one after another.
     Rows(Timeline, Listing),
     /// The timeline of a desk, in the layout of its JSON.
     Edited(Desk),
     /// Listings of a timeline.
     Listed(Timeline, Listings),
+    /// A text as it is.
+    Text(Vec<u8>),
+    /// A media list, a line for each row.
+    Media(MediaList),
 }
 
-/// What the command is to send for the file of that name, with the others behind it: the files are
+/// What the command is to send for the file of that name, with the others after it: the files are
 /// read, and then the command is judged over what they hold.
 pub fn plan<'a, F: Files>(
     alloc: Global,
@@ -74,6 +83,7 @@ pub fn plan<'a, F: Files>(
 ) -> Result<Planned, SourceFault<'a>>
     requires scripted { IsScripted command (text_at others.script) }
     requires joining { HasJoining command (suc (length (other_names others).more)) }
+    requires handles { HasFewHandles command }
     ensures told { (target : Option (List ℕ)) →
         Tells (Plans (asked_for command name.now (other_names others.entry) target) result)
         (F.known files.old) (F.known files.new) }
@@ -97,14 +107,16 @@ fn takes_several(command: Command) -> bool
         Command::Cat | Command::ListCat { .. } => true,
         Command::Tool(_) | Command::ListTool { .. } => true,
         Command::ListToList { .. } | Command::ListToObjects { .. } => false,
-        Command::TimelineToList { .. } | Command::ToObjects | Command::ToJson => false,
+        Command::TimelineToList { .. } | Command::ToObjects { .. } | Command::ToJson => false,
         Command::Frames(_) | Command::ListFrames { .. } => false,
         Command::Edit | Command::ListEdit { .. } => false,
         Command::Stat | Command::ListStat { .. } => false,
+        Command::Pull { .. } | Command::ListPull { .. } => false,
+        Command::LogToMedia => false,
     }
 }
 
-// What a command on one file is to send for the file of that name, with the others behind it.
+// What a command on one file is to send for the file of that name, with the others after it.
 fn plan_alone<'a, F: Files>(
     alloc: Global,
     command: Command,
@@ -114,6 +126,7 @@ fn plan_alone<'a, F: Files>(
 ) -> Result<Planned, SourceFault<'a>>
     requires scripted { IsScripted command (text_at others.script) }
     requires alone { asking.takes_several command ≡ false }
+    requires handles { HasFewHandles command }
     ensures told { (target : Option (List ℕ)) →
         Tells (Plans (asked_alone command name.now (other_names others.entry) target) result)
         (F.known files.old) (F.known files.new) }
@@ -163,7 +176,7 @@ fn contents_of<'a, F: Files>(
                 Some(list) => {
                     let rows = Source {
                         name: list,
-                        kind: Kind::Media,
+                        kind: media_kind(list),
                     };
                     read_sources(alloc, &[file, script, rows], files)
                 }
@@ -174,7 +187,7 @@ fn contents_of<'a, F: Files>(
             Some(list) => {
                 let rows = Source {
                     name: list,
-                    kind: Kind::Media,
+                    kind: media_kind(list),
                 };
                 read_sources(alloc, &[file, rows], files)
             }
@@ -189,9 +202,9 @@ fn kind_asked(command: Command) -> Kind
 {
     match command {
         Command::ListToList { rate, .. } => Kind::List(rate),
-        Command::ListToObjects { rate } => Kind::List(rate),
+        Command::ListToObjects { rate, older: _ } => Kind::List(rate),
         Command::TimelineToList { .. } => Kind::Timeline,
-        Command::ToObjects => Kind::Object,
+        Command::ToObjects { older: _ } => Kind::Object,
         Command::ToJson => Kind::Json,
         Command::Frames(_) => Kind::Timeline,
         Command::ListFrames { rate, frames: _ } => Kind::List(rate),
@@ -199,11 +212,28 @@ fn kind_asked(command: Command) -> Kind
         Command::ListEdit { rate } => Kind::List(rate),
         Command::Stat => Kind::Timeline,
         Command::ListStat { rate } => Kind::List(rate),
+        Command::Pull { handles: _ } => Kind::Timeline,
+        Command::ListPull { rate, handles: _ } => Kind::List(rate),
         Command::Cat => Kind::Timeline,
         Command::ListCat { rate } => Kind::List(rate),
         Command::Tool(_) => Kind::Timeline,
         Command::ListTool { rate, tool: _ } => Kind::List(rate),
+        Command::LogToMedia => Kind::Log,
     }
+}
+
+/// What a media list of that name is read as: a log where the name is that of one.
+pub(crate) fn media_kind(name: &str) -> Kind
+    ensures { result ≡ media_kind_of name.now }
+{
+    if is_log(name) { Kind::Log } else { Kind::Media }
+}
+
+// Whether a name is that of a log.
+fn is_log(name: &str) -> bool
+    ensures { result ≡ is_log_text name.now }
+{
+    is_log_name(name)
 }
 
 // What the command is to send for what the file of that name and the others hold.
@@ -216,6 +246,7 @@ fn planned_for<'a>(
 ) -> Result<Planned, SourceFault<'a>>
     requires scripted { IsScripted command (text_at script) }
     requires alone { asking.takes_several command ≡ false }
+    requires handles { HasFewHandles command }
     requires suits { (media : Option (List ℕ)) × EachIs (λ source held. Suits source.kind held)
         (files_alone command name.now (text_at script) media) contents.items }
     ensures told { (media : Option (List ℕ)) → PlansHeld command
@@ -242,6 +273,7 @@ fn judged<'a>(
 ) -> Result<Planned, SourceFault<'a>>
     requires other { EditsTimeline command → ⊥ }
     requires alone { asking.takes_several command ≡ false }
+    requires handles { HasFewHandles command }
     requires suits { (media : Option (List ℕ)) ×
         EachIs (λ source content. Suits source.kind content)
         (one_file command name.now media) contents.items }
@@ -324,7 +356,7 @@ fn edited<'a>(
 }
 
 #[tactic(auto, using(crate::proofs::Parting::only_two, crate::proofs::Parting::front_two, crate::proofs::Parting::all_two, crate::proofs::Parting::all_three))]
-// What is edited, the script, and the media list behind it where one was read.
+// What is edited, the script, and the media list after it where one was read.
 fn edit_parts(contents: Vec<Content>) -> (Content, Vec<ScriptCommand>, Option<MediaList>)
     requires { AreEditContents contents.items }
     ensures { contents.items ≡ result.0 ∷ Commands result.1 ∷ media_content result.2 }
@@ -339,7 +371,7 @@ fn edit_parts(contents: Vec<Content>) -> (Content, Vec<ScriptCommand>, Option<Me
 }
 
 #[tactic(auto, using(crate::proofs::Parting::last_rows, crate::proofs::Parting::front_length))]
-// What is edited and the script, and the media list behind them.
+// What is edited and the script, and the media list after them.
 fn media_behind(contents: Vec<Content>) -> (Vec<Content>, MediaList)
     requires are { AreEditContents contents.items }
     requires three { length contents.items ≢ 2 }
@@ -353,7 +385,7 @@ fn media_behind(contents: Vec<Content>) -> (Vec<Content>, MediaList)
     }
 }
 
-// What is edited, and the script behind it.
+// What is edited, and the script after it.
 fn content_and_script(contents: Vec<Content>) -> (Content, Vec<ScriptCommand>)
     requires { (first : AnyContent) × (commands : AnyVec Line) ×
         (contents.items ≡ first ∷ Commands commands ∷ []) }
@@ -366,7 +398,7 @@ fn content_and_script(contents: Vec<Content>) -> (Content, Vec<ScriptCommand>)
     }
 }
 
-// What a file holds, and the media list behind it where one was read.
+// What a file holds, and the media list after it where one was read.
 fn parted(contents: Vec<Content>) -> (Content, Option<MediaList>)
     requires { AreContents contents.items }
     ensures { contents.items ≡ result.0 ∷ media_content result.1 }
@@ -378,7 +410,7 @@ fn parted(contents: Vec<Content>) -> (Content, Option<MediaList>)
     (only_content(contents), Some(media))
 }
 
-// What one file holds, and the media list behind it.
+// What one file holds, and the media list after it.
 fn without_media(contents: Vec<Content>) -> (Vec<Content>, MediaList)
     requires are { AreContents contents.items }
     requires two { length contents.items ≢ 1 }
@@ -414,6 +446,7 @@ fn judge(
     requires suits { Suits (kind_of command) content }
     requires other { EditsTimeline command → ⊥ }
     requires alone { asking.takes_several command ≡ false }
+    requires handles { HasFewHandles command }
     ensures owed { (file : Input) (more : List Input) →
         Suffices (λ target answer. AnswersHeld command (file ∷ more) target
         (content ∷ media_content media) answer) file.name result }
@@ -426,13 +459,15 @@ fn judge(
             mem::forget(media);
             list_to_write(list_in(content), drop, wide)
         }
-        Command::ListToObjects { rate: _ } => conformed_to_write(alloc, list_in(content), media),
+        Command::ListToObjects { rate: _, older } => {
+            conformed_to_write(alloc, list_in(content), media, older)
+        }
         Command::TimelineToList { drop, wide } => {
             timeline_to_list(alloc, timeline_in(content), media, drop, wide)
         }
-        Command::ToObjects => {
+        Command::ToObjects { older } => {
             mem::forget(media);
-            Ok(Planned::Root(object_in(content)))
+            object_to_write(alloc, object_in(content), older)
         }
         Command::ToJson => {
             mem::forget(media);
@@ -451,6 +486,17 @@ fn judge(
         }
         Command::ListStat { rate: _ } => {
             conformed_counts_to_write(alloc, list_in(content), media)
+        }
+        Command::Pull { handles } => {
+            mem::forget(media);
+            pull_to_write(alloc, timeline_in(content), handles)
+        }
+        Command::ListPull { rate: _, handles } => {
+            conformed_pull_to_write(alloc, list_in(content), media, handles)
+        }
+        Command::LogToMedia => {
+            mem::forget(media);
+            Ok(Planned::Media(rows_in(content)))
         }
         Command::Edit => unreachable!(),
         Command::ListEdit { rate: _ } => unreachable!(),
@@ -515,6 +561,21 @@ fn timeline_in(content: Content) -> Timeline
         Content::Root(_) => unreachable!(),
         Content::Events(_) => unreachable!(),
         Content::Rows(_) => unreachable!(),
+        Content::Commands(_) => unreachable!(),
+    }
+}
+
+// The media list that a log holds.
+fn rows_in(content: Content) -> MediaList
+    requires { Suits AsLog content }
+    ensures { content ≡ Rows result }
+{
+    match content {
+        Content::Rows(list) => list,
+        Content::Value(_) => unreachable!(),
+        Content::Root(_) => unreachable!(),
+        Content::Film(_) => unreachable!(),
+        Content::Events(_) => unreachable!(),
         Content::Commands(_) => unreachable!(),
     }
 }

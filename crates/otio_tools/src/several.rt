@@ -20,7 +20,7 @@ ghost use Rattle.otio_tools.specs.Plan.{AreRows, Fits, IsDesk, IsEditable, Plans
 ghost use Rattle.otio_tools.specs.Texts.{text_at};
 
 use crate::edited::opened_timeline;
-use crate::planned::Planned;
+use crate::planned::{Planned, media_kind};
 use command_words::{Command, Others, ToolAsked, is_list_name};
 use dev_io::Files;
 use flat_timelines::{ToolFault, concatenated, tooled};
@@ -68,7 +68,7 @@ pub fn plan_several<'a, F: Files>(
     }
 }
 
-// Want of memory, told of the file of that name.
+// Out of memory, told of the file of that name.
 fn no_memory<'a>(name: &'a str) -> SourceFault<'a>
     ensures name { result.name.now ≡ name.now }
     ensures fault { result.fault ≡ ReadFault.Refused Refusal.Memory }
@@ -93,7 +93,7 @@ fn names_of<'a>(alloc: Global, name: &'a str, more: &[&'a str]) -> Result<Vec<&'
 }
 
 #[tactic(auto, using(crate::proofs::SeveralFiles::named_all))]
-// The inputs of these names, and the media list behind them.
+// The inputs of these names, and the media list after them.
 fn sources_of<'a>(
     alloc: Global,
     command: Command,
@@ -109,7 +109,7 @@ fn sources_of<'a>(
         sources.push(Source { name, kind })?;
     }
     if let Some(name) = media {
-        let kind = Kind::Media;
+        let kind = media_kind(name);
         sources.push(Source { name, kind })?;
     }
     Ok(sources)
@@ -128,9 +128,9 @@ fn kind_by_name(command: Command, name: &str) -> Kind
             }
         }
         Command::ListToList { rate, .. } => Kind::List(rate),
-        Command::ListToObjects { rate } => Kind::List(rate),
+        Command::ListToObjects { rate, older: _ } => Kind::List(rate),
         Command::TimelineToList { .. } => Kind::Timeline,
-        Command::ToObjects => Kind::Object,
+        Command::ToObjects { older: _ } => Kind::Object,
         Command::ToJson => Kind::Json,
         Command::Frames(_) => Kind::Timeline,
         Command::ListFrames { rate, frames: _ } => Kind::List(rate),
@@ -138,8 +138,11 @@ fn kind_by_name(command: Command, name: &str) -> Kind
         Command::ListEdit { rate } => Kind::List(rate),
         Command::Stat => Kind::Timeline,
         Command::ListStat { rate } => Kind::List(rate),
+        Command::Pull { handles: _ } => Kind::Timeline,
+        Command::ListPull { rate, handles: _ } => Kind::List(rate),
         Command::Cat => Kind::Timeline,
         Command::Tool(_) => Kind::Timeline,
+        Command::LogToMedia => Kind::Log,
     }
 }
 
@@ -150,7 +153,7 @@ fn is_list(name: &str) -> bool
     is_list_name(name)
 }
 
-// What a command on several files is to send for what they hold, and the media list behind them.
+// What a command on several files is to send for what they hold, and the media list after them.
 fn judged_several<'a>(
     alloc: Global,
     command: Command,
@@ -179,7 +182,7 @@ fn judged_several<'a>(
     }
 }
 
-// What so many inputs hold, and the media list behind them where one was read.
+// What so many inputs hold, and the media list after them where one was read.
 fn parted_inputs(count: usize, contents: Vec<Content>) -> (Vec<Content>, Option<MediaList>)
     requires { AreInputs count contents.items }
     ensures are { contents.items ≡ result.0.items ++ media_content result.1 }
@@ -394,7 +397,7 @@ fn name_at<'a>(names: &[&'a str], index: usize) -> &'a str
     }
 }
 
-// What is told of timelines that aren't worked on; nothing for want of memory.
+// What is told of timelines that aren't worked on; nothing where memory ran out.
 fn reason_of(fault: ToolFault) -> Option<Reason>
     ensures { IfSome result (λ reason. (fault ≢ ToolFault.Memory)
         × (reason_text reason ≡ tool_fault_text fault)) }

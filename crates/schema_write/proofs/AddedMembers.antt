@@ -6,16 +6,16 @@ use Rattle.schema_rows.specs.Rows.{row_of}
 use Rattle.schema_write.specs.Written.{name_of, named_values}
 
 -- one more value under the name of its row
-named-next : (table : List Field) (values : List Json) (i : ℕ) (name : List ℕ) (v : Json) → i < length table → length values ≡ length table
+named-next : (table : List Field) (values : List Json) (i : ℕ) (name : List ℕ) (v : Json) → i < length values → length values ≤ length table
     → option_map name_of (slice_get table i) ≡ Some name → v ≡ get_or values i v
     → take (suc i) (named_values (map row_of table) values) ≡ take i (named_values (map row_of table) values) ++ (name, v) ∷ []
-named-next [] values i name v h long p q = absurd (omega arith)
-named-next (g ∷ table) [] i name v h long p q = absurd (omega (arith, long))
+named-next [] values i name v h long p q = absurd (omega (arith, h, long))
+named-next (g ∷ table) [] i name v h long p q = absurd (omega (arith, h))
 named-next (g ∷ table) (w ∷ values) zero name v h long p q = let n : g.name.now ≡ name = cc p in ap₂ (λ a b. (a, b) ∷ []) n (sym q)
 named-next (g ∷ table) (w ∷ values) (suc i) name v h long p q = ap (λ l. (g.name.now, w) ∷ l) (named-next table values i name v (omega arith) (omega (arith, long)) p q)
 
-pub row_added : (old : List (List ℕ × Json)) (table : List Field) (values : List Json) (i : ℕ) (now : List (List ℕ × Json)) (name : List ℕ) (v : Json) → i < length table
-    → length values ≡ length table → now ≡ old ++ take i (named_values (map row_of table) values) → option_map name_of (slice_get table i) ≡ Some name → v ≡ get_or values i v
+pub row_added : (old : List (List ℕ × Json)) (table : List Field) (values : List Json) (i : ℕ) (now : List (List ℕ × Json)) (name : List ℕ) (v : Json) → i < length values
+    → length values ≤ length table → now ≡ old ++ take i (named_values (map row_of table) values) → option_map name_of (slice_get table i) ≡ Some name → v ≡ get_or values i v
     → now ++ (name, v) ∷ [] ≡ old ++ take (i + 1) (named_values (map row_of table) values)
 row_added old table values i now name v h long is p q =
     ap (λ l. l ++ (name, v) ∷ []) is
@@ -23,16 +23,17 @@ row_added old table values i now name v h long is p q =
     ∙ ap (λ l. old ++ l) (sym (named-next table values i name v h long p q)) ∙ ap (λ k. old ++ take k (named_values (map row_of table) values)) (sym (add-one i))
 
 -- all rows
-all_named : (table : List Field) (values : List Json) (i : ℕ) → length values ≡ length table → length table ≤ i → take i (named_values (map row_of table) values) ≡ named_values (map row_of table) values
-all_named [] values zero long h = refl
-all_named [] values (suc i) long h = refl
-all_named (g ∷ table) [] i long h = absurd (omega (arith, long))
-all_named (g ∷ table) (w ∷ values) zero long h = absurd (omega arith)
-all_named (g ∷ table) (w ∷ values) (suc i) long h = ap (λ l. (g.name.now, w) ∷ l) (all_named table values i (omega (arith, long)) (omega arith))
+all_named : (table : List Field) (values : List Json) (i : ℕ) → length values ≤ i → take i (named_values (map row_of table) values) ≡ named_values (map row_of table) values
+all_named [] values zero h = refl
+all_named [] values (suc i) h = refl
+all_named (g ∷ table) [] zero h = refl
+all_named (g ∷ table) [] (suc i) h = refl
+all_named (g ∷ table) (w ∷ values) zero h = absurd (omega (arith, h))
+all_named (g ∷ table) (w ∷ values) (suc i) h = ap (λ l. (g.name.now, w) ∷ l) (all_named table values i (omega (arith, h)))
 
-pub rows_added : (old now : List (List ℕ × Json)) (table : List Field) (values : List Json) (i : ℕ) → length values ≡ length table → length table ≤ i
+pub rows_added : (old now : List (List ℕ × Json)) (table : List Field) (values : List Json) (i : ℕ) → length values ≤ i
     → now ≡ old ++ take i (named_values (map row_of table) values) → now ≡ old ++ named_values (map row_of table) values
-rows_added old now table values i long h is = is ∙ ap (λ l. old ++ l) (all_named table values i long h)
+rows_added old now table values i h is = is ∙ ap (λ l. old ++ l) (all_named table values i h)
 
 none_left : {X : Type 0} (i : ℕ) (ys : List X) (d : X) → [] ≡ drop i ys → d ≡ get_or ys i d
 none_left zero ys d h = ap (λ l. get_or l 0 d) h
@@ -89,3 +90,16 @@ table-length table values h = h ∙ same table
     same : (table : List Field) → length (map row_of table) ≡ length table
     same [] = refl
     same (f ∷ table) = ap suc (same table)
+
+-- the same with a row of its own behind the rows
+pub old_added : (new behind mid front none rows rest : List (List ℕ × Json))
+    (key name text of called own : List ℕ) (value : Json) → new ≡ behind ++ rest
+    → behind ≡ mid ++ (called, value) ∷ [] → mid ≡ front ++ rows
+    → front ≡ none ++ (key, Str text) ∷ [] → none ≡ [] → key ≡ name → text ≡ of → called ≡ own
+    → new ≡ (name, Str of) ∷ (rows ++ (own, value) ∷ rest)
+old_added new behind mid front none rows rest key name text of called own value a b c d e f g h =
+    let row = (called, value) ∷ [] in
+    let more = b ∙ ap (λ l. l ++ row) c ∙ append_assoc front rows row in
+    object_added new behind front none (rows ++ row) rest key name text of a more d e f g
+    ∙ ap (λ l. (name, Str of) ∷ l) (append_assoc rows row rest)
+    ∙ ap (λ (n : List ℕ). (name, Str of) ∷ (rows ++ (n, value) ∷ rest)) h

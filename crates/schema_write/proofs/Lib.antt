@@ -10,3 +10,4 @@ pub mod ShortDecimals
 pub mod RereadTexts
 pub mod ObjectLines
 pub mod ListLines
+pub mod OldLemmas

@@ -26,19 +26,19 @@ use Rattle.schema_rows.specs.declared.schemas.Schema.TheVariants as S
 use Rattle.schema_rows.specs.Readings.{stack_fields, track_fields, item_fields, object_fields, object_layer, plain_fields, effect_reading, marker_reading, medium_reading}
 use Rattle.schema_write.specs.Texts.{decimal_text}
 use Rattle.schema_write.specs.Written.{written}
-use Rattle.schema_write.specs.Objects.{span_json, effects_json, markers_json, stack_by, track_by, children_json, item_json, effect_json, plain_json, marker_json, medium_json, json_of, object_step, collection_step}
+use Rattle.schema_write.specs.Objects.{span_json, effects_json, newer, markers_json, stack_by, track_by, children_json, item_json, effect_json, plain_json, marker_json, medium_json, json_of, object_step, collection_step}
 use Rattle.schema_write.specs.Tables.{fields_json, reading_json}
 use Rattle.schema_write.proofs.Trees.{children_are, collection_is}
 
 -- a stack, whose children are its items
-pub stack_tabled : (s : StackOf Listed) → stack_by children_json s ≡ fields_json (stack_fields s)
+pub stack_tabled : (s : StackOf Listed) → stack_by newer children_json s ≡ fields_json (stack_fields s)
 stack_tabled s = ap (λ (list : List Json). written S.Stack (
-    Map s.metadata ∷ Str s.name ∷ span_json s.source_range ∷ effects_json s.effects ∷ markers_json s.markers ∷ JsonOfBool s.enabled ∷ JsonOfList list ∷ []) s.rest) (children_are s.children)
+    Map s.metadata ∷ Str s.name ∷ span_json s.source_range ∷ effects_json s.effects ∷ markers_json s.markers ∷ JsonOfBool s.enabled ∷ JsonOfList list ∷ []) s.rest) (children_are newer s.children)
 
 -- a track, whose children are its items
-pub track_tabled : (t : TrackOf Listed) → track_by children_json t ≡ fields_json (track_fields t)
+pub track_tabled : (t : TrackOf Listed) → track_by newer children_json t ≡ fields_json (track_fields t)
 track_tabled t = ap (λ (list : List Json). written S.Track (
-    Map t.metadata ∷ Str t.name ∷ span_json t.source_range ∷ effects_json t.effects ∷ markers_json t.markers ∷ JsonOfBool t.enabled ∷ JsonOfList list ∷ Str t.kind ∷ []) t.rest) (children_are t.children)
+    Map t.metadata ∷ Str t.name ∷ span_json t.source_range ∷ effects_json t.effects ∷ markers_json t.markers ∷ JsonOfBool t.enabled ∷ JsonOfList list ∷ Str t.kind ∷ []) t.rest) (children_are newer t.children)
 
 pub item_tabled : (item : ItemOf Listed) → item_json item ≡ fields_json (item_fields item)
 item_tabled (Clip c) = refl
@@ -75,9 +75,9 @@ medium_tabled (M.Kept json) = refl
 
 -- an object by what it is
 layer_tabled : (layer : Object-F Object Collection) → json_of (roll-Object layer) ≡ fields_json (object_layer layer)
-layer_tabled (Object-F.Timeline t) = fold-roll-Object Json Json object_step collection_step (Object-F.Timeline t)
-layer_tabled (Object-F.Collection c) = fold-roll-Object Json Json object_step collection_step (Object-F.Collection c) ∙ collection_is c
-layer_tabled (Object-F.Item i) = fold-roll-Object Json Json object_step collection_step (Object-F.Item i) ∙ item_tabled i
+layer_tabled (Object-F.Timeline t) = fold-roll-Object Json Json (object_step newer) collection_step (Object-F.Timeline t)
+layer_tabled (Object-F.Collection c) = fold-roll-Object Json Json (object_step newer) collection_step (Object-F.Collection c) ∙ collection_is newer c
+layer_tabled (Object-F.Item i) = fold-roll-Object Json Json (object_step newer) collection_step (Object-F.Item i) ∙ item_tabled i
 
 pub object_tabled : (object : Object) → json_of object ≡ fields_json (object_fields object)
 object_tabled object = ap json_of (sym (roll-out-Object object)) ∙ layer_tabled (out-Object object)

@@ -5,3 +5,6 @@ pub mod Objects
 pub mod Tables
 pub mod Reread
 pub mod Lines
+pub mod Styles
+pub mod OldForms
+pub mod OldWalk

@@ -13,15 +13,19 @@ use Rattle.schema_rows.specs.Families.{is_row}
 abbrev pub head_text : Schema → ℕ → List ℕ
 head_text schema n = 123 ∷ (newline n ++ member_text schema_key (quoted (text_of schema)))
 
+-- the same of a schema of this text
+abbrev pub old_head_text : List ℕ → ℕ → List ℕ
+old_head_text text n = 123 ∷ (newline n ++ member_text schema_key (quoted text))
+
 -- a comma, and the name of a member on a line of this level, up to its value
 abbrev pub row_front : List ℕ → ℕ → List ℕ
 row_front name n = 44 ∷ (newline n ++ (quoted name ++ (58 ∷ 32 ∷ [])))
 
--- a member behind another one, on a line of this level
+-- a member after another one, on a line of this level
 abbrev pub row_text : List ℕ → Json → ℕ → List ℕ
 row_text name value n = row_front name n ++ text_at value n
 
--- members behind another one, each on a line of this level
+-- members after another one, each on a line of this level
 abbrev pub member_rows : List (List ℕ × Json) → ℕ → List ℕ
 member_rows [] n = []
 member_rows (member ∷ members) n = row_text member.0 member.1 n ++ member_rows members n
@@ -35,3 +39,8 @@ abbrev pub other_text : List Row → List ℕ × Json → ℕ → List ℕ
 other_text rows member n =
     if bytes_eq member.0 schema_key || is_row rows member.0 then []
     else row_text member.0 member.1 n
+
+-- the same, where it hasn't this name either
+abbrev pub old_other_text : List ℕ → List Row → List ℕ × Json → ℕ → List ℕ
+old_other_text name rows member n =
+    if bytes_eq name member.0 then [] else other_text rows member n

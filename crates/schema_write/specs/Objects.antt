@@ -33,7 +33,7 @@ use Rattle.otio_model.specs.declared.sources.Sequence.{Sequence}
 use Rattle.schema_rows.specs.declared.schemas.Schema.TheVariants as S
 use Rattle.schema_rows.specs.Readings.{plain_schema}
 use Rattle.schema_write.specs.Texts.{decimal_text, rate_text, value_text}
-use Rattle.schema_write.specs.Written.{written}
+use Rattle.schema_write.specs.Written.{written, written_old}
 
 -- RationalTime.1
 abbrev pub time_json : Time → Json
@@ -80,9 +80,19 @@ effect_json (E.Kept json) = json
 abbrev pub mark_json : Mark → Json
 mark_json m = written S.Marker (Map m.metadata ∷ Str m.name ∷ span_json m.marked_range ∷ []) m.rest
 
+-- Marker.1: the range under its old name
+abbrev pub old_mark_json : Mark → Json
+old_mark_json m =
+    written_old (codes "Marker.1") S.Marker (Map m.metadata ∷ Str m.name ∷ [])
+    (codes "range", span_json m.marked_range) m.rest
+
+-- a marker, known ones by this function
+abbrev pub marker_by : (Mark → Json) → Marker → Json
+marker_by f (K.Known m) = f m
+marker_by f (K.Kept json) = json
+
 abbrev pub marker_json : Marker → Json
-marker_json (K.Known m) = mark_json m
-marker_json (K.Kept json) = json
+marker_json = marker_by mark_json
 
 -- ExternalReference.1
 abbrev pub external_json : External → Json
@@ -124,8 +134,11 @@ media_json media = Map (map medium_pair media)
 abbrev pub effects_json : List Effect → Json
 effects_json effects = JsonOfList (map effect_json effects)
 
+abbrev pub markers_by : (Mark → Json) → List Marker → Json
+markers_by f markers = JsonOfList (map (marker_by f) markers)
+
 abbrev pub markers_json : List Marker → Json
-markers_json markers = JsonOfList (map marker_json markers)
+markers_json = markers_by mark_json
 
 -- Clip.2
 abbrev pub clip_json : Clip → Json
@@ -134,11 +147,36 @@ clip_json c = written S.Clip (
     ∷ markers_json c.markers ∷ JsonOfBool c.enabled
     ∷ media_json c.media_references ∷ Str c.active_media_reference_key ∷ []) c.rest
 
+-- the reference of a `Clip.1`: the first of the references, or null where there is none
+abbrev pub reference_json : List (List ℕ × Media) → Json
+reference_json [] = Null
+reference_json (medium ∷ more) = medium_json medium.1
+
+-- Clip.1: one reference in place of the references and the active key
+abbrev pub old_clip_json : Clip → Json
+old_clip_json c = written_old (codes "Clip.1") S.Clip (
+    Map c.metadata ∷ Str c.name ∷ span_json c.source_range ∷ effects_json c.effects
+    ∷ markers_by old_mark_json c.markers ∷ JsonOfBool c.enabled ∷ [])
+    (codes "media_reference", reference_json c.media_references) c.rest
+
+-- how known markers and clips are written; all else is the same in both families
+pub record Style : Type 0 where
+  pub mark : Mark → Json
+  pub clip : Clip → Json
+
+-- Clip.2 and Marker.2, the newer family
+abbrev pub newer : Style
+newer = record { mark = mark_json; clip = clip_json }
+
+-- Clip.1 and Marker.1, the older family
+abbrev pub older : Style
+older = record { mark = old_mark_json; clip = old_clip_json }
+
 -- Gap.1
-abbrev pub gap_json : Gap → Json
-gap_json g = written S.Gap (
+abbrev pub gap_in : Style → Gap → Json
+gap_in style g = written S.Gap (
     Map g.metadata ∷ Str g.name ∷ span_json g.source_range ∷ effects_json g.effects
-    ∷ markers_json g.markers ∷ JsonOfBool g.enabled ∷ []) g.rest
+    ∷ markers_by style.mark g.markers ∷ JsonOfBool g.enabled ∷ []) g.rest
 
 -- Transition.1
 abbrev pub transition_json : Transition → Json
@@ -147,61 +185,80 @@ transition_json t =
     ∷ offset_json t.in_offset ∷ offset_json t.out_offset ∷ []) t.rest
 
 -- Stack.1, its children being known in JSON
-abbrev pub stack_by : {C : Type 0} → (C → List Json) → StackOf C → Json
-stack_by f s = written S.Stack (
+abbrev pub stack_by : {C : Type 0} → Style → (C → List Json) → StackOf C → Json
+stack_by style f s = written S.Stack (
     Map s.metadata ∷ Str s.name ∷ span_json s.source_range ∷ effects_json s.effects
-    ∷ markers_json s.markers ∷ JsonOfBool s.enabled
+    ∷ markers_by style.mark s.markers ∷ JsonOfBool s.enabled
     ∷ JsonOfList (f s.children) ∷ []) s.rest
 
 -- Track.1, its children being known in JSON
-abbrev pub track_by : {C : Type 0} → (C → List Json) → TrackOf C → Json
-track_by f t = written S.Track (
+abbrev pub track_by : {C : Type 0} → Style → (C → List Json) → TrackOf C → Json
+track_by style f t = written S.Track (
     Map t.metadata ∷ Str t.name ∷ span_json t.source_range ∷ effects_json t.effects
-    ∷ markers_json t.markers ∷ JsonOfBool t.enabled
+    ∷ markers_by style.mark t.markers ∷ JsonOfBool t.enabled
     ∷ JsonOfList (f t.children) ∷ Str t.kind ∷ []) t.rest
 
 -- an item, its children being known in JSON
-abbrev pub item_by : {C : Type 0} → (C → List Json) → ItemOf C → Json
-item_by f (I.Clip c) = clip_json c
-item_by f (I.Gap g) = gap_json g
-item_by f (I.Transition t) = transition_json t
-item_by f (I.Stack s) = stack_by f s
-item_by f (I.Track t) = track_by f t
+abbrev pub item_by : {C : Type 0} → Style → (C → List Json) → ItemOf C → Json
+item_by style f (I.Clip c) = style.clip c
+item_by style f (I.Gap g) = gap_in style g
+item_by style f (I.Transition t) = transition_json t
+item_by style f (I.Stack s) = stack_by style f s
+item_by style f (I.Track t) = track_by style f t
 
-abbrev pub children_step : Listed-F (List Json) → List Json
-children_step l = map (item_by (λ values. values)) l.list
+abbrev pub children_step : Style → Listed-F (List Json) → List Json
+children_step style l = map (item_by style (λ values. values)) l.list
 
 -- children in order
+abbrev pub children_in : Style → Listed → List Json
+children_in style = fold-Listed (List Json) (children_step style)
+
 abbrev pub children_json : Listed → List Json
-children_json = fold-Listed (List Json) children_step
+children_json = children_in newer
+
+abbrev pub item_in : Style → ItemOf Listed → Json
+item_in style = item_by style (children_in style)
 
 abbrev pub item_json : ItemOf Listed → Json
-item_json = item_by children_json
+item_json = item_in newer
 
 -- Timeline.1
-abbrev pub timeline_json : Timeline → Json
-timeline_json t =
+abbrev pub timeline_in : Style → Timeline → Json
+timeline_in style t =
     written S.Timeline (Map t.metadata ∷ Str t.name ∷ offset_json t.global_start_time
-    ∷ stack_by children_json t.tracks ∷ []) t.rest
+    ∷ stack_by style (children_in style) t.tracks ∷ []) t.rest
+
+abbrev pub timeline_json : Timeline → Json
+timeline_json = timeline_in newer
 
 -- an object, those in it being known in JSON
-abbrev pub object_step : Object-F Json Json → Json
-object_step (Object-F.Timeline t) = timeline_json t
-object_step (Object-F.Collection json) = json
-object_step (Object-F.Item i) = item_json i
+abbrev pub object_step : Style → Object-F Json Json → Json
+object_step style (Object-F.Timeline t) = timeline_in style t
+object_step style (Object-F.Collection json) = json
+object_step style (Object-F.Item i) = item_in style i
 
 -- SerializableCollection.1, the objects in it being known in JSON
 abbrev pub collection_step : Collection-F Json Json → Json
 collection_step c =
     written S.Collection (Map c.metadata ∷ Str c.name ∷ JsonOfList c.children ∷ []) c.rest
 
+-- an object in JSON, in a style
+abbrev pub object_in : Style → Object → Json
+object_in style = fold-Object Json Json (object_step style) collection_step
+
 -- an object in JSON
 abbrev pub json_of : Object → Json
-json_of = fold-Object Json Json object_step collection_step
+json_of = object_in newer
+
+-- An object in JSON in the older family, where it has a form there (OpenTimelineIO's schema pages):
+-- each clip is Clip.1, with its one reference in place of its references and active key, and each
+-- known marker is Marker.1, with its range under the old name.
+abbrev pub old_json_of : Object → Json
+old_json_of = object_in older
 
 -- a collection in JSON, by its objects
-abbrev pub collection_json : Collection → Json
-collection_json collection =
+abbrev pub collection_in : Style → Collection → Json
+collection_in style collection =
     let c = out-Collection collection in
-    written S.Collection (Map c.metadata ∷ Str c.name ∷ JsonOfList (map json_of c.children)
-    ∷ []) c.rest
+    written S.Collection (Map c.metadata ∷ Str c.name
+    ∷ JsonOfList (map (object_in style) c.children) ∷ []) c.rest

@@ -2,8 +2,10 @@
 
 ghost use Rattle.std.specs.Prelude.{◌≡◌, IfOk};
 ghost use Rattle.schema_write.specs.Objects as objects;
+ghost use Rattle.schema_write.specs.Styles.{style_of};
 
-use crate::leaves::{clip_json, gap_json, shown, transition_json};
+use crate::families::Family;
+use crate::leaves::{clip_in, gap_json, shown, transition_json};
 use crate::writing::{add, string, written};
 use json_value::{Json, JsonList};
 use otio_model::{Children, Item, ItemOf, Stack, Track};
@@ -11,49 +13,56 @@ use schema_rows::Schema;
 use sequences::Sequence;
 use std::alloc::{AllocError, Global};
 
-/// An item.
+/// An item in a family.
 #[cycle(item)]
-pub fn item_json(alloc: Global, item: &Item) -> Result<Json, AllocError>
-    ensures { IfOk result (λ json. json ≡ objects.item_json item.now) }
+pub fn item_json(alloc: Global, item: &Item, family: Family) -> Result<Json, AllocError>
+    ensures { IfOk result (λ json. json ≡ objects.item_in (style_of family) item.now) }
 {
     match item {
-        ItemOf::Clip(clip) => clip_json(alloc, clip),
-        ItemOf::Gap(gap) => gap_json(alloc, gap),
+        ItemOf::Clip(clip) => clip_in(alloc, clip, family),
+        ItemOf::Gap(gap) => gap_json(alloc, gap, family),
         ItemOf::Transition(transition) => transition_json(alloc, transition),
         ItemOf::Stack(stack) => {
-            let children = children_json(alloc, &stack.children)?;
-            stack_of(alloc, stack, children)
+            let children = children_json(alloc, &stack.children, family)?;
+            stack_of(alloc, stack, children, family)
         }
         ItemOf::Track(track) => {
-            let children = children_json(alloc, &track.children)?;
-            track_of(alloc, track, children)
+            let children = children_json(alloc, &track.children, family)?;
+            track_of(alloc, track, children, family)
         }
     }
 }
 
 /// The children of a composition, in order.
 #[cycle(item)]
-fn children_json(alloc: Global, children: &Children) -> Result<JsonList, AllocError>
-    ensures { IfOk result (λ made. made ≡ objects.children_json children.now) }
+fn children_json(alloc: Global, children: &Children, family: Family) -> Result<JsonList, AllocError>
+    ensures { IfOk result (λ made. made ≡ objects.children_in (style_of family) children.now) }
 {
     let mut values = Vec::with_capacity(alloc, children.len())?;
     'items: for index in 0..children.len() {
-        values.push(item_json(alloc, children.child(index))?)?;
+        values.push(item_json(alloc, children.child(index), family)?)?;
     }
     Ok(Sequence::of(values))
 }
 
 /// A timeline's root stack.
-pub fn stack_json(alloc: Global, stack: &Stack) -> Result<Json, AllocError>
-    ensures { IfOk result (λ json. json ≡ objects.stack_by objects.children_json stack.now) }
+pub fn stack_json(alloc: Global, stack: &Stack, family: Family) -> Result<Json, AllocError>
+    ensures { let style = style_of family in IfOk result (λ json.
+        json ≡ objects.stack_by style (objects.children_in style) stack.now) }
 {
-    let children = children_json(alloc, &stack.children)?;
-    stack_of(alloc, stack, children)
+    let children = children_json(alloc, &stack.children, family)?;
+    stack_of(alloc, stack, children, family)
 }
 
 /// A stack whose children are these.
-fn stack_of(alloc: Global, stack: &Stack, children: JsonList) -> Result<Json, AllocError>
-    ensures { IfOk result (λ json. json ≡ objects.stack_by (λ _. children) stack.now) }
+fn stack_of(
+    alloc: Global,
+    stack: &Stack,
+    children: JsonList,
+    family: Family,
+) -> Result<Json, AllocError>
+    ensures { IfOk result (λ json.
+        json ≡ objects.stack_by (style_of family) (λ _. children) stack.now) }
 {
     let mut values = shown(
         alloc,
@@ -63,14 +72,21 @@ fn stack_of(alloc: Global, stack: &Stack, children: JsonList) -> Result<Json, Al
         &stack.effects,
         &stack.markers,
         stack.enabled,
+        family,
     )?;
     values.push(Json::List(children))?;
     written(alloc, Schema::Stack, values, &stack.rest)
 }
 
 /// A track whose children are these.
-fn track_of(alloc: Global, track: &Track, children: JsonList) -> Result<Json, AllocError>
-    ensures { IfOk result (λ json. json ≡ objects.track_by (λ _. children) track.now) }
+fn track_of(
+    alloc: Global,
+    track: &Track,
+    children: JsonList,
+    family: Family,
+) -> Result<Json, AllocError>
+    ensures { IfOk result (λ json.
+        json ≡ objects.track_by (style_of family) (λ _. children) track.now) }
 {
     let mut values = shown(
         alloc,
@@ -80,6 +96,7 @@ fn track_of(alloc: Global, track: &Track, children: JsonList) -> Result<Json, Al
         &track.effects,
         &track.markers,
         track.enabled,
+        family,
     )?;
     values.push(Json::List(children))?;
     add(&mut values, string(alloc, &track.kind))?;

@@ -19,6 +19,16 @@ pub fn media_json(alloc: Global, media: &MediaMap) -> Result<Json, AllocError>
     Ok(Json::Map(NamedValues::of(media_pairs(alloc, media)?)))
 }
 
+/// The reference of a `Clip.1`: the first of the references, or null where there is none.
+pub fn reference_json(alloc: Global, media: &MediaMap) -> Result<Json, AllocError>
+    ensures { IfOk result (λ json. json ≡ objects.reference_json media.now) }
+{
+    match media.as_slice().first() {
+        Some(pair) => medium_json(alloc, &pair.1),
+        None => Ok(Json::Null),
+    }
+}
+
 fn media_pairs(alloc: Global, media: &MediaMap) -> Result<Vec<(Text, Json)>, AllocError>
     ensures pairs { IfOk result (λ made. made.items ≡ map objects.medium_pair media.now) }
     ensures distinct { IfOk result (λ made. AreDistinct (names_of made.items)) }

@@ -4,7 +4,7 @@ ghost use Rattle.std.specs.Prelude.{map, codes};
 ghost use Rattle.dev_io.specs.Buffer.{HandsOver};
 ghost use Rattle.json_text.specs.Levels.{deep};
 ghost use Rattle.json_text.specs.Layout.{text_at, object_text, member_lines};
-ghost use Rattle.schema_write.specs.Objects.{media_json, medium_pair, medium_json};
+ghost use Rattle.schema_write.specs.Objects.{media_json, medium_pair, medium_json, reference_json};
 ghost use Rattle.schema_write.specs.Objects.{external_json, missing_json};
 ghost use Rattle.schema_write.specs.Objects.{generator_json, images_json};
 ghost use Rattle.schema_write.specs.Lines.{row_text};
@@ -28,6 +28,24 @@ pub fn put_media_row<W: Out>(
 {
     put_row_name(buffer, out, "media_references", level);
     put_media(buffer, out, media, level);
+}
+
+/// Hands over the row of the reference of a `Clip.1`: the first of the references, or null where
+/// there is none.
+pub fn put_reference_row<W: Out>(
+    buffer: &mut OutBuffer,
+    out: &mut W,
+    media: &MediaMap,
+    level: &Level<'_>,
+)
+    ensures { HandsOver W.known W.faults out.old out.new buffer.old buffer.new
+        (row_text (codes "media_reference") (reference_json media.now) (deep level.now)) }
+{
+    put_row_name(buffer, out, "media_reference", level);
+    match media.as_slice().first() {
+        Some(pair) => put_medium(buffer, out, &pair.1, level),
+        None => buffer.put(out, b"null"),
+    }
 }
 
 fn put_media<W: Out>(buffer: &mut OutBuffer, out: &mut W, media: &MediaMap, level: &Level<'_>)

@@ -8,9 +8,11 @@ ghost use Rattle.json_text.specs.Levels.{deep};
 ghost use Rattle.schema_rows.specs.Rows.{row_of};
 ghost use Rattle.schema_rows.specs.Schemas.{rows_of};
 ghost use Rattle.schema_rows.specs.Families.{others};
-ghost use Rattle.schema_write.specs.Lines.{head_text, row_front, row_text, other_text};
+ghost use Rattle.schema_write.specs.Written.{old_others};
+ghost use Rattle.schema_write.specs.Lines.{head_text, old_head_text, row_front, row_text, other_text, old_other_text};
 ghost use Rattle.schema_write.specs.Lines.{member_rows, end_text};
 
+use crate::families::OldSchema;
 use crate::writing::is_named;
 use dev_io::{Out, OutBuffer};
 use json_text::{Level, put_line, put_name, put_object, put_string, put_value};
@@ -26,6 +28,16 @@ pub fn put_head<W: Out>(buffer: &mut OutBuffer, out: &mut W, schema: Schema, lev
     put_line(buffer, out, b"{\n", level);
     buffer.put(out, b"\"OTIO_SCHEMA\": ");
     put_string(buffer, out, schema.text().as_bytes());
+}
+
+/// Hands over the bracket of an object and, on a line of the level inside, this text as its schema.
+pub fn put_old_head<W: Out>(buffer: &mut OutBuffer, out: &mut W, text: &str, level: &Level<'_>)
+    ensures { HandsOver W.known W.faults out.old out.new buffer.old buffer.new
+        (old_head_text text.now (deep level.now)) }
+{
+    put_line(buffer, out, b"{\n", level);
+    buffer.put(out, b"\"OTIO_SCHEMA\": ");
+    put_string(buffer, out, text.as_bytes());
 }
 
 /// Hands over the name of a row on a line of its own, up to its value.
@@ -123,6 +135,48 @@ pub fn put_others<W: Out>(
     for member in rest.as_slice() {
         put_other(buffer, out, table, &member.0, &member.1, level);
     }
+}
+
+/// Hands over the members that neither an older schema nor the newer one has a row for.
+pub fn put_old_others<W: Out>(
+    buffer: &mut OutBuffer,
+    out: &mut W,
+    schema: &OldSchema<'_>,
+    rest: &Members,
+    level: &Level<'_>,
+)
+    ensures { HandsOver W.known W.faults out.old out.new buffer.old buffer.new
+        (member_rows (old_others schema.now.own.now schema.now.newer rest.now)
+        (deep level.now)) }
+{
+    for member in rest.as_slice() {
+        put_old_other(buffer, out, schema, member, level);
+    }
+}
+
+/// Hands over a member where neither an older schema nor the newer one has a row for it.
+fn put_old_other<W: Out>(
+    buffer: &mut OutBuffer,
+    out: &mut W,
+    schema: &OldSchema<'_>,
+    member: &(Text, Json),
+    level: &Level<'_>,
+)
+    ensures { HandsOver W.known W.faults out.old out.new buffer.old buffer.new
+        (old_other_text schema.now.own.now (rows_of schema.now.newer) member.now
+        (deep level.now)) }
+{
+    if schema.own == member.0.as_str() {
+        return;
+    }
+    put_other(
+        buffer,
+        out,
+        schema.newer.table(),
+        &member.0,
+        &member.1,
+        level,
+    );
 }
 
 /// Hands over a member where the table has no row for it.

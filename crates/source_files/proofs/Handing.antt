@@ -84,7 +84,7 @@ failed_at T Is Not Calm (Some hand) bytes old mid new c t e = (
   c,
 )
 
--- a read failed behind what was taken
+-- a read failed after what was taken
 pub failed : (T : Type 0) (Is : List ℕ → T → Type 0) (Not : List ℕ → List ℕ → Type 0) (Calm : List ℕ
     → Type 0)
     (bytes : List ℕ) (old mid new : Option KnownFiles) → Calm bytes → Tells SameFiles old mid

@@ -10,7 +10,7 @@ split_at [] (suc at) x e = cc
 split_at (y ∷ ys) zero x e = let same : y ≡ x = cc in ap (λ z. z ∷ ys) same
 split_at (y ∷ ys) (suc at) x e = split_at ys at x e
 
--- the next index, and those behind it
+-- the next index, and those after it
 pub next_index : (place : List ℕ) (at x : ℕ) → slice_get place at ≡ Some x
     → more_indexes (drop at place) ≡ codes "/" ++ (decimal x ++ more_indexes (drop (at + 1) place))
 next_index place at x e =
@@ -18,7 +18,7 @@ next_index place at x e =
     ap more_indexes (split_at place at x e)
     ∙ ap (λ n. codes "/" ++ (decimal x ++ more_indexes (drop n place))) next
 
--- the first index, and those behind it
+-- the first index, and those after it
 pub first_index : (place : List ℕ) (x : ℕ) → Some x ≡ slice_get place 0
     → place_text place ≡ decimal x ++ more_indexes (drop 1 place)
 first_index [] x e = cc

@@ -10,3 +10,4 @@ pub mod ListLemmas
 pub mod ObjectLemmas
 pub mod MediaLemmas
 pub mod ScriptLemmas
+pub mod LogLemmas

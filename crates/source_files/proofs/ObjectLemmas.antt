@@ -32,11 +32,12 @@ object_judged value (Err (Refused refusal)) bytes s few is =
     refused_by (RefusesValue (upgraded value)) (RefusesObject bytes) refusal
     (λ why r. inr (value, is, r)) s
 
--- what a value of some bytes stands for is what some value stands for
-pub stands_for : (value : Json) (result : Result Object ReadFault) → StandsAs value result
-    → IfOk result (λ object. (read : Json) × Stands read object)
-stands_for value (Ok object) s = (value, s)
-stands_for value (Err fault) s = tt
+-- what a value of some bytes stands for is what some upgraded value stands for
+pub stands_for : (value : Json) (result : Result Object ReadFault) → upgraded value ≡ value
+    → StandsAs value result
+    → IfOk result (λ object. (read : Json) × (upgraded read ≡ read) × Stands read object)
+stands_for value (Ok object) stays s = (value, stays, s)
+stands_for value (Err fault) stays s = tt
 
 -- how the first fault of a value is refused
 pub value_refused : (value : Json) (fault : SchemaFault) (reason : Reason) → fault ≢ WantOfMemory

@@ -36,7 +36,7 @@ each_more Is [] (c ∷ bs) a b e i = absurd e
 each_more Is (c ∷ xs) [] a b e i = absurd e
 each_more Is (c ∷ xs) (d ∷ bs) a b e i = (e.0, each_more Is xs bs a b e.1 i)
 
--- the first that is none, behind some that are something
+-- the first that is none, after some that are something
 pub first_behind : {A B W : Type 0} (Is : A → B → Type 0) (IsNot : A → W
     → Type 0) (front behind : List A) (bs : List B)
     (a : A) (w : W) → EachIs Is front bs → IsNot a w → FirstIsNot Is IsNot (front ++ a ∷ behind) w

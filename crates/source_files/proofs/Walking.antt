@@ -25,7 +25,7 @@ pub sources_more : (xs : List code.Source) (i : ℕ) (d : code.Source) → i < l
 sources_more xs i d h = ap (map source_of) (take_more xs i d h)
     ∙ mapped_last source_of (take i xs) (get_or xs i d)
 
--- the sources in front of one, that one and those behind it
+-- the sources in front of one, that one and those after it
 sources_split : (xs : List code.Source) (i : ℕ) (d : code.Source) → i < length xs
     → map source_of xs ≡ map source_of (take i xs)
     ++ source_of (get_or xs i d) ∷ map source_of (drop (suc i) xs)

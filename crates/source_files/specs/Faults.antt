@@ -1,4 +1,4 @@
--- The table of messages: what is told of each fault behind the name of its file. Want of memory has
+-- The table of messages: what is told of each fault after the name of its file. Out of memory has
 -- a message of its own.
 use Rattle.std.specs.Prelude.{ℕ, List, [], codes}
 use Rattle.json_text.specs.declared.faults.JsonFault.{JsonFault}
@@ -11,6 +11,8 @@ use Rattle.coord.specs.declared.faults.CoordFault.{CoordFault}
 use Rattle.coord.specs.declared.faults.CoordFault.TheVariants as coord
 use Rattle.media_list.specs.declared.faults.MediaFault.{MediaFault}
 use Rattle.media_list.specs.declared.faults.MediaFault.TheVariants as media
+use Rattle.ale_text.specs.declared.faults.AleFault.{AleFault}
+use Rattle.ale_text.specs.declared.faults.AleFault.TheVariants as ale
 use Rattle.edl_frames.specs.declared.faults.ConformFault.{ConformFault}
 use Rattle.edl_frames.specs.declared.faults.ConformFault.TheVariants as conform
 use Rattle.edl_frames.specs.declared.reasons.Why.{Why}
@@ -25,6 +27,8 @@ use Rattle.undo_log.specs.declared.faults.UndoFault.{UndoFault}
 use Rattle.undo_log.specs.declared.faults.UndoFault.TheVariants as undo
 use Rattle.flat.specs.declared.faults.FlatFault.{FlatFault}
 use Rattle.flat.specs.declared.faults.FlatFault.TheVariants as flat
+use Rattle.schema_write.specs.declared.old_faults.FamilyFault.{FamilyFault}
+use Rattle.schema_write.specs.declared.old_faults.FamilyFault.TheVariants as family
 use Rattle.source_files.specs.Reasons.{refusal, number_text, item_text, field_text, line_at_text}
 
 -- bytes that are no JSON text
@@ -58,6 +62,14 @@ media_fault_text (media.ReelTwice line) =
 media_fault_text (media.UrlTwice line) = refusal (codes "M3") (codes "UrlTwice") (number_text line)
 media_fault_text media.Large = refusal (codes "M6") (codes "Large") []
 media_fault_text media.Memory = []
+
+-- bytes that are no log
+abbrev pub ale_fault_text : AleFault → List ℕ
+ale_fault_text (ale.Form line) = refusal (codes "A1") (codes "Form") (number_text line)
+ale_fault_text (ale.Rate line) = refusal (codes "A2") (codes "Rate") (number_text line)
+ale_fault_text (ale.Label line) = refusal (codes "A3") (codes "Label") (number_text line)
+ale_fault_text ale.Large = refusal (codes "A4") (codes "Large") []
+ale_fault_text ale.Memory = []
 
 -- bytes that are no script
 abbrev pub script_fault_text : ScriptFault → List ℕ
@@ -176,6 +188,10 @@ day_text line = refusal (codes "L10") (codes "Day") (number_text line)
 abbrev pub not_timeline_text : List ℕ
 not_timeline_text = refusal (codes "G3") (codes "NotTimeline") []
 
+-- there are more record frames than a pull list is made of
+abbrev pub pull_frames_text : List ℕ
+pull_frames_text = refusal (codes "U1") (codes "Frames") []
+
 -- a record point that is no label at the record rate
 abbrev pub range_text : List ℕ
 range_text = refusal (codes "X4") (codes "Range") []
@@ -188,3 +204,9 @@ flat_fault_text (flat.Transition place) =
 flat_fault_text (flat.Phase place) = refusal (codes "X3") (codes "Phase") (item_text place)
 flat_fault_text flat.Range = range_text
 flat_fault_text flat.Memory = []
+
+-- an object without a form in the older family of schemas
+abbrev pub family_fault_text : FamilyFault → List ℕ
+family_fault_text (family.Keys place) = refusal (codes "Y1") (codes "Keys") (item_text place)
+family_fault_text (family.Member place) = refusal (codes "Y2") (codes "Member") (item_text place)
+family_fault_text family.Memory = []

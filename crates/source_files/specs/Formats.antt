@@ -23,12 +23,14 @@ use Rattle.schema_rows.specs.Counts.{count_of}
 use Rattle.schema_rows.specs.Stands.{Stands}
 use Rattle.schema_rows.specs.Faults.{IsFirstFault}
 use Rattle.schema_rows.specs.declared.faults.SchemaFault.{SchemaFault}
+use Rattle.ale_text.specs.Logs.{IsLog, IsFault as IsLogFault}
+use Rattle.ale_text.specs.declared.faults.AleFault.{AleFault}
 use Rattle.media_list.specs.Lists.{IsMediaList, IsFault as IsMediaFault}
 use Rattle.media_list.specs.declared.faults.MediaFault.{MediaFault}
 use Rattle.edit_script.specs.Scripts.{IsScript, IsFault as IsScriptFault}
 use Rattle.edit_script.specs.declared.commands.Command.{Command}
 use Rattle.edit_script.specs.declared.commands.ScriptFault.{ScriptFault}
-use Rattle.source_files.specs.Faults.{json_fault_text, list_fault_text, media_fault_text, script_fault_text, fault_text, not_timeline_text}
+use Rattle.source_files.specs.Faults.{ale_fault_text, json_fault_text, list_fault_text, media_fault_text, script_fault_text, fault_text, not_timeline_text}
 use Rattle.source_files.specs.declared.kinds.Kind.{Kind}
 use Rattle.source_files.specs.declared.kinds.Kind.TheVariants as kinds
 use Rattle.source_files.specs.declared.kinds.Content.{Content}
@@ -64,6 +66,7 @@ Holds kinds.Object bytes (Root object) = IsObject bytes object
 Holds kinds.Timeline bytes (Film timeline) = IsTimeline bytes timeline
 Holds (kinds.List rate) bytes (Events list) = IsList rate bytes list
 Holds kinds.Media bytes (Rows rows) = IsMediaList bytes rows
+Holds kinds.Log bytes (Rows rows) = IsLog bytes rows
 Holds kinds.Script bytes (Commands commands) = IsCommands bytes commands
 Holds kind bytes content = ⊥
 
@@ -104,18 +107,24 @@ abbrev pub RefusesMedia : List ℕ → List ℕ → Type 0
 RefusesMedia bytes why =
     (fault : MediaFault) × IsMediaFault bytes fault × (why ≡ media_fault_text fault)
 
+-- the bytes are no log, and their first fault is told so
+abbrev pub RefusesLog : List ℕ → List ℕ → Type 0
+RefusesLog bytes why =
+    (fault : AleFault) × IsLogFault bytes fault × (why ≡ ale_fault_text fault)
+
 -- the bytes are no script, and their first fault is told so
 abbrev pub RefusesScript : List ℕ → List ℕ → Type 0
 RefusesScript bytes why =
     (fault : ScriptFault) × IsScriptFault bytes fault × (why ≡ script_fault_text fault)
 
--- why the bytes are nothing of their file's format, as it is told behind the name of the file
+-- why the bytes are nothing of their file's format, as it is told after the name of the file
 abbrev pub Refuses : Kind → List ℕ → List ℕ → Type 0
 Refuses kinds.Json bytes why = RefusesJson bytes why
 Refuses kinds.Object bytes why = RefusesObject bytes why
 Refuses kinds.Timeline bytes why = RefusesTimeline bytes why
 Refuses (kinds.List rate) bytes why = RefusesList rate bytes why
 Refuses kinds.Media bytes why = RefusesMedia bytes why
+Refuses kinds.Log bytes why = RefusesLog bytes why
 Refuses kinds.Script bytes why = RefusesScript bytes why
 
 -- bytes from the front of a JSON text show no fault: some continuation of them is a text
@@ -134,6 +143,10 @@ pub record IsCalmList (rate : Rate) (taken : List ℕ) : Type 0 where
 abbrev pub IsCalmMedia : List ℕ → Type 0
 IsCalmMedia taken = length taken ≤ most_bytes
 
+-- bytes from the front of a log show no fault: it too is judged when it has ended
+abbrev pub IsCalmLog : List ℕ → Type 0
+IsCalmLog taken = length taken ≤ most_bytes
+
 -- bytes from the front of a script show no fault: it too is judged when it has ended
 abbrev pub IsCalmScript : List ℕ → Type 0
 IsCalmScript taken = length taken ≤ most_bytes
@@ -145,11 +158,13 @@ IsCalm kinds.Object taken = IsCalmJson taken
 IsCalm kinds.Timeline taken = IsCalmJson taken
 IsCalm (kinds.List rate) taken = IsCalmList rate taken
 IsCalm kinds.Media taken = IsCalmMedia taken
+IsCalm kinds.Log taken = IsCalmLog taken
 IsCalm kinds.Script taken = IsCalmScript taken
 
--- some value stands for the timeline, by the tables of the schemas, and it has few items
+-- some upgraded value stands for the timeline, by the tables of the schemas, and it has few items
 pub record IsOfTables (timeline : Timeline) : Type 0 where
   pub value : Json
+  pub stays : upgraded value ≡ value
   pub object : Object
   pub stands : Stands value object
   pub root : out-Object object ≡ Object-F.Timeline timeline
@@ -162,5 +177,6 @@ Suits kinds.Object (Root object) = count_of object ≤ most_items
 Suits kinds.Timeline (Film timeline) = IsOfTables timeline
 Suits (kinds.List rate) (Events list) = IsWellFormed list
 Suits kinds.Media (Rows rows) = Unit {0}
+Suits kinds.Log (Rows rows) = Unit {0}
 Suits kinds.Script (Commands commands) = Unit {0}
 Suits kind content = ⊥

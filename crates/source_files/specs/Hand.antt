@@ -6,7 +6,7 @@ use Rattle.source_files.specs.Reading.{IsRefused}
 use Rattle.source_files.specs.declared.file_faults.ReadFault.{ReadFault}
 use Rattle.source_files.specs.declared.file_faults.ReadFault.TheVariants.{Absent, Failed, Refused}
 
--- what bytes are judged to be, or why they are none; want of memory is free
+-- what bytes are judged to be, or why they are none; out of memory is free
 abbrev pub Judges : {T : Type 0} → (List ℕ → T → Type 0) → (List ℕ → List ℕ → Type 0) → List ℕ
     → Result T ReadFault → Type 0
 Judges Is Not bytes (Ok value) = Is bytes value
@@ -14,7 +14,7 @@ Judges Is Not bytes (Err Absent) = ⊥
 Judges Is Not bytes (Err Failed) = ⊥
 Judges Is Not bytes (Err (Refused refusal)) = IsRefused (Not bytes) refusal
 
--- a read of the file in hand failed, behind bytes that show no fault
+-- a read of the file in hand failed, after bytes that show no fault
 abbrev pub FailsAt : (List ℕ → Type 0) → List ℕ → List ℕ → KnownFiles → Type 0
 FailsAt Calm name left new =
     (taken : List ℕ) × (rest : List ℕ) × (left ≡ taken ++ rest) × (new.last ≡ ReadOf name rest)

@@ -1,7 +1,7 @@
 -- How a place in a tree is written in a message.
 use Rattle.std.specs.Prelude.{ℕ, List, [], ◌∷◌, ◌++◌, codes, decimal}
 
--- further indexes, each behind `/`
+-- further indexes, each after `/`
 abbrev pub more_indexes : List ℕ → List ℕ
 more_indexes [] = []
 more_indexes (index ∷ indexes) = codes "/" ++ (decimal index ++ more_indexes indexes)

@@ -37,7 +37,7 @@ pub record IsRead (held : Held) (source : Source) (content : Content) : Type 0 w
 abbrev pub AreRead : Held → List Source → List Content → Type 0
 AreRead held sources contents = EachIs (IsRead held) sources contents
 
--- The last failed call was one of opening this file, or a read of it behind bytes that show no
+-- The last failed call was one of opening this file, or a read of it after bytes that show no
 -- fault; opening a file that isn't there is kept without its name.
 abbrev pub IsFailureOf : Source → Option (List ℕ) → LastFailure → Type 0
 IsFailureOf source bytes NoFailure = ⊥
@@ -47,7 +47,7 @@ IsFailureOf source bytes (ReadOf name left) =
     (name ≡ source.name)
     × ((taken : List ℕ) × (bytes ≡ Some (taken ++ left)) × IsCalm source.kind taken)
 
--- what is refused is refused for such a reason; want of memory is free
+-- what is refused is refused for such a reason; out of memory is free
 abbrev pub IsRefused : (List ℕ → Type 0) → Refusal → Type 0
 IsRefused Why (Broken reason) = Why (reason_text reason)
 IsRefused Why Memory = Unit {0}

@@ -1,4 +1,4 @@
--- What a message tells of a fault behind the name of the file.
+-- What a message tells of a fault after the name of the file.
 use Rattle.std.specs.Prelude.{ℕ, List, [], ◌++◌, codes, decimal}
 use Rattle.source_files.specs.Places.{place_text}
 use Rattle.source_files.specs.declared.reasons.Reason.{Reason}
@@ -34,6 +34,6 @@ detail_text (LineAt line place) = line_at_text line place
 abbrev pub refusal : List ℕ → List ℕ → List ℕ → List ℕ
 refusal code word detail = codes ": " ++ (code ++ (codes " " ++ (word ++ (detail ++ codes "\n"))))
 
--- all that stands behind the name of the file
+-- all that stands after the name of the file
 abbrev pub reason_text : Reason → List ℕ
 reason_text reason = refusal reason.code.now reason.word.now (detail_text reason.detail)

@@ -8,7 +8,7 @@ use Rattle.source_files.specs.Reading.{IsRefused}
 use Rattle.source_files.specs.declared.file_faults.ReadFault.{ReadFault}
 use Rattle.source_files.specs.declared.file_faults.ReadFault.TheVariants.{Absent, Failed, Refused}
 
--- the object that the value stands for, or its first fault; want of memory is free
+-- the object that the value stands for, or its first fault; out of memory is free
 abbrev pub StandsAs : Json → Result Object ReadFault → Type 0
 StandsAs value (Ok object) = Stands value object
 StandsAs value (Err Absent) = ⊥

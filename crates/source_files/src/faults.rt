@@ -3,9 +3,10 @@
 ghost use Rattle.std.specs.Prelude.{◌≡◌, ◌≢◌, [], MatchOption};
 ghost use Rattle.source_files.specs.Reasons.{reason_text, refusal, number_text, item_text, field_text, line_at_text};
 ghost use Rattle.source_files.specs.Faults.{script_fault_text, far_command_text, unlisted_text, edit_fault_text, undo_fault_text};
-ghost use Rattle.source_files.specs.Faults.{json_fault_text, list_fault_text, media_fault_text, conform_fault_text, fault_text, coord_fault_text, not_carried_text, why_text, no_timecode_text, events_text, reel_text, day_text, not_timeline_text, range_text, flat_fault_text, items_text};
+ghost use Rattle.source_files.specs.Faults.{ale_fault_text, json_fault_text, list_fault_text, media_fault_text, conform_fault_text, fault_text, coord_fault_text, not_carried_text, why_text, no_timecode_text, events_text, reel_text, day_text, not_timeline_text, range_text, pull_frames_text, flat_fault_text, items_text, family_fault_text};
 
 use crate::reasons::{Detail, Reason};
+use ale_text::AleFault;
 use coord::CoordFault;
 use edit_script::ScriptFault;
 use edl_frames::{ConformFault, NotCarried, Why};
@@ -15,6 +16,7 @@ use json_text::JsonFault;
 use media_list::MediaFault;
 use otio_model::{EditFault, Place};
 use schema_rows::SchemaFault;
+use schema_write::FamilyFault;
 use sequences::Text;
 use undo_log::UndoFault;
 
@@ -53,7 +55,8 @@ pub fn list_reason(fault: EdlFault) -> Option<Reason>
     }
 }
 
-/// What is told of bytes that are no media list, with the line; `None` exactly for want of memory.
+/// What is told of bytes that are no media list, with the line; `None` exactly where memory ran
+/// out.
 pub fn media_reason(fault: MediaFault) -> Option<Reason>
     ensures { MatchOption result (fault ≡ MediaFault.Memory)
         (λ reason. (fault ≢ MediaFault.Memory) × (reason_text reason ≡ media_fault_text fault)) }
@@ -69,7 +72,21 @@ pub fn media_reason(fault: MediaFault) -> Option<Reason>
     }
 }
 
-/// What is told of bytes that are no script, with the line; `None` exactly for want of memory.
+/// What is told of bytes that are no log, with the line; `None` exactly where memory ran out.
+pub fn ale_reason(fault: AleFault) -> Option<Reason>
+    ensures { MatchOption result (fault ≡ AleFault.Memory)
+        (λ reason. (fault ≢ AleFault.Memory) × (reason_text reason ≡ ale_fault_text fault)) }
+{
+    match fault {
+        AleFault::Form(line) => Some(line_reason("A1", "Form", line)),
+        AleFault::Rate(line) => Some(line_reason("A2", "Rate", line)),
+        AleFault::Label(line) => Some(line_reason("A3", "Label", line)),
+        AleFault::Large => Some(bare_reason("A4", "Large")),
+        AleFault::Memory => None,
+    }
+}
+
+/// What is told of bytes that are no script, with the line; `None` exactly where memory ran out.
 pub fn script_reason(fault: ScriptFault) -> Option<Reason>
     ensures { MatchOption result (fault ≡ ScriptFault.Memory)
         (λ reason. (fault ≢ ScriptFault.Memory) × (reason_text reason ≡ script_fault_text fault)) }
@@ -97,7 +114,7 @@ pub fn unlisted_reason(line: u32) -> Reason
 }
 
 /// What is told of an edit, on that line of a script, that isn't made; of one that would move what
-/// stands behind it with the place of the composition too. `None` exactly for want of memory.
+/// stands after it with the place of the composition too. `None` exactly where memory ran out.
 pub fn edit_reason(line: u32, fault: EditFault) -> Option<Reason>
     ensures { MatchOption result (fault ≡ EditFault.Memory)
         (λ reason. (fault ≢ EditFault.Memory)
@@ -147,7 +164,7 @@ pub fn conform_reason(fault: ConformFault) -> Option<Reason>
 }
 
 /// What is told of a value that stands for no object, with the place of an item and, for a member,
-/// its name; `None` exactly for want of memory.
+/// its name; `None` exactly where memory ran out.
 pub fn schema_reason(fault: SchemaFault) -> Option<Reason>
     ensures { MatchOption result (fault ≡ SchemaFault.Memory)
         (λ reason. (fault ≢ SchemaFault.Memory) × (reason_text reason ≡ fault_text fault)) }
@@ -166,7 +183,7 @@ pub fn schema_reason(fault: SchemaFault) -> Option<Reason>
 }
 
 /// What is told of a timeline that isn't sound, with the place of the item but for the start;
-/// `None` exactly for want of memory.
+/// `None` exactly where memory ran out.
 pub fn coord_reason(fault: CoordFault) -> Option<Reason>
     ensures { MatchOption result (fault ≡ CoordFault.Memory)
         (λ reason. (fault ≢ CoordFault.Memory) × (reason_text reason ≡ coord_fault_text fault)) }
@@ -181,7 +198,7 @@ pub fn coord_reason(fault: CoordFault) -> Option<Reason>
 }
 
 /// What is told of a timeline that isn't written as a list, with the place of the child or of the
-/// whole; `None` exactly for want of memory.
+/// whole; `None` exactly where memory ran out.
 pub fn not_carried_reason(fault: NotCarried) -> Option<Reason>
     ensures { MatchOption result (fault ≡ NotCarried.Memory)
         (λ reason. (fault ≢ NotCarried.Memory)
@@ -261,7 +278,7 @@ pub fn items_reason() -> Reason
 }
 
 /// What is told of a timeline that isn't flattened, cut to a window or joined, with the place of
-/// the child, but for a window out of range; `None` exactly for want of memory.
+/// the child, but for a window out of range; `None` exactly where memory ran out.
 pub fn flat_reason(fault: FlatFault) -> Option<Reason>
     ensures { MatchOption result (fault ≡ FlatFault.Memory)
         (λ reason. (fault ≢ FlatFault.Memory)
@@ -274,6 +291,27 @@ pub fn flat_reason(fault: FlatFault) -> Option<Reason>
         FlatFault::Range => Some(range_reason()),
         FlatFault::Memory => None,
     }
+}
+
+/// What is told of an object without a form in the older family of schemas, with the place of the
+/// item; `None` exactly where memory ran out.
+pub fn family_reason(fault: FamilyFault) -> Option<Reason>
+    ensures { MatchOption result (fault ≡ FamilyFault.Memory)
+        (λ reason. (fault ≢ FamilyFault.Memory)
+        × (reason_text reason ≡ family_fault_text fault)) }
+{
+    match fault {
+        FamilyFault::Keys(place) => Some(item_reason("Y1", "Keys", place)),
+        FamilyFault::Member(place) => Some(item_reason("Y2", "Member", place)),
+        FamilyFault::Memory => None,
+    }
+}
+
+/// What is told of a timeline that has more record frames than a pull list is made of.
+pub fn pull_frames_reason() -> Reason
+    ensures { reason_text result ≡ pull_frames_text }
+{
+    bare_reason("U1", "Frames")
 }
 
 /// A record point is no label at the record rate.

@@ -4,7 +4,7 @@ use crate::reasons::Reason;
 /// Why what was read is refused.
 #[derive(Drop)]
 pub enum Refusal {
-    /// It breaks a rule; this is what a message tells behind the name of its file.
+    /// It breaks a rule; this is what a message tells after the name of its file.
     Broken(Reason),
     /// No memory was left.
     Memory,

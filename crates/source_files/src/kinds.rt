@@ -19,6 +19,8 @@ pub enum Kind {
     List(Rate),
     /// A media list.
     Media,
+    /// A log of the Avid Log Exchange, which stands for a media list.
+    Log,
     /// An edit script.
     Script,
 }
@@ -43,7 +45,7 @@ pub enum Content {
     Film(Timeline),
     /// A list.
     Events(EventList),
-    /// A media list.
+    /// A media list, or that of a log.
     Rows(MediaList),
     /// The commands of a script, at most 10 000.
     Commands(Vec<Command>),

@@ -1,4 +1,4 @@
-//! The files that a command reads, and the table of messages: what is told of each fault behind the
+//! The files that a command reads, and the table of messages: what is told of each fault after the
 //! name of its file.
 //!
 //! Each file is opened, read and judged as what it is read as, before the next is opened. A fault
@@ -11,6 +11,7 @@ mod file_faults;
 mod json;
 mod kinds;
 mod lists;
+mod logs;
 mod media;
 mod objects;
 mod places;
@@ -19,10 +20,10 @@ mod scripts;
 mod sources;
 
 pub use faults::{
-    conform_reason, coord_reason, day_reason, edit_reason, events_reason, far_command_reason,
-    flat_reason, items_reason, json_reason, list_reason, media_reason, no_timecode_reason,
-    not_carried_reason, not_timeline_reason, range_reason, reel_reason, schema_reason,
-    script_reason, undo_reason, unlisted_reason,
+    ale_reason, conform_reason, coord_reason, day_reason, edit_reason, events_reason,
+    family_reason, far_command_reason, flat_reason, items_reason, json_reason, list_reason,
+    media_reason, no_timecode_reason, not_carried_reason, not_timeline_reason, pull_frames_reason,
+    range_reason, reel_reason, schema_reason, script_reason, undo_reason, unlisted_reason,
 };
 pub use file_faults::{ReadFault, Refusal, SourceFault};
 pub use kinds::{Content, Kind, Source};

@@ -31,7 +31,8 @@ pub fn read_object<F: Files>(alloc: Global, files: &mut F) -> Result<Object, Rea
     ensures told { Tells (ReadsHand IsObject RefusesObject IsCalmJson result) (F.known files.old)
         (F.known files.new) }
     ensures few { IfOk result (λ object. count_of object ≤ most_items) }
-    ensures stands { IfOk result (λ object. (value : JsonValue) × Stands value object) }
+    ensures stands { IfOk result (λ object.
+        (value : JsonValue) × (upgraded value ≡ value) × Stands value object) }
     ensures cause { Raised result (F.faults files.old) (F.faults files.new) }
 {
     match read_json(alloc, files) {
@@ -57,7 +58,7 @@ pub fn read_timeline<F: Files>(alloc: Global, files: &mut F) -> Result<Timeline,
 // The timeline that an object is.
 fn timeline_in(object: Object) -> Result<Timeline, ReadFault>
     requires few { count_of object ≤ most_items }
-    requires stands { (value : JsonValue) × Stands value object }
+    requires stands { (value : JsonValue) × (upgraded value ≡ value) × Stands value object }
     ensures judged { (bytes : List ℕ) → IsObject bytes object →
         Judges IsTimeline RefusesTimeline bytes result }
     ensures tables { IfOk result IsOfTables }

@@ -26,7 +26,7 @@ pub enum Detail {
     LineAt(u32, Place),
 }
 
-/// What a message tells of a fault behind the name of the file.
+/// What a message tells of a fault after the name of the file.
 #[derive(Drop)]
 pub struct Reason {
     /// The code of the fault: a letter and a number.
@@ -37,7 +37,7 @@ pub struct Reason {
     pub detail: Detail,
 }
 
-/// Hands over what a message tells behind the name of the file, up to and with the end of the line.
+/// Hands over what a message tells after the name of the file, up to and with the end of the line.
 /// It takes no memory.
 pub fn put_reason<W: Out>(buffer: &mut OutBuffer, out: &mut W, reason: &Reason)
     ensures { HandsOver W.known W.faults out.old out.new buffer.old buffer.new

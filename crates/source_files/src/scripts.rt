@@ -39,8 +39,8 @@ pub fn read_commands<F: Files>(alloc: Global, files: &mut F) -> Result<Vec<Comma
     Err(ReadFault::Refused(script_refusal(ScriptFault::Large)))
 }
 
-// Puts a piece behind the bytes.
-fn put_last(bytes: &mut Vec<u8>, piece: &[u8]) -> Result<(), AllocError>
+/// Puts a piece after the bytes.
+pub(crate) fn put_last(bytes: &mut Vec<u8>, piece: &[u8]) -> Result<(), AllocError>
     ensures { OnOk result (bytes.new.items ≡ bytes.old.items ++ piece.now) }
 {
     bytes.extend_from_slice(piece)?;

@@ -11,6 +11,7 @@ use crate::file_faults::{ReadFault, Refusal, SourceFault};
 use crate::json::read_json;
 use crate::kinds::{Content, Kind, Source};
 use crate::lists::read_list;
+use crate::logs::read_log;
 use crate::media::read_media;
 use crate::objects::{read_object, read_timeline};
 use crate::scripts::read_commands;
@@ -21,9 +22,9 @@ use tick_time::Rate;
 
 /// What the files hold, one after another. Each is opened, read to its end and judged as what it is
 /// read as before the next is opened; the first that isn't there, can't be read or isn't what it is
-/// read as ends the reading, and nothing behind its fault is read.
+/// read as ends the reading, and nothing after its fault is read.
 ///
-/// An error tells the name of that file and why. Want of memory may come at any file. What was read
+/// An error tells the name of that file and why. Out of memory may come at any file. What was read
 /// of a file that is refused isn't freed.
 pub fn read_sources<'a, F: Files>(
     alloc: Global,
@@ -58,7 +59,7 @@ pub fn read_sources<'a, F: Files>(
 }
 
 /// What the file holds, read to its end and judged as what it is read as; or why it isn't read: it
-/// isn't there, a call of `files` failed, its first fault, or want of memory.
+/// isn't there, a call of `files` failed, its first fault, or out of memory.
 pub fn read_source<F: Files>(
     alloc: Global,
     source: &Source<'_>,
@@ -89,6 +90,7 @@ fn read_as<F: Files>(alloc: Global, kind: Kind, files: &mut F) -> Result<Content
         Kind::Timeline => read_film(alloc, files),
         Kind::List(rate) => read_events(alloc, rate, files),
         Kind::Media => read_rows(alloc, files),
+        Kind::Log => read_log_rows(alloc, files),
         Kind::Script => read_edits(alloc, files),
     }
 }
@@ -157,6 +159,19 @@ fn read_rows<F: Files>(alloc: Global, files: &mut F) -> Result<Content, ReadFaul
     ensures cause { Raised result (F.faults files.old) (F.faults files.new) }
 {
     match read_media(alloc, files) {
+        Ok(rows) => Ok(Content::Rows(rows)),
+        Err(fault) => Err(fault),
+    }
+}
+
+// The media list of the log in the file in hand.
+fn read_log_rows<F: Files>(alloc: Global, files: &mut F) -> Result<Content, ReadFault>
+    ensures told { Tells (ReadsHand (Holds Kind.Log) (Refuses Kind.Log) (IsCalm Kind.Log) result)
+        (F.known files.old) (F.known files.new) }
+    ensures suits { IfOk result (Suits Kind.Log) }
+    ensures cause { Raised result (F.faults files.old) (F.faults files.new) }
+{
+    match read_log(alloc, files) {
         Ok(rows) => Ok(Content::Rows(rows)),
         Err(fault) => Err(fault),
     }

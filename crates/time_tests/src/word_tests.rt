@@ -52,7 +52,12 @@ pub(crate) enum Wanted<'a> {
 // Whether a list of a list is asked for, at a rate of this numerator.
 fn is_list(request: &Request<'_>, num: i64, drop_frame: bool, is_wide: bool) -> bool {
     match request.command {
-        Command::ListToList { rate, drop, wide } => {
+        Command::ListToList {
+            rate,
+            drop,
+            wide,
+            ..
+        } => {
             rate.num == num
                 && drop == drop_frame
                 && wide == is_wide
@@ -65,7 +70,7 @@ fn is_list(request: &Request<'_>, num: i64, drop_frame: bool, is_wide: bool) -> 
 // Whether a list of a timeline is asked for.
 fn is_timeline_as_list(command: &Command, drop_frame: bool, is_wide: bool) -> bool {
     match *command {
-        Command::TimelineToList { drop, wide } => drop == drop_frame && wide == is_wide,
+        Command::TimelineToList { drop, wide, .. } => drop == drop_frame && wide == is_wide,
         _ => false,
     }
 }
@@ -96,7 +101,7 @@ fn is_edit(command: &Command, num: Option<i64>) -> bool {
 // Whether a list is conformed, at a rate of this numerator, and frames are listed or not.
 fn is_conformed(command: &Command, num: i64, listed: bool) -> bool {
     match *command {
-        Command::ListToObjects { rate } => rate.num == num && !listed,
+        Command::ListToObjects { rate, .. } => rate.num == num && !listed,
         Command::ListFrames { rate, .. } => rate.num == num && listed,
         _ => false,
     }
@@ -343,7 +348,7 @@ fn lines_ask_for_json(rt: HostRuntime) {
 }
 
 /// Lines that ask for no conversion.
-const NO_CONVERSIONS: [&str; 26] = [
+const NO_CONVERSIONS: [&str; 29] = [
     "",
     "convert",
     "Convert --to edl a.edl",
@@ -370,6 +375,9 @@ const NO_CONVERSIONS: [&str; 26] = [
     "convert --to json --drop --drop x",
     "convert --to json x --rate",
     "convert -o -x y",
+    "convert --family 3 x",
+    "convert --family 01 x",
+    "convert --family 1 --family 1 x",
 ];
 
 #[test]
@@ -381,7 +389,12 @@ fn other_lines_ask_for_nothing(rt: HostRuntime) {
 
 // That a line asks for objects, into this output.
 fn asks_for_objects(rt: &impl Abort, alloc: Global, line: &str, target: Option<&str>) {
-    asks(rt, alloc, line, &Wanted::Into(Command::ToObjects, target));
+    asks(
+        rt,
+        alloc,
+        line,
+        &Wanted::Into(Command::ToObjects { older: false }, target),
+    );
 }
 
 // That a line asks for a JSON text, into this output.
@@ -399,6 +412,9 @@ fn lines_ask_for_objects_and_outputs(rt: HostRuntime) {
     asks_for_objects(&rt, alloc, "convert --output - x", Some("-"));
     asks_for_objects(&rt, alloc, "convert --to otio -o l.edl x", Some("l.edl"));
     asks_for_objects(&rt, alloc, "convert --media m x", None);
+    asks_for_objects(&rt, alloc, "convert --family 2 x", None);
+    let older = Wanted::This(Command::ToObjects { older: true });
+    asks(&rt, alloc, "convert --family 1 x", &older);
     asks_for_json(&rt, alloc, "convert --to json -o y x", Some("y"));
     asks_for_json(&rt, alloc, "convert --from otio --to json a.edl", None);
     asks_for_json(&rt, alloc, "convert --media - --to json -", None);
@@ -626,7 +642,7 @@ fn asks_for_objects_of(
         rt,
         alloc,
         line,
-        &Wanted::File(Command::ToObjects, name, target),
+        &Wanted::File(Command::ToObjects { older: false }, name, target),
     );
 }
 

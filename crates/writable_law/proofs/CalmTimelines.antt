@@ -18,11 +18,14 @@ use Rattle.otio_model.specs.Misplaced.{has_misplaced, side_by_side}
 use Rattle.coord.specs.Soundness.{IsCalm}
 use Rattle.json_value.specs.declared.Json.{Json}
 use Rattle.schema_rows.specs.Stands.{Stands}
-use Rattle.schema_write.specs.Objects.{json_of}
+use Rattle.schema_write.specs.Objects.{json_of, old_json_of}
 use Rattle.object_law.specs.Writable as W
 use Rattle.object_law.proofs.Contents.{read_is_writable}
 use Rattle.object_law.proofs.PatchedTimelines.{item_in}
 use Rattle.object_law.proofs.Writables.{object_given}
+use Rattle.object_law.proofs.OldWritten.{object_old}
+use Rattle.schema_rows.specs.Upgrades.{upgraded}
+use Rattle.schema_write.specs.OldForms.{HasOldForm}
 
 pub none_of : (a b : Bool) → a ≡ false → b ≡ false → (a || b) ≡ false
 none_of true b p q = p
@@ -116,19 +119,26 @@ root_writable t object e (W.collection _ c f others all) =
 root_writable t object e (W.item _ i f h) =
     absurd (let both : Object-F.Item i ≡ Object-F.Timeline t = sym f ∙ e in cc)
 
-pub stands_writable : (t : Timeline) (value : Json) (object : Object) → Stands value object
-    → out-Object object ≡ Object-F.Timeline t → W.IsTimeline t
-stands_writable t value object s e = root_writable t object e (read_is_writable value object s)
+pub stands_writable : (t : Timeline) (value : Json) (object : Object) → W.IsUpgraded value
+    → Stands value object → out-Object object ≡ Object-F.Timeline t → W.IsTimeline t
+stands_writable t value object u s e = root_writable t object e (read_is_writable value object u s)
 
-pub stands_calm : (t : Timeline) (value : Json) (object : Object) → Stands value object
-    → out-Object object ≡ Object-F.Timeline t → IsCalm t
-stands_calm t value object s e = timeline_calm t (stands_writable t value object s e)
+pub stands_calm : (t : Timeline) (value : Json) (object : Object) → W.IsUpgraded value
+    → Stands value object → out-Object object ≡ Object-F.Timeline t → IsCalm t
+stands_calm t value object u s e = timeline_calm t (stands_writable t value object u s e)
 
 -- ---- what is written
 
 pub timeline_out : (t : Timeline) → out-Object (ObjectOfTimeline t) ≡ Object-F.Timeline t
 unfolding roll-Object denote.Hole.Carrier.roll out-Object denote.Hole.Carrier.out
 timeline_out t = refl
+
+-- what is written of a writable timeline in the older family, where it has a form there, and then
+-- upgraded stands for it
+pub stands_old : (t : Timeline) → W.IsTimeline t → HasOldForm (ObjectOfTimeline t)
+    → Stands (upgraded (old_json_of (ObjectOfTimeline t))) (ObjectOfTimeline t)
+stands_old t h free = object_old (ObjectOfTimeline t)
+    (W.timeline (ObjectOfTimeline t) t (timeline_out t) h) free
 
 -- what is written of a writable timeline stands for it
 pub stands_again : (t : Timeline) → W.IsTimeline t

@@ -15,28 +15,33 @@ ghost use Rattle.edits.specs.Cuts.{back};
 ghost use Rattle.edits.specs.Edits.{fitted};
 ghost use Rattle.edits.specs.Refusals.{is_wrong_fit};
 ghost use Rattle.schema_rows.specs.Stands.{Stands};
-ghost use Rattle.schema_write.specs.Objects.{json_of};
-ghost use Rattle.object_law.specs.Writable.{AreItems, IsItem, IsTimeline};
+ghost use Rattle.schema_rows.specs.Upgrades.{upgraded};
+ghost use Rattle.schema_write.specs.Objects.{json_of, old_json_of};
+ghost use Rattle.schema_write.specs.OldForms.{HasOldForm};
+ghost use Rattle.object_law.specs.Writable.{IsUpgraded, AreItems, IsItem, IsTimeline};
 
-/// Law: a timeline that some JSON value stands for is writable, and its transitions stand where
-/// they may.
+/// Law: a timeline that was read from an upgraded JSON value is writable, and its transitions stand
+/// where they may. It does nothing.
 pub fn read_timelines_are_writable()
-    ensures writable { (t : Timeline) (value : Json) (object : Object) → Stands value object →
-        out-Object object ≡ Object-F.Timeline t → IsTimeline t }
-    ensures calm { (t : Timeline) (value : Json) (object : Object) → Stands value object →
-        out-Object object ≡ Object-F.Timeline t → IsCalm t }
+    ensures writable { (t : Timeline) (value : Json) (object : Object) → IsUpgraded value →
+        Stands value object → out-Object object ≡ Object-F.Timeline t → IsTimeline t }
+    ensures calm { (t : Timeline) (value : Json) (object : Object) → IsUpgraded value →
+        Stands value object → out-Object object ≡ Object-F.Timeline t → IsCalm t }
 {}
 
 /// Law: the transitions of a writable timeline stand where they may, and what is written of it
-/// stands for it.
+/// reads back as that timeline, also in the older family (`Clip.1`, `Marker.1`), where it has a
+/// form there, once that is upgraded. It does nothing.
 pub fn writable_timelines_stand()
     ensures calm { (t : Timeline) → IsTimeline t → IsCalm t }
     ensures again { (t : Timeline) → IsTimeline t →
         Stands (json_of (ObjectOfTimeline t)) (ObjectOfTimeline t) }
+    ensures older { (t : Timeline) → IsTimeline t → HasOldForm (ObjectOfTimeline t) →
+        Stands (upgraded (old_json_of (ObjectOfTimeline t))) (ObjectOfTimeline t) }
 {}
 
 /// Law: a writable item is writable with another range, also where its speed fits it to a length;
-/// and so is what stands behind a cut.
+/// and so is what comes after a cut. It does nothing.
 pub fn made_items_are_writable()
     ensures ranged { (r : Rate) (x y : ItemOf Listed) (s n : ℤ) → IsItem x →
         made r (Ranged x s n) ≡ Some y → IsItem y }

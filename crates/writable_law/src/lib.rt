@@ -1,4 +1,4 @@
-//! What is read is writable, what is written of it stands for it, and what cuts make of writable
+//! What is read is writable, what is written of it reads back as it, and what cuts make of writable
 //! items is writable: laws, whose functions do nothing.
 #![tactic(auto)]
 

@@ -16,6 +16,8 @@ returns-in-Some-command_in c = record {
   writes = c.in-Some-output_of.ensures;
   rate = c.in-Some-rate_asked.rate;
   is_rate = c.in-Some-rate_asked.ensures;
+  older = c.in-Some-older_asked.older;
+  family = c.in-Some-older_asked.ensures;
   means = c.in-Some-command_in.ensures;
 }
 
@@ -23,5 +25,6 @@ pub returns-in-None : goal.returns-in-None
 returns-in-None c = λ command name asked.
     c.in-None.ensures command
     (asked_with command name c.in-Some.name.now c.in-Some-input_of.input
-    c.in-Some-output_of.output c.in-Some-rate_asked.rate _ (ap (option_map now) c.in-Some.is)
-    c.in-Some-input_of.ensures c.in-Some-output_of.ensures c.in-Some-rate_asked.ensures asked).0
+    c.in-Some-output_of.output c.in-Some-rate_asked.rate c.in-Some-older_asked.older _
+    (ap (option_map now) c.in-Some.is) c.in-Some-input_of.ensures c.in-Some-output_of.ensures
+    c.in-Some-rate_asked.ensures c.in-Some-older_asked.ensures asked).0

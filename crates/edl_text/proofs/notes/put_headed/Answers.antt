@@ -5,6 +5,6 @@ use Rattle.edl_text.proofs.notes.put_headed.Goals as goal
 
 pub returns-then-not-is_empty : goal.returns-then-not-is_empty
 returns-then-not-is_empty g c =
-    let some : 0 < length c.trim-text.result.now = grind arith in
+    let some : 0 < length c.trim_written-text.result.now = grind arith in
     let all = puts_then c.put.ensures (puts_then c.put_written.ensures c.put-then-not-is_empty.ensures) in
-    puts_as _ all (headed_parts c.args.head.now c.trim-text.result.now c.args.text.now some c.trim-text.ensures)
+    puts_as _ all (headed_parts c.args.head.now c.trim_written-text.result.now c.args.text.now some c.trim_written-text.ensures)

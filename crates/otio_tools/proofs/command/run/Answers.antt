@@ -5,6 +5,7 @@ use Rattle.otio_tools.proofs.OneAnswer.{completes}
 use Rattle.otio_tools.proofs.Keeping.{keeps}
 use Rattle.otio_tools.proofs.Sending.{stays_same}
 use Rattle.otio_tools.proofs.SeveralWords.{joining}
+use Rattle.otio_tools.proofs.PullWords.{few_handles}
 use Rattle.otio_tools.proofs.Working.{leaves_usage, no_edit, scripted}
 use Rattle.otio_tools.specs.Run.{streams}
 use Rattle.otio_tools.specs.declared.Status.TheVariants.{Usage}
@@ -71,6 +72,11 @@ serve-requires-clause-scripted g c =
 pub serve-requires-clause-joining : goal.serve-requires-clause-joining
 serve-requires-clause-joining g c =
     joining _ _ _ _ _ (task_is _ _ _ c.in-Ok-OnFiles.field-0-is
+    (rw c.as_slice.ensures.value at c.in-Ok-OnFiles.ensures))
+
+pub serve-requires-clause-handles : goal.serve-requires-clause-handles
+serve-requires-clause-handles g c =
+    few_handles _ _ _ _ _ (task_is _ _ _ c.in-Ok-OnFiles.field-0-is
     (rw c.as_slice.ensures.value at c.in-Ok-OnFiles.ensures))
 
 pub returns-in-Ok-OnFiles-clause-ends : goal.returns-in-Ok-OnFiles-clause-ends
@@ -182,7 +188,7 @@ returns-in-Ok-Drill-clause-drilled g c =
     drill_alone words _ _ _ _ c.serve_drill.result _ (task_is _ _ _ c.in-Ok-Drill.field-0-is
     (rw c.as_slice.ensures.value at c.in-Ok-Drill.ensures)) c.serve_drill.ensures
 
--- ---- want of memory over the words
+-- ---- out of memory over the words
 
 pub returns-in-Err-Memory-clause-drilled : goal.returns-in-Err-Memory-clause-drilled
 returns-in-Err-Memory-clause-drilled g c =

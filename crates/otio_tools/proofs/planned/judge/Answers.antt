@@ -19,14 +19,20 @@ returns-in-ListToList-clause-owed c = λ file more.
 pub returns-in-ToObjects-clause-owed : goal.returns-in-ToObjects-clause-owed
 returns-in-ToObjects-clause-owed c = λ file more.
     held_as c.args.command _ c.args.content (content.Root c.object_in.result)
-    (media_content c.args.media) file more (Ok (planned.Root c.object_in.result))
-    c.in-ToObjects.is c.object_in.ensures (λ target. refl)
+    (media_content c.args.media) file more c.object_to_write.result
+    c.in-ToObjects.is c.object_in.ensures (c.object_to_write.ensures.owed file.name)
 
 pub returns-in-ToJson-clause-owed : goal.returns-in-ToJson-clause-owed
 returns-in-ToJson-clause-owed c = λ file more.
     held_as c.args.command _ c.args.content (content.Value c.value_in.result)
     (media_content c.args.media) file more (Ok (planned.Value c.value_in.result))
     c.in-ToJson.is c.value_in.ensures (λ target. refl)
+
+pub returns-in-LogToMedia-clause-owed : goal.returns-in-LogToMedia-clause-owed
+returns-in-LogToMedia-clause-owed c = λ file more.
+    held_as c.args.command _ c.args.content (content.Rows c.rows_in.result)
+    (media_content c.args.media) file more (Ok (planned.Media c.rows_in.result))
+    c.in-LogToMedia.is c.rows_in.ensures (λ target. refl)
 
 pub returns-in-TimelineToList-clause-owed : goal.returns-in-TimelineToList-clause-owed
 returns-in-TimelineToList-clause-owed c = λ file more.
@@ -67,3 +73,23 @@ returns-in-ListStat-clause-owed c = λ file more.
     (media_content c.args.media) file more c.conformed_counts_to_write.result
     c.in-ListStat.is c.list_in-in-ListStat.ensures
     (rw (media_is c.args.media) (c.conformed_counts_to_write.ensures.owed file.name))
+
+pub pull_to_write-requires-clause-handles : goal.pull_to_write-requires-clause-handles
+pull_to_write-requires-clause-handles c = rw c.in-Pull.is at c.requires.handles
+
+pub conformed_pull_to_write-requires-clause-handles
+    : goal.conformed_pull_to_write-requires-clause-handles
+conformed_pull_to_write-requires-clause-handles c = rw c.in-ListPull.is at c.requires.handles
+
+pub returns-in-Pull-clause-owed : goal.returns-in-Pull-clause-owed
+returns-in-Pull-clause-owed c = λ file more.
+    held_as c.args.command _ c.args.content (content.Film c.timeline_in-in-Pull.result)
+    (media_content c.args.media) file more c.pull_to_write.result
+    c.in-Pull.is c.timeline_in-in-Pull.ensures (c.pull_to_write.ensures.owed file.name)
+
+pub returns-in-ListPull-clause-owed : goal.returns-in-ListPull-clause-owed
+returns-in-ListPull-clause-owed c = λ file more.
+    held_as c.args.command _ c.args.content (content.Events c.list_in-in-ListPull.result)
+    (media_content c.args.media) file more c.conformed_pull_to_write.result
+    c.in-ListPull.is c.list_in-in-ListPull.ensures
+    (rw (media_is c.args.media) (c.conformed_pull_to_write.ensures.owed file.name))

@@ -1,5 +1,3 @@
-use Rattle.std.proofs.Common.{ap, ◌∙◌}
-use Rattle.otio_tools.specs.Several.{names_now}
 use Rattle.otio_tools.proofs.SeveralFiles.{names_next}
 use Rattle.otio_tools.proofs.several.names_of.Goals as goal
 

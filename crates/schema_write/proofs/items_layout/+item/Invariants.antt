@@ -5,7 +5,8 @@ use Rattle.json_text.specs.Levels.{deep}
 use Rattle.json_text.specs.Layout.{item_lines}
 use Rattle.otio_model.specs.Counts.{count, count_of}
 use Rattle.otio_model.specs.Trees.{items_of}
-use Rattle.schema_write.specs.Objects.{item_json, children_json}
+use Rattle.schema_write.specs.Objects.{item_in, children_in}
+use Rattle.schema_write.specs.Styles.{style_of}
 use Rattle.schema_write.proofs.items_layout.+item.Given as goal
 
 -- the next line has this byte before its line feed
@@ -14,8 +15,8 @@ invariant-put_child_lines-items g l =
     let stand = standing g.W.Out.known g.W.Out.faults in
     (head : ℕ) × (l.lead ≡ head ∷ 10 ∷ [])
     × Leaves (stand l.fn.out l.fn.buffer) (stand l.out l.buffer)
-    (item_lines 91 (deep l.level) (children_json l.list))
-    (item_lines head (deep l.level) (map item_json (drop l.index (items_of l.list))))
+    (item_lines 91 (deep l.level) (children_in (style_of l.family) l.list))
+    (item_lines head (deep l.level) (map (item_in (style_of l.family)) (drop l.index (items_of l.list))))
 
 abbrev pub decreases-put_item : goal.decreases-put_item
 decreases-put_item g a = 4 * count_of a.item.now

@@ -3,7 +3,8 @@ use Rattle.dev_io.proofs.BufferLemmas.{puts_none}
 use Rattle.dev_io.proofs.PartLemmas.{drop_past}
 use Rattle.dev_io.proofs.Leaving.{leaves_all, leaves_then}
 use Rattle.json_text.specs.Levels.{deep}
-use Rattle.schema_write.specs.Objects.{marker_json}
+use Rattle.schema_write.specs.Objects.{marker_by}
+use Rattle.schema_write.specs.Styles.{style_of}
 use Rattle.schema_write.proofs.ListLines.{items-next}
 use Rattle.schema_write.proofs.marks_layout.put_marker_lines.Goals as goal
 
@@ -13,7 +14,7 @@ loop-marker-init g c = (91, refl, leaves_all _ _)
 pub loop-marker-preserved : goal.loop-marker-preserved
 loop-marker-preserved g c =
     let kept = c.loop-marker.invariant in
-    let text = items-next marker_json c.loop-marker.lead.now kept.0 (deep c.args.level.now)
+    let text = items-next (marker_by (style_of c.args.family).mark) c.loop-marker.lead.now kept.0 (deep c.args.level.now)
     c.args.list.now c.loop-marker.marker-index c.marker-item.result kept.1 (omega arith) in (
       44,
       refl,

@@ -3,7 +3,8 @@ use Rattle.dev_io.specs.Buffer.{standing}
 use Rattle.dev_io.proofs.Leaving.{Leaves}
 use Rattle.json_text.specs.Levels.{deep}
 use Rattle.json_text.specs.Layout.{item_lines}
-use Rattle.schema_write.specs.Objects.{json_of}
+use Rattle.schema_write.specs.Objects.{object_in}
+use Rattle.schema_write.specs.Styles.{style_of}
 use Rattle.schema_write.proofs.objects_layout.+object.Given as goal
 
 -- the next line has this byte before its line feed
@@ -12,5 +13,5 @@ invariant-put_object_lines-loop-object g l =
     let stand = standing g.W.Out.known g.W.Out.faults in
     (head : ℕ) × (l.lead ≡ head ∷ 10 ∷ [])
     × Leaves (stand l.fn.out l.fn.buffer) (stand l.out l.buffer)
-    (item_lines 91 (deep l.level) (map json_of l.list))
-    (item_lines head (deep l.level) (map json_of (drop l.object-index l.list)))
+    (item_lines 91 (deep l.level) (map (object_in (style_of l.family)) l.list))
+    (item_lines head (deep l.level) (map (object_in (style_of l.family)) (drop l.object-index l.list)))

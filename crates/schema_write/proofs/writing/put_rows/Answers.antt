@@ -20,4 +20,4 @@ rows-preserved c =
     }
 
 pub returns : goal.returns
-returns c = rows_added c.args.pairs.now.items c.rows.pairs.items c.args.table.now c.args.values.items c.rows.index c.requires (omega (arith, c.requires, c.len-index-end.ensures)) c.rows.invariant.added
+returns c = rows_added c.args.pairs.now.items c.rows.pairs.items c.args.table.now c.args.values.items c.rows.index (omega (arith, c.len-index-end.ensures)) c.rows.invariant.added

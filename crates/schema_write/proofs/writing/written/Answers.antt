@@ -1,4 +1,4 @@
-use Rattle.std.proofs.Common.{◌∙◌, sym, ap, map, length, ◌∷◌, ◌++◌}
+use Rattle.std.proofs.Common.{arith, ◌∙◌, sym, ap, map, length, ◌∷◌, ◌++◌}
 use Rattle.json_value.specs.declared.Json.{Str, Map}
 use Rattle.schema_rows.specs.Rows.{row_of}
 use Rattle.schema_rows.specs.Schemas.{schema_key, text_of}
@@ -10,8 +10,9 @@ use Rattle.schema_write.proofs.writing.written.Goals as goal
 
 pub put_rows-requires : goal.put_rows-requires
 put_rows-requires c =
-    table-length c.table-table.result.now c.args.values.items
-    (c.requires ∙ sym (ap length c.table-table.ensures))
+    let same = table-length c.table-table.result.now c.args.values.items
+    (c.requires ∙ sym (ap length c.table-table.ensures)) in
+    omega (arith, same)
 
 pub of-requires-3 : goal.of-requires-3
 of-requires-3 c =

@@ -1,5 +1,6 @@
 use Rattle.std.proofs.Common.{inl}
 use Rattle.json_law.proofs.UpgradedNumerals.{upgraded_numerals}
+use Rattle.json_law.proofs.UpgradedTwice.{read_stays}
 use Rattle.otio_model.specs.declared.roots.Object.{Object}
 use Rattle.json_value.specs.declared.Json.{Json}
 use Rattle.source_files.specs.Formats.{IsJson, IsObject, IsCalmJson, RefusesJson, RefusesObject}
@@ -30,4 +31,6 @@ returns-in-Err-clause-told g c =
 
 pub returns-in-Ok-clause-stands : goal.returns-in-Ok-clause-stands
 returns-in-Ok-clause-stands g c =
-    stands_for (upgraded c.in-Ok.value) c.object_in.result c.object_in.ensures.stands
+    stands_for (upgraded c.in-Ok.value) c.object_in.result
+    (read_stays c.in-Ok.ensures.text.0 c.in-Ok.value c.in-Ok.ensures.text.1)
+    c.object_in.ensures.stands

@@ -1,0 +1,6 @@
+use Rattle.dev_io.proofs.BufferLemmas.{flush_told}
+use Rattle.edl_text.proofs.write.write_head.Goals as goal
+
+pub returns-clause-told : goal.returns-clause-told
+returns-clause-told g c =
+    flush_told c.new-buffer.ensures.held c.new-buffer.ensures.failed c.put_head.ensures c.flush.ensures.sent

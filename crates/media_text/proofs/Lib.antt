@@ -1,0 +1,3 @@
+-- Lemmas on the text of a media list.
+pub mod RowParts
+pub mod Rereading

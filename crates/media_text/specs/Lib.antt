@@ -1,0 +1,2 @@
+-- Definitions of the text of a media list.
+pub mod Texts

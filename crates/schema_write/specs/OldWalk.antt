@@ -1,0 +1,68 @@
+-- Words of the walk that looks for the first item without a form in the older family; no public
+-- clause cites them.
+use Rattle.std.specs.Prelude.{◌≡◌, ◌<◌, ℕ, List, [], ◌∷◌, Option, Some, None, slice_get, option_and_then}
+use Rattle.otio_model.specs.declared.compositions.ItemOf.{ItemOf}
+use Rattle.otio_model.specs.declared.compositions.Listed.{Listed}
+use Rattle.otio_model.specs.declared.roots.Object.{Object}
+use Rattle.otio_model.specs.Trees.{below, items_of}
+use Rattle.coord.specs.Soundness.{Precedes}
+use Rattle.schema_write.specs.declared.old_faults.OldFault.{OldFault}
+use Rattle.schema_write.specs.declared.old_forms.Found.{Found}
+use Rattle.schema_write.specs.declared.old_forms.Found.TheVariants.{At, Memory}
+use Rattle.schema_write.specs.OldForms.{old_fault_of, held_at, HasOldForm, IsFirstOld}
+
+-- each item has a form in the older family: `there place` is the item at the place, if there is one
+abbrev pub AreOld : (List ℕ → Option (ItemOf Listed)) → Type 0
+AreOld there = (place : List ℕ) (x : ItemOf Listed) → there place ≡ Some x → old_fault_of x ≡ None
+
+-- the first fault of the items that places lead to
+pub record IsFirstIn (there : List ℕ → Option (ItemOf Listed)) (place : List ℕ)
+    (fault : OldFault) : Type 0 where
+  pub item : ItemOf Listed
+  pub is : there place ≡ Some item
+  pub has : old_fault_of item ≡ Some fault
+  pub first : (before : List ℕ) (x : ItemOf Listed) → Precedes before place
+      → there before ≡ Some x → old_fault_of x ≡ None
+
+-- the first fault of these items was found; where memory ran out, nothing is known of it
+abbrev pub IsFound : (List ℕ → Option (ItemOf Listed)) → Found → Type 0
+IsFound there (At way fault) = IsFirstIn there way.items fault
+IsFound there Memory = Unit {0}
+
+-- a place in some things: the index of one of them, and a place in it
+abbrev pub among : {X : Type 0} → (List ℕ → X → Option (ItemOf Listed)) → List X → List ℕ
+    → Option (ItemOf Listed)
+among into xs [] = None
+among into xs (i ∷ place) = option_and_then (into place) (slice_get xs i)
+
+-- each of the first n of some things has only items with a form in the older family
+abbrev pub AreOldTo : {X : Type 0} → (List ℕ → X → Option (ItemOf Listed)) → ℕ → List X → Type 0
+AreOldTo {X} into n xs = (i : ℕ) (x : X) → i < n → slice_get xs i ≡ Some x
+    → AreOld (λ place. into place x)
+
+abbrev pub HasOldItem : ItemOf Listed → Type 0
+HasOldItem x = AreOld (λ place. below place x)
+
+abbrev pub HasOldItems : Listed → Type 0
+HasOldItems l = AreOld (among below (items_of l))
+
+abbrev pub HasOldObjects : List Object → Type 0
+HasOldObjects objects = AreOld (among held_at objects)
+
+abbrev pub IsFoundAt : ItemOf Listed → Found → Type 0
+IsFoundAt x found = IsFound (λ place. below place x) found
+
+abbrev pub IsFoundIn : Listed → Found → Type 0
+IsFoundIn l found = IsFound (among below (items_of l)) found
+
+abbrev pub IsFoundAmong : List Object → Found → Type 0
+IsFoundAmong objects found = IsFound (among held_at objects) found
+
+abbrev pub IsFoundObject : Object → Found → Type 0
+IsFoundObject object found = IsFound (λ place. held_at place object) found
+
+-- what was found in the thing i, seen from one level up; where memory ran out, nothing is known
+abbrev pub IsUnder : ℕ → Found → Found → Type 0
+IsUnder i found Memory = Unit {0}
+IsUnder i Memory (At way fault) = ⊥
+IsUnder i (At rest cause) (At way fault) = (cause ≡ fault) × (way.items ≡ i ∷ rest.items)

@@ -1,0 +1,64 @@
+use Rattle.std.proofs.Common.{◌≤◌, Ok, refl, length, arith}
+use Rattle.limits.specs.Limits.{most_bytes}
+use Rattle.ale_text.specs.Logs.{IsLog}
+use Rattle.media_list.specs.declared.list.MediaList.{MediaList}
+use Rattle.dev_io.specs.declared.files.Failed.{Failed as FailedCall}
+use Rattle.source_files.specs.Formats.{RefusesLog, IsCalmLog}
+use Rattle.source_files.specs.declared.file_faults.Refusal.TheVariants.{Memory}
+use Rattle.source_files.proofs.Taking.{same_at_first, taken_more, takes_all, same_more}
+use Rattle.source_files.proofs.Handing.{judged, refused, failed}
+use Rattle.source_files.proofs.ScriptLemmas.{gathered_none, gathered_more}
+use Rattle.source_files.proofs.LogLemmas.{long_refused}
+use Rattle.source_files.proofs.logs.read_log.Goals as goal
+
+pub pieces-init : goal.pieces-init
+pieces-init g c = record {
+  fed = gathered_none _ _ c.new-bytes.ensures.items;
+  same = same_at_first _;
+  calm = refl;
+}
+
+pub pieces-preserved : goal.pieces-preserved
+pieces-preserved g c =
+    let i = c.pieces.invariant in
+    let more = gathered_more FailedCall c.pieces.bytes.items c.put_last.new.bytes.items _ _ _
+    c.in-Ok.count c.read.new.buf c.in-Ok-put_last.ensures i.fed i.same c.in-Ok.ensures.told in
+    record {
+      fed = more.0;
+      same = more.1;
+      calm = omega (arith, c.in-Ok.ensures.cause.failed, i.calm);
+    }
+
+pub returns-in-Ok-eq0-clause-told : goal.returns-in-Ok-eq0-clause-told
+returns-in-Ok-eq0-clause-told g c =
+    let i = c.pieces.invariant in
+    let told = rw c.in-Ok-eq0.field-0-test at c.in-Ok-eq0.ensures.told in
+    judged IsLog RefusesLog IsCalmLog c.pieces.bytes.items _ _ c.rows_of.result
+    (same_more FailedCall _ _ _ (Ok c.in-Ok-eq0.field-0) c.read.new.buf i.same
+    c.in-Ok-eq0.ensures.told)
+    (takes_all FailedCall c.pieces.bytes.items _ _ _ c.read.new.buf i.fed told)
+    (rw c.as_slice.ensures.value at c.rows_of.ensures.read)
+
+pub returns-in-Err-clause-told : goal.returns-in-Err-clause-told
+returns-in-Err-clause-told g c =
+    let i = c.pieces.invariant in
+    let few : length c.pieces.bytes.items ≤ most_bytes = omega arith in
+    failed MediaList IsLog RefusesLog IsCalmLog c.pieces.bytes.items _ _ _ few
+    i.same i.fed c.in-Err.ensures.told
+
+pub returns-in-Err-put_last-clause-told : goal.returns-in-Err-put_last-clause-told
+returns-in-Err-put_last-clause-told g c =
+    let i = c.pieces.invariant in
+    let more = taken_more FailedCall c.pieces.bytes.items _ _ _ c.in-Ok.count c.read.new.buf i.fed
+    i.same c.in-Ok.ensures.told in
+    refused MediaList IsLog RefusesLog IsCalmLog _ _ _ Memory more.1 more.0
+    (λ rest. tt)
+
+pub returns-clause-told : goal.returns-clause-told
+returns-clause-told g c =
+    let i = c.pieces.invariant in
+    let bytes = c.pieces.bytes.items in
+    refused MediaList IsLog RefusesLog IsCalmLog bytes _ _ c.log_refusal.result
+    i.same i.fed
+    (λ rest. long_refused bytes rest c.log_refusal.result (omega arith)
+    c.log_refusal.ensures)
