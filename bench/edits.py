@@ -8,7 +8,7 @@ fourth cut; those that keep the number of items on a track of 99 990; then how t
 Beside each stands a script of one command: the reading, judging and writing alone.
 
 Output goes to /dev/null. Times are processor times (user and system), the least of R runs (3), the two scripts in turn. The program is OTIO of
-the environment, or the one that `./otio` builds.
+the environment, or the one that `./otio --prove` builds.
 """
 import argparse
 import os

@@ -6,7 +6,7 @@
 Four timelines: 999 clips of a second; 99 999 clips of one frame, written with `--wide`; the same with the media of a media list; and 30 000
 clips with a dissolve at each cut, written with `--wide`. Beside each stands `otio frames --child 9`, which reads the timeline and judges
 whether it is sound, and lists nothing, since there is no child 9. Times are processor times (user and system), the least of R runs (5), the
-two programs in turn, output to /dev/null. The program is OTIO of the environment, or the one that `./otio` builds.
+two programs in turn, output to /dev/null. The program is OTIO of the environment, or the one that `./otio --prove` builds.
 """
 import argparse
 import os

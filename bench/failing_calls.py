@@ -14,7 +14,7 @@ The calls are open, read, write and close, counted together by `failing_calls.c`
 
 A run has to give the whole answer; or status 3 with `otio: NAME: read failed` of a file of the line, and nothing sent; or status 4 with
 `otio: output failed` and a prefix of the output; where messages fail, a prefix of the message. After one signal and in single bytes it has to give the
-whole answer. No file that is read may change. The status is 1 where a run ended otherwise. The program is OTIO of the environment, or the one that `./otio` builds.
+whole answer. No file that is read may change. The status is 1 where a run ended otherwise. The program is OTIO of the environment, or the one that `./otio --prove` builds.
 """
 import argparse
 import errno

@@ -9,7 +9,7 @@ frames of these tracks and of a timeline of two tracks with a dissolve at each c
 and all frames of tracks of 10 000, 30 000 and 99 000 clips of one frame, and of tracks with a dissolve at each cut (--short: this one alone).
 
 Output goes to /dev/null. Times are wall times, medians of R runs (3). The time of a frame is what more frames take over a single one, so reading
-the file and judging the timeline aren't in it. The program is OTIO of the environment, or the one that `./otio` builds.
+the file and judging the timeline aren't in it. The program is OTIO of the environment, or the one that `./otio --prove` builds.
 """
 import argparse
 import os

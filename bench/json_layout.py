@@ -6,7 +6,7 @@
 
 Output goes to /dev/null. Times are wall times; the peak memory is that of one more run under /usr/bin/time, since a child that
 this script starts itself would be charged with the memory of Python. One further run compares the bytes with those of otio.
-The program is OTIO of the environment, or the one that `./otio` builds.
+The program is OTIO of the environment, or the one that `./otio --prove` builds.
 """
 import argparse
 import hashlib

@@ -4,7 +4,7 @@
     bench/limits.py
 
 Each row has a command line over files that are made for it, and the status and message that it has to have. At a limit the line is done, or refused
-for another reason, which is tried later. The status is 1 where a row ended otherwise. The program is OTIO of the environment, or the one that `./otio` builds.
+for another reason, which is tried later. The status is 1 where a row ended otherwise. The program is OTIO of the environment, or the one that `./otio --prove` builds.
 """
 import os
 import subprocess

@@ -9,7 +9,7 @@ has to be done and tell nothing, or be refused (status 1) with no output and one
 status, no crash, and no run above ten seconds. What `convert` and `edit` write as timeline or JSON has to be written the same when it is read again.
 
 The table has how many runs were done and how many refused, and then how often each code came. The status is 1 where a run ended otherwise; the file of
-such a run is kept in /tmp. The same seed (1) makes the same changes. The program is OTIO of the environment, or the one that `./otio` builds.
+such a run is kept in /tmp. The same seed (1) makes the same changes. The program is OTIO of the environment, or the one that `./otio --prove` builds.
 """
 import argparse
 import collections

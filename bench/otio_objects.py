@@ -1,5 +1,5 @@
 #!/usr/bin/env python3
-"""Measures `otio convert` of OpenTimelineIO documents beside `otio convert --to json` of the same file and the best peer of json.sh.
+"""Measures `otio convert` of OpenTimelineIO documents, in both families of schemas, next to `otio convert --to json` of the same file and the best peer of json.sh.
 
     bench/otio.sh [--mega N] [--runs R]     a timeline of N MB (27), medians of R runs (3)
     bench/otio.sh --worst [--runs R]        the largest legal documents, and many members, media, markers, children: each at half and at its whole size
@@ -67,17 +67,20 @@ def compare(folder, otio, mega, runs):
     print(f'{clips} clips, {os.path.getsize(path) / 1e6:.1f} MB; medians of {runs} runs\n')
     print('| Program | ms | peak MB | ms to `--to json` | MB to `--to json` | output MB |\n|---|---|---|---|---|---|')
     peer, missing = rapidjson(folder)
-    rows = [('otio convert --to json', [otio, 'convert', '--to', 'json']), ('otio convert', [otio, 'convert'])]
+    rows = [('otio convert --to json', [otio, 'convert', '--to', 'json'])]
+    rows += [(f'otio convert --family {family}', [otio, 'convert', '--family', family]) for family in '21']
     rows += [] if missing else [('C++, rapidjson', [peer])]
-    base = (None, None)
+    base, walls = (None, None), {}
     for name, words in rows:
         words = words + ['timeline.otio']
         text = output_of(words, folder)
         if text is None:
             sys.exit(f'otio_objects.py: {name} failed')
         wall, peak = milliseconds(words, folder, runs), megabytes(words, folder)
-        base = base if base[0] else (wall, peak)
+        base, walls[name] = base if base[0] else (wall, peak), wall
         print(f'| {name} | {wall:.1f} | {shown(peak)} | {ratio(wall, base[0])} | {ratio(peak, base[1])} | {text[0] / 1e6:.1f} |', flush=True)
+    families = [walls[f'otio convert --family {family}'] for family in '12']
+    print(f'\n`--family 1` takes {ratio(*families)} of the time of `--family 2`')
 
 
 def worst(folder, otio, runs):

@@ -6,7 +6,7 @@
 Each row is a line of the shell with the program's name in $OTIO: streams that are closed, full or broken off, folders and missing files in place of files,
 files without an end, names that are too long or no text. Beside it stand the status and the message that it has to have. What the program can't
 tell where the message has nowhere to go is left out. The status is 1 where a row ended otherwise. The program is OTIO of the environment,
-or the one that `./otio` builds.
+or the one that `./otio --prove` builds.
 """
 import os
 import subprocess

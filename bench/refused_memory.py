@@ -16,7 +16,7 @@ A second table is of command lines on 4000 clips with a bounded address space, f
 same rule: there the system refuses.
 
 Allocations are malloc, calloc and realloc, counted together by `refused_memory.c`, which gcc compiles for the run. The program is OTIO of the
-environment, or the one that `./otio` builds.
+environment, or the one that `./otio --prove` builds.
 """
 import argparse
 import os

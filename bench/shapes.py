@@ -8,7 +8,7 @@ Tables: JSON of each shape beside rapidjson (C++) and serde_json (Rust); objects
 With --growth: three sizes of each, a decade apart, and the exponent of growth from each size to the next (1 is linear).
 
 Output goes to /dev/null. Times are processor time (user and system), the least of R runs (5), the programs of a row in turn, so that other work
-on the machine falls on all of them alike. The program is OTIO of the environment, or the one that `./otio` builds. --only measures the rows whose
+on the machine falls on all of them alike. The program is OTIO of the environment, or the one that `./otio --prove` builds. --only measures the rows whose
 name holds WORD.
 """
 import argparse

@@ -8,7 +8,7 @@ listed, counted; beside reading and judging it alone (`stat`) and reading and wr
 clips (100) one after another, beside `cat` of their bytes and `convert` of one file with as many clips.
 
 Output goes to /dev/null. Times are processor times (user and system), the least of R runs (3). The program is OTIO of the environment, or
-the one that `./otio` builds.
+the one that `./otio --prove` builds.
 """
 import argparse
 import os
