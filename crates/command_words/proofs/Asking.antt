@@ -142,33 +142,33 @@ same_given verb other behind rest given found same g h =
 
 -- the command for what is read and what is written
 abbrev asked_for : Form → Form → Rate → Ways → Option Command
-asked_for form.List form.List rate ways = Some (ListToList rate ways.drop ways.wide)
-asked_for form.List form.Objects rate ways = Some (ListToObjects rate ways.older)
-asked_for form.Objects form.List rate ways = Some (TimelineToList ways.drop ways.wide)
+asked_for form.List form.List rate ways = Some (ListToList rate ways.drop ways.wide ways.notes)
+asked_for form.List form.Objects rate ways = Some (ListToObjects rate ways.older ways.notes)
+asked_for form.Objects form.List rate ways = Some (TimelineToList ways.drop ways.wide ways.notes)
 asked_for form.Objects form.Objects rate ways = Some (ToObjects ways.older)
 asked_for form.Objects form.Json rate ways = Some ToJson
 asked_for input output rate ways = None
 
 asked_is : (command : Command) (input output : Form) (rate : Rate) (ways : Ways)
     → IsAskedOf command input output rate ways → asked_for input output rate ways ≡ Some command
-asked_is (ListToList r f w) form.Objects output rate ways p = absurd p
-asked_is (ListToList r f w) form.List form.Objects rate ways p = absurd p
-asked_is (ListToList r f w) form.List form.List rate ways p =
+asked_is (ListToList r f w t) form.Objects output rate ways p = absurd p
+asked_is (ListToList r f w t) form.List form.Objects rate ways p = absurd p
+asked_is (ListToList r f w t) form.List form.List rate ways p =
+    let e = p.0 in let h = p.1 in let k = p.2 in let m = p.3 in cc
+asked_is (ListToList r f w t) form.List form.Json rate ways p = absurd p
+asked_is (ListToList r f w t) form.Json output rate ways p = absurd p
+asked_is (ListToObjects r o t) form.Objects output rate ways p = absurd p
+asked_is (ListToObjects r o t) form.List form.Objects rate ways p =
     let e = p.0 in let h = p.1 in let k = p.2 in cc
-asked_is (ListToList r f w) form.List form.Json rate ways p = absurd p
-asked_is (ListToList r f w) form.Json output rate ways p = absurd p
-asked_is (ListToObjects r o) form.Objects output rate ways p = absurd p
-asked_is (ListToObjects r o) form.List form.Objects rate ways p =
-    let e = p.0 in let h = p.1 in cc
-asked_is (ListToObjects r o) form.List form.List rate ways p = absurd p
-asked_is (ListToObjects r o) form.List form.Json rate ways p = absurd p
-asked_is (ListToObjects r o) form.Json output rate ways p = absurd p
-asked_is (TimelineToList f w) form.Objects form.Objects rate ways p = absurd p
-asked_is (TimelineToList f w) form.Objects form.List rate ways p =
-    let e = p.0 in let h = p.1 in cc
-asked_is (TimelineToList f w) form.Objects form.Json rate ways p = absurd p
-asked_is (TimelineToList f w) form.List output rate ways p = absurd p
-asked_is (TimelineToList f w) form.Json output rate ways p = absurd p
+asked_is (ListToObjects r o t) form.List form.List rate ways p = absurd p
+asked_is (ListToObjects r o t) form.List form.Json rate ways p = absurd p
+asked_is (ListToObjects r o t) form.Json output rate ways p = absurd p
+asked_is (TimelineToList f w t) form.Objects form.Objects rate ways p = absurd p
+asked_is (TimelineToList f w t) form.Objects form.List rate ways p =
+    let e = p.0 in let h = p.1 in let k = p.2 in cc
+asked_is (TimelineToList f w t) form.Objects form.Json rate ways p = absurd p
+asked_is (TimelineToList f w t) form.List output rate ways p = absurd p
+asked_is (TimelineToList f w t) form.Json output rate ways p = absurd p
 asked_is (ToObjects o) form.Objects form.Objects rate ways p = ap (λ x. Some (ToObjects x)) (sym p)
 asked_is (ToObjects o) form.Objects form.List rate ways p = absurd p
 asked_is (ToObjects o) form.Objects form.Json rate ways p = absurd p
@@ -236,14 +236,14 @@ one_listing (Frames x) (ListFrames r y) name rate frames p q = absurd (p.0 q.0)
 one_listing (ListFrames r x) (Frames y) name rate frames p q = absurd (q.0 p.0)
 one_listing (ListFrames r x) (ListFrames s y) name rate frames p q =
     ap (λ z. ListFrames z x) (p.1 ∙ sym q.1) ∙ ap (ListFrames s) (p.2 ∙ sym q.2)
-one_listing (Frames x) (ListToList r f w) name rate frames p q = absurd q
-one_listing (Frames x) (ListToObjects r o) name rate frames p q = absurd q
-one_listing (Frames x) (TimelineToList f w) name rate frames p q = absurd q
+one_listing (Frames x) (ListToList r f w t) name rate frames p q = absurd q
+one_listing (Frames x) (ListToObjects r o t) name rate frames p q = absurd q
+one_listing (Frames x) (TimelineToList f w t) name rate frames p q = absurd q
 one_listing (Frames x) (ToObjects o) name rate frames p q = absurd q
 one_listing (Frames x) ToJson name rate frames p q = absurd q
-one_listing (ListFrames r x) (ListToList s f w) name rate frames p q = absurd q
-one_listing (ListFrames r x) (ListToObjects s o) name rate frames p q = absurd q
-one_listing (ListFrames r x) (TimelineToList f w) name rate frames p q = absurd q
+one_listing (ListFrames r x) (ListToList s f w t) name rate frames p q = absurd q
+one_listing (ListFrames r x) (ListToObjects s o t) name rate frames p q = absurd q
+one_listing (ListFrames r x) (TimelineToList f w t) name rate frames p q = absurd q
 one_listing (ListFrames r x) (ToObjects o) name rate frames p q = absurd q
 one_listing (ListFrames r x) ToJson name rate frames p q = absurd q
 one_listing (Frames x) Edit name rate frames p q = absurd q
@@ -276,9 +276,9 @@ one_listing (ListStat r) d name rate frames p q = absurd p
 one_listing (ListPull r k) d name rate frames p q = absurd p
 one_listing (Tool t) d name rate frames p q = absurd p
 one_listing (ListTool r t) d name rate frames p q = absurd p
-one_listing (ListToList r f w) d name rate frames p q = absurd p
-one_listing (ListToObjects r o) d name rate frames p q = absurd p
-one_listing (TimelineToList f w) d name rate frames p q = absurd p
+one_listing (ListToList r f w t) d name rate frames p q = absurd p
+one_listing (ListToObjects r o t) d name rate frames p q = absurd p
+one_listing (TimelineToList f w t) d name rate frames p q = absurd p
 one_listing (ToObjects o) d name rate frames p q = absurd p
 one_listing ToJson d name rate frames p q = absurd p
 one_listing Edit d name rate frames p q = absurd p
@@ -324,9 +324,9 @@ editing_is (ListStat r) name rate p = absurd p
 editing_is (ListPull r k) name rate p = absurd p
 editing_is (Tool t) name rate p = absurd p
 editing_is (ListTool r t) name rate p = absurd p
-editing_is (ListToList r f w) name rate p = absurd p
-editing_is (ListToObjects r o) name rate p = absurd p
-editing_is (TimelineToList f w) name rate p = absurd p
+editing_is (ListToList r f w t) name rate p = absurd p
+editing_is (ListToObjects r o t) name rate p = absurd p
+editing_is (TimelineToList f w t) name rate p = absurd p
 editing_is (ToObjects o) name rate p = absurd p
 editing_is ToJson name rate p = absurd p
 editing_is (Frames x) name rate p = absurd p
@@ -460,9 +460,9 @@ by_once verbs.Media c d a b given p q = log_once c d a b given p q
 -- a command reads at most one media list
 media_once : (c : Command) (named m n : Option (List ℕ)) → IsMedia c named m → IsMedia c named n
     → m ≡ n
-media_once (ListToList r f w) named m n p q = p.1 ∙ sym q.1
-media_once (ListToObjects r o) named m n p q = p ∙ sym q
-media_once (TimelineToList f w) named m n p q = p ∙ sym q
+media_once (ListToList r f w t) named m n p q = p.1 ∙ sym q.1
+media_once (ListToObjects r o t) named m n p q = p ∙ sym q
+media_once (TimelineToList f w t) named m n p q = p ∙ sym q
 media_once (ToObjects o) named m n p q = p ∙ sym q
 media_once ToJson named m n p q = p ∙ sym q
 media_once Cat named m n p q = p ∙ sym q
@@ -482,9 +482,9 @@ media_once LogToMedia named m n p q = p ∙ sym q
 -- a command reads at most one script
 script_once : (c : Command) (named m n : Option (List ℕ)) → IsScript c named m
     → IsScript c named n → m ≡ n
-script_once (ListToList r f w) named m n p q = p ∙ sym q
-script_once (ListToObjects r o) named m n p q = p ∙ sym q
-script_once (TimelineToList f w) named m n p q = p ∙ sym q
+script_once (ListToList r f w t) named m n p q = p ∙ sym q
+script_once (ListToObjects r o t) named m n p q = p ∙ sym q
+script_once (TimelineToList f w t) named m n p q = p ∙ sym q
 script_once (ToObjects o) named m n p q = p ∙ sym q
 script_once ToJson named m n p q = p ∙ sym q
 script_once Cat named m n p q = p ∙ sym q

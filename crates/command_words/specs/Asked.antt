@@ -60,29 +60,36 @@ IsFamily (Some word) true = word ≡ codes "1"
 IsFamily (Some word) false = word ≡ codes "2"
 
 -- how what is written is asked for: lists with drop-frame timecode and in the wide layout, objects
--- in the older family
+-- in the older family, and notes with both
 pub record Ways : Type 0 where
   pub drop : Bool
   pub wide : Bool
   pub older : Bool
+  pub notes : Bool
 
 -- The command: a list is written as a list at this rate, or as the timeline that it conforms to;
--- objects as a list, as objects or as JSON. Lists are written with drop-frame timecode and in the
--- wide layout where the two flags are there, objects in the family that is asked for.
+-- objects as a list, as objects or as JSON. Lists are written with drop-frame timecode, in the wide
+-- layout and with notes where the three flags are there, and notes go to timelines where the last
+-- one is. Objects are written in the family that is asked for.
 abbrev pub IsAskedOf : Command → Form → Form → Rate → Ways → Type 0
-IsAskedOf (ListToList rate drop wide) form.List form.List asked ways =
-    (rate ≡ asked) × (drop ≡ ways.drop) × (wide ≡ ways.wide)
-IsAskedOf (ListToObjects rate older) form.List form.Objects asked ways =
-    (rate ≡ asked) × (older ≡ ways.older)
-IsAskedOf (TimelineToList drop wide) form.Objects form.List asked ways =
-    (drop ≡ ways.drop) × (wide ≡ ways.wide)
+IsAskedOf (ListToList rate drop wide notes) form.List form.List asked ways =
+    (rate ≡ asked) × (drop ≡ ways.drop) × (wide ≡ ways.wide) × (notes ≡ ways.notes)
+IsAskedOf (ListToObjects rate older notes) form.List form.Objects asked ways =
+    (rate ≡ asked) × (older ≡ ways.older) × (notes ≡ ways.notes)
+IsAskedOf (TimelineToList drop wide notes) form.Objects form.List asked ways =
+    (drop ≡ ways.drop) × (wide ≡ ways.wide) × (notes ≡ ways.notes)
 IsAskedOf (ToObjects older) form.Objects form.Objects asked ways = older ≡ ways.older
 IsAskedOf ToJson form.Objects form.Json asked ways = Unit {0}
 IsAskedOf command input output asked ways = ⊥
 
 -- the ways that the options of `convert` ask for, where the family is known
 abbrev pub ways_in : Given → Bool → Ways
-ways_in given older = record { drop = given.drop; wide = given.wide; older = older }
+ways_in given older = record {
+  drop = given.drop;
+  wide = given.wide;
+  older = older;
+  notes = given.notes;
+}
 
 -- What the options and the file of `convert` ask for. Other options have a value that is allowed
 -- even where the command doesn't need it.
@@ -214,9 +221,9 @@ IsAskedBy verbs.Media command name given = IsLogList command name given
 -- edited or written as a list. Elsewhere the name has no effect, but that a list to a list is asked
 -- for without one.
 abbrev pub IsMedia : Command → Option (List ℕ) → Option (List ℕ) → Type 0
-IsMedia (ListToList rate drop wide) named media = (named ≡ None) × (media ≡ None)
-IsMedia (ListToObjects rate older) named media = media ≡ named
-IsMedia (TimelineToList drop wide) named media = media ≡ named
+IsMedia (ListToList rate drop wide notes) named media = (named ≡ None) × (media ≡ None)
+IsMedia (ListToObjects rate older notes) named media = media ≡ named
+IsMedia (TimelineToList drop wide notes) named media = media ≡ named
 IsMedia (ToObjects older) named media = media ≡ None
 IsMedia ToJson named media = media ≡ None
 IsMedia Cat named media = media ≡ None

@@ -40,6 +40,7 @@ pub record Given : Type 0 where
   pub handles : Option (List ℕ)
   pub drop : Bool
   pub wide : Bool
+  pub notes : Bool
   pub tool : ToolGiven
   pub file : Option (List ℕ)
   pub more : List (List ℕ)
@@ -86,6 +87,7 @@ given_in rows = record {
   handles = first_of (codes "handles") rows;
   drop = is_there (first_of (codes "drop") rows);
   wide = is_there (first_of (codes "wide") rows);
+  notes = is_there (first_of (codes "notes") rows);
   tool = tool_in rows;
   file = first_of (codes "file") rows;
   more = names_behind (all_of (codes "file") rows);
@@ -144,6 +146,7 @@ given_by line = record {
   handles = option_map (λ s. s.now) line.handles;
   drop = line.drop;
   wide = line.wide;
+  notes = line.notes;
   tool = tool_by line.tool;
   file = option_map (λ s. s.now) line.file;
   more = map (λ s. s.now) line.more.items;

@@ -50,7 +50,7 @@ tool_flags = flag (codes "list-tracks") ∷ flag (codes "list-clips") ∷ flag (
 abbrev pub own_options : Verb → List Rule
 own_options Convert =
     valued (codes "from") ∷ valued (codes "to") ∷ valued (codes "family")
-    ∷ flag (codes "drop") ∷ flag (codes "wide") ∷ []
+    ∷ flag (codes "drop") ∷ flag (codes "wide") ∷ flag (codes "notes") ∷ []
 own_options Cat = []
 own_options Stat = []
 own_options Tool = valued (codes "trim") ∷ valued (codes "flatten") ∷ tool_flags

@@ -48,6 +48,7 @@ pub fn conversion_of<'a>(line: &Line<'a>) -> Option<(Command, &'a str)>
         drop: line.drop,
         wide: line.wide,
         older,
+        notes: line.notes,
     };
     match command_in(input, output, rate, ways) {
         Some(command) => Some((command, name)),
@@ -173,6 +174,8 @@ struct Ways {
     wide: bool,
     // Whether objects are in the older family.
     older: bool,
+    // Whether lists are written with notes, and timelines given those of their lists.
+    notes: bool,
 }
 
 // The command by what is read and what is written.
@@ -194,10 +197,20 @@ fn list_command(output: Form, rate: Rate, ways: Ways) -> Option<Command>
         ((command : Command) → IsAskedOf command Form.List output rate (ways_of ways) → ⊥)
         (λ command. IsAskedOf command Form.List output rate (ways_of ways)) }
 {
-    let Ways { drop, wide, older } = ways;
+    let Ways {
+        drop,
+        wide,
+        older,
+        notes,
+    } = ways;
     match output {
-        Form::Objects => Some(Command::ListToObjects { rate, older }),
-        Form::List => Some(Command::ListToList { rate, drop, wide }),
+        Form::Objects => Some(Command::ListToObjects { rate, older, notes }),
+        Form::List => Some(Command::ListToList {
+            rate,
+            drop,
+            wide,
+            notes,
+        }),
         Form::Json => None,
     }
 }
@@ -208,10 +221,15 @@ fn object_command(output: Form, ways: Ways) -> Option<Command>
         ((command : Command) → IsAskedOf command Form.Objects output rate (ways_of ways) → ⊥)
         (λ command. IsAskedOf command Form.Objects output rate (ways_of ways)) }
 {
-    let Ways { drop, wide, older } = ways;
+    let Ways {
+        drop,
+        wide,
+        older,
+        notes,
+    } = ways;
     match output {
         Form::Objects => Some(Command::ToObjects { older }),
         Form::Json => Some(Command::ToJson),
-        Form::List => Some(Command::TimelineToList { drop, wide }),
+        Form::List => Some(Command::TimelineToList { drop, wide, notes }),
     }
 }

@@ -48,6 +48,7 @@ fn convert_reader<'a>(alloc: Global) -> Result<Command<'a>, AllocError>
         Taken::Valued("family"),
         Taken::Flag("drop"),
         Taken::Flag("wide"),
+        Taken::Flag("notes"),
     ];
     list_reader(alloc, "convert", own, Taken::File)
 }

@@ -32,6 +32,8 @@ pub enum Command {
         drop: bool,
         /// Whether the list is written in the wide layout.
         wide: bool,
+        /// Whether its notes are written with it.
+        notes: bool,
     },
     /// A list is conformed, and its timeline written in the current schemas and the written order.
     ListToObjects {
@@ -39,6 +41,8 @@ pub enum Command {
         rate: Rate,
         /// Whether the timeline is written in the older family of schemas.
         older: bool,
+        /// Whether its notes are put on the items.
+        notes: bool,
     },
     /// A timeline is written as the list of its events, in its one spelling.
     TimelineToList {
@@ -46,6 +50,8 @@ pub enum Command {
         drop: bool,
         /// Whether the list is written in the wide layout.
         wide: bool,
+        /// Whether the notes of its clips are written with it.
+        notes: bool,
     },
     /// An object is written in the current schemas and the written order.
     ToObjects {

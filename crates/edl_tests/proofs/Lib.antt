@@ -1,1 +1,2 @@
 pub mod FilmFrames
+pub mod NotedLemmas

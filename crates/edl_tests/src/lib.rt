@@ -11,7 +11,13 @@ mod list_tests;
 #[cfg(test)]
 mod media_tests;
 #[cfg(test)]
+mod note_tests;
+#[cfg(test)]
+mod noted_tests;
+#[cfg(test)]
 mod order_tests;
+#[cfg(test)]
+mod owner_tests;
 #[cfg(test)]
 mod reader_tests;
 #[cfg(test)]

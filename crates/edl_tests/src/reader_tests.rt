@@ -9,7 +9,7 @@ use std::process::Abort;
 use tick_time::{Decimal, Rate, is_numeral};
 
 /// The rate of a numeral.
-fn rate_of(rt: &impl Abort, numeral: &str) -> Rate {
+pub fn rate_of(rt: &impl Abort, numeral: &str) -> Rate {
     assert!(rt; is_numeral(numeral.as_bytes()));
     let decimal = Decimal::read(numeral.as_bytes()).expect(rt, "a decimal");
     Rate::of(&decimal).expect(rt, "a rate")

@@ -39,6 +39,7 @@ use Rattle.otio_tools.proofs.Planning.{media_is, media_suits}
 script_suits : (held : Content) → Suits kinds.Script held
     → (commands : Vec script.Command) × (held ≡ content.Commands commands)
 script_suits (content.Commands commands) s = (commands, refl)
+script_suits (content.Noted noted said) s = absurd s
 script_suits (content.Rows rows) s = absurd s
 script_suits (content.Events list) s = absurd s
 script_suits (content.Value value) s = absurd s
@@ -69,6 +70,7 @@ edit_contents command name called (Some list) (held ∷ c ∷ x ∷ y ∷ rest) 
 film_editable : (held : Content) → Suits kinds.Timeline held → IsEditable held
 film_editable (content.Film timeline) s = s
 film_editable (content.Commands commands) s = s
+film_editable (content.Noted noted said) s = s
 film_editable (content.Rows rows) s = s
 film_editable (content.Events list) s = absurd s
 film_editable (content.Value value) s = s
@@ -77,6 +79,7 @@ film_editable (content.Root object) s = s
 list_editable : (rate : Rate) (held : Content) → Suits (kinds.List rate) held → IsEditable held
 list_editable rate (content.Events list) s = s
 list_editable rate (content.Commands commands) s = s
+list_editable rate (content.Noted noted said) s = s
 list_editable rate (content.Rows rows) s = s
 list_editable rate (content.Film timeline) s = absurd s
 list_editable rate (content.Value value) s = s
@@ -87,9 +90,9 @@ pub editable : (command : Command) (held : Content) → EditsTimeline command
     → Suits (kind_of command) held → IsEditable held
 editable Edit held e s = film_editable held s
 editable (ListEdit rate) held e s = list_editable rate held s
-editable (ListToList rate drop wide) held e s = absurd e
-editable (ListToObjects rate older) held e s = absurd e
-editable (TimelineToList drop wide) held e s = absurd e
+editable (ListToList rate drop wide notes) held e s = absurd e
+editable (ListToObjects rate older notes) held e s = absurd e
+editable (TimelineToList drop wide notes) held e s = absurd e
 editable (ToObjects older) held e s = absurd e
 editable ToJson held e s = absurd e
 editable LogToMedia held e s = absurd e
@@ -162,6 +165,8 @@ done_with Edit file called files (content.Commands cs) commands more t desk targ
     absurd s
 done_with Edit file called files (content.Rows rows) commands more t desk target e s o f w =
     absurd s
+done_with Edit file called files (content.Noted noted said) commands more t desk target e s o f w =
+    absurd s
 done_with Edit file called files (content.Events list) commands more t desk target e s o f w =
     absurd s
 done_with Edit file called files (content.Value value) commands more t desk target e s o f w =
@@ -174,6 +179,9 @@ done_with (ListEdit rate) file called files (content.Events list) commands more 
     (ap (done target) (text_bare desk.timeline)))
 done_with (ListEdit rate) file called files (content.Commands cs) commands more t desk target e s o
     f w = absurd s
+done_with (ListEdit rate) file called files (content.Noted noted said) commands more t desk
+    target e s o f
+    w = absurd s
 done_with (ListEdit rate) file called files (content.Rows rows) commands more t desk target e s o f
     w = absurd s
 done_with (ListEdit rate) file called files (content.Film film) commands more t desk target e s o f
@@ -182,11 +190,14 @@ done_with (ListEdit rate) file called files (content.Value value) commands more 
     f w = absurd s
 done_with (ListEdit rate) file called files (content.Root object) commands more t desk target e s o
     f w = absurd s
-done_with (ListToList rate drop wide) file called files held commands more t desk target e s o f w =
+done_with (ListToList rate drop wide notes) file called files held commands more t desk target e
+    s o f w =
     absurd e
-done_with (ListToObjects rate older) file called files held commands more t desk target e s o f w =
+done_with (ListToObjects rate older notes) file called files held commands more t desk target e s
+    o f w =
     absurd e
-done_with (TimelineToList drop wide) file called files held commands more t desk target e s o f w =
+done_with (TimelineToList drop wide notes) file called files held commands more t desk target e s
+    o f w =
     absurd e
 done_with (ToObjects older) file called files held commands more t desk target e s o f w = absurd e
 done_with ToJson file called files held commands more t desk target e s o f w = absurd e
@@ -225,6 +236,8 @@ halted_with Edit file called files (content.Commands cs) commands more t why tar
     absurd s
 halted_with Edit file called files (content.Rows rows) commands more t why target e s o f w =
     absurd s
+halted_with Edit file called files (content.Noted noted said) commands more t why target e s o f w =
+    absurd s
 halted_with Edit file called files (content.Events list) commands more t why target e s o f w =
     absurd s
 halted_with Edit file called files (content.Value value) commands more t why target e s o f w =
@@ -236,6 +249,9 @@ halted_with (ListEdit rate) file called files (content.Events list) commands mor
     Conformed t o.is o.accepted o.few (Halted f w.0 w.1 w.2 (ap (refused called.name) w.3))
 halted_with (ListEdit rate) file called files (content.Commands cs) commands more t why target e s o
     f w = absurd s
+halted_with (ListEdit rate) file called files (content.Noted noted said) commands more t why
+    target e s o f
+    w = absurd s
 halted_with (ListEdit rate) file called files (content.Rows rows) commands more t why target e s o f
     w = absurd s
 halted_with (ListEdit rate) file called files (content.Film film) commands more t why target e s o f
@@ -244,11 +260,14 @@ halted_with (ListEdit rate) file called files (content.Value value) commands mor
     f w = absurd s
 halted_with (ListEdit rate) file called files (content.Root object) commands more t why target e s o
     f w = absurd s
-halted_with (ListToList rate drop wide) file called files held commands more t why target e s o f
+halted_with (ListToList rate drop wide notes) file called files held commands more t why target e
+    s o f
     w = absurd e
-halted_with (ListToObjects rate older) file called files held commands more t why target e s o f w =
+halted_with (ListToObjects rate older notes) file called files held commands more t why target e
+    s o f w =
     absurd e
-halted_with (TimelineToList drop wide) file called files held commands more t why target e s o f w =
+halted_with (TimelineToList drop wide notes) file called files held commands more t why target e
+    s o f w =
     absurd e
 halted_with (ToObjects older) file called files held commands more t why target e s o f w = absurd e
 halted_with ToJson file called files held commands more t why target e s o f w = absurd e
@@ -282,6 +301,8 @@ unopened_with : (command : Command) (file called : Source) (files : List Source)
 unopened_with Edit file called files (content.Film film) commands more why target e s u =
     Faulted u.0 u.1 u.2 (ap (refused file.name) u.3)
 unopened_with Edit file called files (content.Commands cs) commands more why target e s u = absurd s
+unopened_with Edit file called files (content.Noted noted said) commands more why target e s u =
+    absurd s
 unopened_with Edit file called files (content.Rows rows) commands more why target e s u = absurd s
 unopened_with Edit file called files (content.Events list) commands more why target e s u = absurd s
 unopened_with Edit file called files (content.Value value) commands more why target e s u = absurd s
@@ -297,16 +318,22 @@ unopened_with (ListEdit rate) file called files (content.Commands cs) commands m
     u = absurd s
 unopened_with (ListEdit rate) file called files (content.Rows rows) commands more why target e s u =
     absurd s
+unopened_with (ListEdit rate) file called files (content.Noted noted said) commands more why
+    target e
+    s u = absurd s
 unopened_with (ListEdit rate) file called files (content.Film film) commands more why target e s u =
     absurd s
 unopened_with (ListEdit rate) file called files (content.Value value) commands more why target e s
     u = absurd s
 unopened_with (ListEdit rate) file called files (content.Root object) commands more why target e s
     u = absurd s
-unopened_with (ListToList rate drop wide) file called files held commands more why target e s u =
+unopened_with (ListToList rate drop wide notes) file called files held commands more why target e
+    s u =
     absurd e
-unopened_with (ListToObjects rate older) file called files held commands more why target e s u = absurd e
-unopened_with (TimelineToList drop wide) file called files held commands more why target e s u =
+unopened_with (ListToObjects rate older notes) file called files held commands more why target e
+    s u = absurd e
+unopened_with (TimelineToList drop wide notes) file called files held commands more why target e
+    s u =
     absurd e
 unopened_with (ToObjects older) file called files held commands more why target e s u = absurd e
 unopened_with ToJson file called files held commands more why target e s u = absurd e
@@ -339,19 +366,21 @@ work_with : (command : Command) (held : Content) (commands : Vec script.Command)
 work_with Edit (content.Film film) commands more t desk e s o f w =
     (subst IsFaultless o f, subst (λ x. IsWorkOn x commands.items (media_in more) desk) o w)
 work_with Edit (content.Commands cs) commands more t desk e s o f w = absurd s
+work_with Edit (content.Noted noted said) commands more t desk e s o f w = absurd s
 work_with Edit (content.Rows rows) commands more t desk e s o f w = absurd s
 work_with Edit (content.Events list) commands more t desk e s o f w = absurd s
 work_with Edit (content.Value value) commands more t desk e s o f w = absurd s
 work_with Edit (content.Root object) commands more t desk e s o f w = absurd s
 work_with (ListEdit rate) (content.Events list) commands more t desk e s o f w = (t, o, f, w)
 work_with (ListEdit rate) (content.Commands cs) commands more t desk e s o f w = absurd s
+work_with (ListEdit rate) (content.Noted noted said) commands more t desk e s o f w = absurd s
 work_with (ListEdit rate) (content.Rows rows) commands more t desk e s o f w = absurd s
 work_with (ListEdit rate) (content.Film film) commands more t desk e s o f w = absurd s
 work_with (ListEdit rate) (content.Value value) commands more t desk e s o f w = absurd s
 work_with (ListEdit rate) (content.Root object) commands more t desk e s o f w = absurd s
-work_with (ListToList rate drop wide) held commands more t desk e s o f w = absurd e
-work_with (ListToObjects rate older) held commands more t desk e s o f w = absurd e
-work_with (TimelineToList drop wide) held commands more t desk e s o f w = absurd e
+work_with (ListToList rate drop wide notes) held commands more t desk e s o f w = absurd e
+work_with (ListToObjects rate older notes) held commands more t desk e s o f w = absurd e
+work_with (TimelineToList drop wide notes) held commands more t desk e s o f w = absurd e
 work_with (ToObjects older) held commands more t desk e s o f w = absurd e
 work_with ToJson held commands more t desk e s o f w = absurd e
 work_with LogToMedia held commands more t desk e s o f w = absurd e

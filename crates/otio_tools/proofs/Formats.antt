@@ -30,7 +30,7 @@ use Rattle.source_files.specs.Formats.{IsJson, IsObject, IsTimeline, IsNoTimelin
 use Rattle.source_files.specs.declared.kinds.Kind.{Kind}
 use Rattle.source_files.specs.declared.kinds.Kind.TheVariants as kinds
 use Rattle.source_files.specs.declared.kinds.Content.{Content}
-use Rattle.source_files.specs.declared.kinds.Content.TheVariants.{Value, Root, Film, Events, Rows, Commands}
+use Rattle.source_files.specs.declared.kinds.Content.TheVariants.{Value, Root, Film, Events, Noted, Rows, Commands}
 
 json_reason_once : (bytes v w : List ℕ) → RefusesJson bytes v → RefusesJson bytes w → v ≡ w
 json_reason_once bytes v w p q =
@@ -217,6 +217,7 @@ reason_once kinds.Json bytes v w p q = json_reason_once bytes v w p q
 reason_once kinds.Object bytes v w p q = object_reason_once bytes v w p q
 reason_once kinds.Timeline bytes v w p q = timeline_reason_once bytes v w p q
 reason_once (kinds.List rate) bytes v w p q = list_reason_once rate bytes v w p q
+reason_once (kinds.NotedList rate) bytes v w p q = list_reason_once rate bytes v w p q
 reason_once kinds.Media bytes v w p q = media_reason_once bytes v w p q
 reason_once kinds.Log bytes v w p q = log_reason_once bytes v w p q
 reason_once kinds.Script bytes v w p q = script_reason_once bytes v w p q
@@ -228,12 +229,14 @@ held_or_refused kinds.Json bytes why (Value value) h r = json_or_reason bytes wh
 held_or_refused kinds.Json bytes why (Root object) h r = h
 held_or_refused kinds.Json bytes why (Film timeline) h r = h
 held_or_refused kinds.Json bytes why (Events list) h r = h
+held_or_refused kinds.Json bytes why (Noted noted said) h r = h
 held_or_refused kinds.Json bytes why (Rows rows) h r = h
 held_or_refused kinds.Json bytes why (Commands commands) h r = h
 held_or_refused kinds.Object bytes why (Root object) h r = object_or_reason bytes why object h r
 held_or_refused kinds.Object bytes why (Value value) h r = h
 held_or_refused kinds.Object bytes why (Film timeline) h r = h
 held_or_refused kinds.Object bytes why (Events list) h r = h
+held_or_refused kinds.Object bytes why (Noted noted said) h r = h
 held_or_refused kinds.Object bytes why (Rows rows) h r = h
 held_or_refused kinds.Object bytes why (Commands commands) h r = h
 held_or_refused kinds.Timeline bytes why (Film timeline) h r =
@@ -241,6 +244,7 @@ held_or_refused kinds.Timeline bytes why (Film timeline) h r =
 held_or_refused kinds.Timeline bytes why (Value value) h r = h
 held_or_refused kinds.Timeline bytes why (Root object) h r = h
 held_or_refused kinds.Timeline bytes why (Events list) h r = h
+held_or_refused kinds.Timeline bytes why (Noted noted said) h r = h
 held_or_refused kinds.Timeline bytes why (Rows rows) h r = h
 held_or_refused kinds.Timeline bytes why (Commands commands) h r = h
 held_or_refused (kinds.List rate) bytes why (Events list) h r =
@@ -248,15 +252,26 @@ held_or_refused (kinds.List rate) bytes why (Events list) h r =
 held_or_refused (kinds.List rate) bytes why (Value value) h r = h
 held_or_refused (kinds.List rate) bytes why (Root object) h r = h
 held_or_refused (kinds.List rate) bytes why (Film timeline) h r = h
+held_or_refused (kinds.List rate) bytes why (Noted noted said) h r = h
 held_or_refused (kinds.List rate) bytes why (Rows rows) h r = h
 held_or_refused (kinds.List rate) bytes why (Commands commands) h r = h
+held_or_refused (kinds.NotedList rate) bytes why (Noted list said) h r =
+    list_or_fault rate bytes list r.0 h.is r.1
+held_or_refused (kinds.NotedList rate) bytes why (Value value) h r = h
+held_or_refused (kinds.NotedList rate) bytes why (Root object) h r = h
+held_or_refused (kinds.NotedList rate) bytes why (Film timeline) h r = h
+held_or_refused (kinds.NotedList rate) bytes why (Events list) h r = h
+held_or_refused (kinds.NotedList rate) bytes why (Rows rows) h r = h
+held_or_refused (kinds.NotedList rate) bytes why (Commands commands) h r = h
 held_or_refused kinds.Media bytes why (Rows rows) h r = media_or_reason bytes why rows h r
+held_or_refused kinds.Media bytes why (Noted noted said) h r = h
 held_or_refused kinds.Media bytes why (Value value) h r = h
 held_or_refused kinds.Media bytes why (Root object) h r = h
 held_or_refused kinds.Media bytes why (Film timeline) h r = h
 held_or_refused kinds.Media bytes why (Events list) h r = h
 held_or_refused kinds.Media bytes why (Commands commands) h r = h
 held_or_refused kinds.Log bytes why (Rows rows) h r = log_or_reason bytes why rows h r
+held_or_refused kinds.Log bytes why (Noted noted said) h r = h
 held_or_refused kinds.Log bytes why (Value value) h r = h
 held_or_refused kinds.Log bytes why (Root object) h r = h
 held_or_refused kinds.Log bytes why (Film timeline) h r = h
@@ -268,4 +283,5 @@ held_or_refused kinds.Script bytes why (Value value) h r = h
 held_or_refused kinds.Script bytes why (Root object) h r = h
 held_or_refused kinds.Script bytes why (Film timeline) h r = h
 held_or_refused kinds.Script bytes why (Events list) h r = h
+held_or_refused kinds.Script bytes why (Noted noted said) h r = h
 held_or_refused kinds.Script bytes why (Rows rows) h r = h

@@ -6,6 +6,7 @@ use Rattle.json_value.specs.declared.Json.{Json}
 use Rattle.tick_time.specs.declared.rates.Rate.{Rate}
 use Rattle.edl_list.specs.declared.list.EventList.{EventList}
 use Rattle.edl_text.specs.Lists.{IsList}
+use Rattle.note_text.specs.declared.notes.Note.{Note}
 use Rattle.otio_model.specs.declared.roots.Object.{Object}
 use Rattle.otio_model.specs.declared.timelines.Timeline.{Timeline}
 use Rattle.media_rows.specs.declared.row.MediaRow.{MediaRow}
@@ -17,10 +18,10 @@ use Rattle.ale_text.proofs.OneOutcome.{log_once}
 use Rattle.ale_text.proofs.PlainRows.{log_plain}
 use Rattle.edit_script.specs.declared.commands.Command as script
 use Rattle.edit_script.specs.Scripts.{IsScript}
-use Rattle.source_files.specs.Formats.{IsJson, IsObject, IsTimeline, Holds}
+use Rattle.source_files.specs.Formats.{IsJson, IsObject, IsTimeline, IsNotedList, Holds}
 use Rattle.source_files.specs.declared.kinds.Kind.TheVariants as kinds
 use Rattle.source_files.specs.declared.kinds.Content.{Content}
-use Rattle.source_files.specs.declared.kinds.Content.TheVariants.{Value, Root, Film, Events, Rows, Commands}
+use Rattle.source_files.specs.declared.kinds.Content.TheVariants.{Value, Root, Film, Events, Noted, Rows, Commands}
 use Rattle.otio_tools.specs.Kept.{AreRowsAs}
 
 pub gone_or_there : (bytes : List ℕ) (o : Option (List ℕ)) → o ≡ None → o ≡ Some bytes → ⊥
@@ -36,6 +37,7 @@ value_held bytes (Value value) h = (value, refl, h)
 value_held bytes (Root object) h = absurd h
 value_held bytes (Film timeline) h = absurd h
 value_held bytes (Events list) h = absurd h
+value_held bytes (Noted noted said) h = absurd h
 value_held bytes (Rows rows) h = absurd h
 value_held bytes (Commands commands) h = absurd h
 
@@ -45,6 +47,7 @@ object_held bytes (Root object) h = (object, refl, h)
 object_held bytes (Value value) h = absurd h
 object_held bytes (Film timeline) h = absurd h
 object_held bytes (Events list) h = absurd h
+object_held bytes (Noted noted said) h = absurd h
 object_held bytes (Rows rows) h = absurd h
 object_held bytes (Commands commands) h = absurd h
 
@@ -54,6 +57,7 @@ timeline_held bytes (Film timeline) h = (timeline, refl, h)
 timeline_held bytes (Value value) h = absurd h
 timeline_held bytes (Root object) h = absurd h
 timeline_held bytes (Events list) h = absurd h
+timeline_held bytes (Noted noted said) h = absurd h
 timeline_held bytes (Rows rows) h = absurd h
 timeline_held bytes (Commands commands) h = absurd h
 
@@ -64,12 +68,26 @@ list_held rate bytes (Events list) h = (list, refl, h)
 list_held rate bytes (Value value) h = absurd h
 list_held rate bytes (Root object) h = absurd h
 list_held rate bytes (Film timeline) h = absurd h
+list_held rate bytes (Noted noted said) h = absurd h
 list_held rate bytes (Rows rows) h = absurd h
 list_held rate bytes (Commands commands) h = absurd h
+
+pub noted_held : (rate : Rate) (bytes : List ℕ) (content : Content)
+    → Holds (kinds.NotedList rate) bytes content
+    → (list : EventList) × (said : List Note) × (content ≡ Noted list said)
+    × IsNotedList rate bytes list said
+noted_held rate bytes (Noted list said) h = (list, said, refl, h)
+noted_held rate bytes (Events list) h = absurd h
+noted_held rate bytes (Value value) h = absurd h
+noted_held rate bytes (Root object) h = absurd h
+noted_held rate bytes (Film timeline) h = absurd h
+noted_held rate bytes (Rows rows) h = absurd h
+noted_held rate bytes (Commands commands) h = absurd h
 
 pub media_held : (bytes : List ℕ) (content : Content) → Holds kinds.Media bytes content
     → (rows : List MediaRow) × (content ≡ Rows rows) × IsMediaList bytes rows
 media_held bytes (Rows rows) h = (rows, refl, h)
+media_held bytes (Noted noted said) h = absurd h
 media_held bytes (Value value) h = absurd h
 media_held bytes (Root object) h = absurd h
 media_held bytes (Film timeline) h = absurd h
@@ -79,6 +97,7 @@ media_held bytes (Commands commands) h = absurd h
 pub log_held : (bytes : List ℕ) (content : Content) → Holds kinds.Log bytes content
     → (rows : List MediaRow) × (content ≡ Rows rows) × IsLog bytes rows
 log_held bytes (Rows rows) h = (rows, refl, h)
+log_held bytes (Noted noted said) h = absurd h
 log_held bytes (Value value) h = absurd h
 log_held bytes (Root object) h = absurd h
 log_held bytes (Film timeline) h = absurd h
@@ -108,6 +127,7 @@ pub script_held : (bytes : List ℕ) (content : Content) → Holds kinds.Script 
     → (commands : Vec script.Command) × (content ≡ Commands commands)
     × IsScript bytes commands.items
 script_held bytes (Commands commands) h = (commands, refl, h)
+script_held bytes (Noted noted said) h = absurd h
 script_held bytes (Rows rows) h = absurd h
 script_held bytes (Value value) h = absurd h
 script_held bytes (Root object) h = absurd h

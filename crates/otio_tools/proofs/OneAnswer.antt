@@ -1,20 +1,18 @@
 -- There is one answer, and without faults of devices it is given.
-use Rattle.std.proofs.Common.{◌≡◌, ◌||◌, ◌++◌, ℕ, Bool, Option, List, [], ◌∷◌, All, Some, None, IsSome, true, false, cond, length, refl, sym, ap, subst, ◌∙◌, IfSome, inl, inr, arith}
+use Rattle.std.proofs.Common.{◌≡◌, ◌||◌, ◌++◌, ℕ, Bool, Option, List, [], ◌∷◌, Some, None, true, false, cond, length, refl, sym, ap, subst, ◌∙◌, IfSome, inl, inr}
 use Rattle.std.specs.Global.{Vec}
-use Rattle.std.proofs.lemmas.List.Elements.{All-head, All-tail}
-use Rattle.std.proofs.lemmas.Grind.{common_steps}
 use Rattle.dev_io.specs.Known.{KnownFiles}
 use Rattle.dev_io.specs.Calls.{Tells}
 use Rattle.json_text.proofs.OneText.{text_once}
 use Rattle.json_text.specs.Layout.{layout}
 use Rattle.tick_time.specs.declared.rates.Rate.{Rate}
-use Rattle.edl_list.specs.declared.list.Event.{Event}
 use Rattle.edl_list.specs.declared.list.EventList.{EventList}
-use Rattle.edl_list.specs.Labelled.{IsLabelled}
-use Rattle.edl_list.specs.Layouts.{narrow, layout_of, FitsEvent}
-use Rattle.edl_text.specs.Labelled.{IsFirstNot}
-use Rattle.edl_text.specs.Wide.{IsFirstWide}
+use Rattle.edl_text.specs.Spelling.{spelling}
 use Rattle.edl_text.proofs.OneList.{one_list}
+use Rattle.note_text.specs.Belonging.{below_day}
+use Rattle.note_text.specs.NotedSpelling.{noted_spelling}
+use Rattle.note_text.specs.declared.notes.Note.{Note}
+use Rattle.edl_law.proofs.FormedReadings.{read_is_formed}
 use Rattle.otio_model.specs.declared.timelines.Timeline.{Timeline}
 use Rattle.otio_model.specs.Timelines.{bare}
 use Rattle.schema_write.specs.Objects.{json_of, old_json_of}
@@ -25,7 +23,7 @@ use Rattle.source_files.specs.Faults.{family_fault_text}
 use Rattle.otio_tools.specs.Objects.{AnswersObject, NoForm, Older}
 use Rattle.coord.proofs.OneFault.{same_fault, no_fault_of}
 use Rattle.coord.proofs.SpareLemmas.{faultless_bare, fault_bare}
-use Rattle.source_files.specs.Faults.{coord_fault_text, conform_fault_text, reel_text, day_text}
+use Rattle.source_files.specs.Faults.{coord_fault_text, conform_fault_text}
 use Rattle.listings.specs.Rows.{listing_of, listing_text}
 use Rattle.listings.specs.declared.listing.Listing.{Listing}
 use Rattle.listings.proofs.SpareLemmas.{listing_bare, text_bare}
@@ -55,6 +53,8 @@ use Rattle.media_text.specs.Texts.{media_text}
 use Rattle.media_rows.specs.Rows.{MediaRows}
 use Rattle.edl_law.proofs.OneTimeline.{one_timeline}
 use Rattle.otio_tools.proofs.OneCarried.{carried_once}
+use Rattle.otio_tools.proofs.OneEvents.{events_once}
+use Rattle.otio_tools.proofs.OneNoted.{noted_answer_once, same_notes}
 use Rattle.otio_tools.proofs.OnePulled.{pulled_once}
 use Rattle.edl_law.proofs.OneFault.{one_fault as one_conform_fault, no_fault as no_conform_fault}
 use Rattle.otio_tools.specs.Asked.{Asked, Asks, asked_alone, asked_for, files_alone, files_of, is_log, kind_of, media_source, script_source, read_as, takes_several}
@@ -62,120 +62,21 @@ use Rattle.otio_tools.specs.Edited.{command_fault_text, AnswersEdited, Faulted, 
 use Rattle.script_law.specs.Shown.{opened}
 use Rattle.otio_tools.specs.Forms.{Answer, done, refused}
 use Rattle.otio_tools.specs.Frames.{AnswersTimeline, Unsound, NoLabel, Listed}
-use Rattle.otio_tools.specs.Events.{AnswersEvents, NoTimecode, TooMany, WideReel, PastDay, Spelled}
+use Rattle.otio_tools.specs.Events.{AnswersEvents}
 use Rattle.otio_tools.specs.Carried.{AnswersCarried}
 use Rattle.otio_tools.specs.Pulled.{AnswersPull}
 use Rattle.otio_tools.specs.Conformed.{media_in, AnswersConformed, NotConformed, Conformed}
 use Rattle.otio_tools.specs.Tools.{AnswersCounted, Counted, Uncounted, counts_alone}
 use Rattle.otio_tools.proofs.OneText.{same_json, same_old_json, same_listings}
-use Rattle.otio_tools.specs.Written.{AnswersWritten, timeline_text}
+use Rattle.otio_tools.specs.Written.{AnswersNoted, AnswersWritten, timeline_text}
 use Rattle.otio_tools.specs.Answer.{Answers, NoCommand, OnFiles, ByDrill, AnswersDrill, AnswersHeld, AnswersUnread, Gone, Faulty, AnswersAsked, Unread, Judged}
 use Rattle.otio_tools.specs.Run.{Streams, Ends, Gives, Completes}
 use Rattle.otio_tools.specs.declared.Status.{Status}
 use Rattle.otio_tools.specs.declared.Status.TheVariants.{Done, Usage, Refused, Input, Output, Memory}
 use Rattle.otio_tools.proofs.RunEnds.{asks_once, whole}
-use Rattle.otio_tools.proofs.HeldContents.{gone_or_there, there_once, value_held, object_held, timeline_held, list_held, log_held, rows_held_as, same_rows_as, script_held}
+use Rattle.otio_tools.proofs.HeldContents.{gone_or_there, there_once, value_held, object_held, timeline_held, list_held, noted_held, log_held, rows_held_as, same_rows_as, script_held}
 use Rattle.otio_tools.proofs.OneSeveral.{cat_once, worked_once}
 use Rattle.otio_tools.proofs.Formats.{reason_once, held_or_refused, object_json_once, old_json_once, stands_too, bare_json, bare_old_json, timeline_bare_once}
-
--- the timecode of a rate is there or not
-none_some : {X : Type 0} (o : Option X) → o ≡ None → IsSome o → ⊥
-none_some None e h = grind (arith, common_steps)
-none_some (Some x) e h = cc
-
--- the first event that isn't such is one
-such_once : (Is : Event → Type 0) (before other after behind : List Event) (e f : Event)
-    → before ++ e ∷ after ≡ other ++ f ∷ behind → All Is before → All Is other → (Is e → ⊥)
-    → (Is f → ⊥) → e ≡ f
-such_once Is [] [] after behind e f h p q a b = cc
-such_once Is [] (o ∷ other) after behind e f h p q a b = let k : e ≡ o =
-    cc in absurd (a (subst Is (sym k) (All-head Is o other q)))
-such_once Is (o ∷ before) [] after behind e f h p q a b = let k : o ≡ f =
-    cc in absurd (b (subst Is k (All-head Is o before p)))
-such_once Is (o ∷ before) (u ∷ other) after behind e f h p q a b =
-    let k : before ++ e ∷ after ≡ other ++ f ∷ behind =
-    cc in such_once Is before other after behind e f k (All-tail Is o before p)
-    (All-tail Is u other q) a b
-
-none_such : (Is : Event → Type 0) (before after events : List Event) (e : Event)
-    → events ≡ before ++ e ∷ after → All Is events → (Is e → ⊥) → ⊥
-none_such Is [] after events e h p a = let all : All Is (e ∷ after) =
-    subst (All Is) h p in a (All-head Is e after all)
-none_such Is (o ∷ before) after events e h p a =
-    let all : All Is (o ∷ (before ++ e ∷ after)) =
-    subst (All Is) h p in none_such Is before after (before
-    ++ e ∷ after) e refl (All-tail Is o (before ++ e ∷ after) all) a
-
--- the line of the first event that isn't such is one
-line_once : (Is : Event → Type 0) (events : List Event) (l k : ℕ) → IsFirstNot Is events (Some l)
-    → IsFirstNot Is events (Some k) → l ≡ k
-line_once Is events l k p q =
-    let same : p.2 ≡ q.2 = such_once Is p.0 q.0 p.1 q.1 p.2 q.2 (sym p.3 ∙ q.3) p.5 q.5 p.6 q.6 in
-    p.4 ∙ ap (λ (x : Event). x.line) same ∙ sym q.4
-
-line_none : (Is : Event → Type 0) (events : List Event) (l : ℕ) → IsFirstNot Is events (Some l)
-    → All Is events → ⊥
-line_none Is events l p q = none_such Is p.0 p.1 events p.2 p.3 q p.6
-
--- no reel is wide where each stands in the narrow layout
-wide_none : (wide : Bool) (events : List Event) (l : ℕ) → wide ≡ false
-    → IsFirstWide events (Some l) → All (FitsEvent (layout_of wide)) events → ⊥
-wide_none wide events l e p q = line_none (FitsEvent narrow) events l p
-    (subst (λ w. All (FitsEvent (layout_of w)) events) e q)
-
--- a list of events has at most one answer
-events_once : (name : List ℕ) (target : Option (List ℕ)) (list : EventList) (drop wide : Bool)
-    (a b : Answer) → AnswersEvents name target list drop wide a
-    → AnswersEvents name target list drop wide b → a ≡ b
-events_once name target list drop wide a b (NoTimecode n e) (NoTimecode m f) = e ∙ sym f
-events_once name target list drop wide a b (NoTimecode n e) (TooMany u h f) =
-    absurd (none_some _ n u)
-events_once name target list drop wide a b (NoTimecode n e) (WideReel u v j o s f) =
-    absurd (none_some _ n u)
-events_once name target list drop wide a b (NoTimecode n e) (PastDay d o q f) =
-    absurd (none_some _ n d.timecode)
-events_once name target list drop wide a b (NoTimecode n e) (Spelled d q f) =
-    absurd (none_some _ n d.timecode)
-events_once name target list drop wide a b (TooMany t k e) (NoTimecode m f) =
-    absurd (none_some _ m t)
-events_once name target list drop wide a b (TooMany t k e) (TooMany u h f) = e ∙ sym f
-events_once name target list drop wide a b (TooMany t k e) (WideReel u v j o s f) =
-    absurd (omega (arith, k, v))
-events_once name target list drop wide a b (TooMany t k e) (PastDay d o q f) =
-    absurd (omega (arith, k, d.fits.few))
-events_once name target list drop wide a b (TooMany t k e) (Spelled d q f) =
-    absurd (omega (arith, k, d.fits.few))
-events_once name target list drop wide a b (WideReel t w i l r e) (NoTimecode m f) =
-    absurd (none_some _ m t)
-events_once name target list drop wide a b (WideReel t w i l r e) (TooMany u h f) =
-    absurd (omega (arith, h, w))
-events_once name target list drop wide a b (WideReel t w i l r e) (WideReel u v j o s f) =
-    e ∙ ap (λ n. refused name (reel_text n)) (line_once (FitsEvent narrow) list.events l o r s)
-    ∙ sym f
-events_once name target list drop wide a b (WideReel t w i l r e) (PastDay d o q f) =
-    absurd (wide_none wide list.events l i r d.fits.reels)
-events_once name target list drop wide a b (WideReel t w i l r e) (Spelled d q f) =
-    absurd (wide_none wide list.events l i r d.fits.reels)
-events_once name target list drop wide a b (PastDay c l p e) (NoTimecode m f) =
-    absurd (none_some _ m c.timecode)
-events_once name target list drop wide a b (PastDay c l p e) (TooMany u h f) =
-    absurd (omega (arith, h, c.fits.few))
-events_once name target list drop wide a b (PastDay c l p e) (WideReel u v j o s f) =
-    absurd (wide_none wide list.events o j s c.fits.reels)
-events_once name target list drop wide a b (PastDay c l p e) (PastDay d o q f) =
-    e ∙ ap (λ n. refused name (day_text n)) (line_once (IsLabelled list.rate drop) list.events l o p
-    q) ∙ sym f
-events_once name target list drop wide a b (PastDay c l p e) (Spelled d q f) =
-    absurd (line_none (IsLabelled list.rate drop) list.events l p q)
-events_once name target list drop wide a b (Spelled c p e) (NoTimecode m f) =
-    absurd (none_some _ m c.timecode)
-events_once name target list drop wide a b (Spelled c p e) (TooMany u h f) =
-    absurd (omega (arith, h, c.fits.few))
-events_once name target list drop wide a b (Spelled c p e) (WideReel u v j o s f) =
-    absurd (wide_none wide list.events o j s c.fits.reels)
-events_once name target list drop wide a b (Spelled c p e) (PastDay d o q f) =
-    absurd (line_none (IsLabelled list.rate drop) list.events o q p)
-events_once name target list drop wide a b (Spelled c p e) (Spelled d q f) = e ∙ sym f
 
 -- a start is a label of the record rate or none
 label_or_none : (asked : FramesAsked) (t u : Timeline) (listing : Listing) → bare t ≡ bare u
@@ -502,37 +403,76 @@ content_once (ToObjects older) name bytes others target held c d m n a b alone p
     (old_json_once bytes v.0 w.0 v.2 w.2)
     (same_places (upgraded v.2.value) v.0 w.0 v.2.stands (stands_too bytes v.0 w.0 v.2 w.2))
     first second
-content_once (ListToList rate drop wide) name bytes others target held c d m n a b alone p q r s x
-    y =
+content_once (ListToList rate drop wide false) name bytes others target held c d m n a b alone p q r
+    s x y =
+    let command = ListToList rate drop wide false in
     let v = list_held rate bytes c p in
     let w = list_held rate bytes d q in
-    let first = subst (Answered (ListToList rate drop wide) name others target m a) v.1 x in
-    let second = subst (Answered (ListToList rate drop wide) name others target n b) w.1 y in
+    let first = subst (Answered command name others target m a) v.1 x in
+    let second = subst (Answered command name others target n b) w.1 y in
     let same : w.0 ≡ v.0 = one_list rate bytes w.0 v.0 w.2 v.2 in
-    events_once name target v.0 (drop || v.0.drop) wide a b first
-    (subst (λ (l : EventList). AnswersEvents name target l (drop || l.drop) wide b) same second)
-content_once (TimelineToList drop wide) name bytes others target held c d m n a b alone p q r s x
+    events_once name target v.0 (drop || v.0.drop) wide (spelling v.0 (drop || v.0.drop) wide) a b
+    first (subst (λ (l : EventList). AnswersEvents name target l (drop || l.drop) wide
+    (spelling l (drop || l.drop) wide) b) same second)
+content_once (ListToList rate drop wide true) name bytes others target held c d m n a b alone p q r
+    s x y =
+    let command = ListToList rate drop wide true in
+    let v = noted_held rate bytes c p in
+    let w = noted_held rate bytes d q in
+    let first = subst (Answered command name others target m a) v.2 x in
+    let second = subst (Answered command name others target n b) w.2 y in
+    let same : w.0 ≡ v.0 = one_list rate bytes w.0 v.0 w.3.is v.3.is in
+    let notes : w.1 ≡ v.1 = same_notes rate bytes w.0 v.0 w.1 v.1 same w.3 v.3 in
+    events_once name target v.0 (drop || v.0.drop) wide
+    (noted_spelling v.0 (below_day v.0.rate (drop || v.0.drop) v.1) (drop || v.0.drop) wide) a b
+    first (subst (λ (l : EventList). AnswersEvents name target l (drop || l.drop) wide
+    (noted_spelling l (below_day l.rate (drop || l.drop) v.1) (drop || l.drop) wide) b) same
+    (subst (λ (k : List Note). AnswersEvents name target w.0 (drop || w.0.drop) wide
+    (noted_spelling w.0 (below_day w.0.rate (drop || w.0.drop) k) (drop || w.0.drop) wide) b) notes
+    second))
+content_once (TimelineToList drop wide notes) name bytes others target held c d m n a b alone p q
+    r s x
     y =
     let rows = front_once held others.script others.media m n r s in
     let v = timeline_held bytes c p in
     let w = timeline_held bytes d q in
-    let first = subst (Answered (TimelineToList drop wide) name others target m a) v.1 x in
-    let second = subst (Answered (TimelineToList drop wide) name others target n b) w.1 y in
-    carried_once drop wide name (media_in m) target v.0 w.0 a b
+    let first = subst (Answered (TimelineToList drop wide notes) name others target m a) v.1 x in
+    let second = subst (Answered (TimelineToList drop wide notes) name others target n b) w.1 y in
+    carried_once notes drop wide name (media_in m) target v.0 w.0 a b
     (timeline_bare_once bytes v.0 w.0 v.2 w.2) first
-    (subst (λ r. AnswersCarried drop wide name r target w.0 b) (sym rows) second)
-content_once (ListToObjects rate older) name bytes others target held c d m n a b alone p q r s x y =
+    (subst (λ r. AnswersCarried notes drop wide name r target w.0 b) (sym rows) second)
+content_once (ListToObjects rate older false) name bytes others target held c d m n a b alone p q
+    r s
+    x y =
     let rows = front_once held others.script others.media m n r s in
     let v = list_held rate bytes c p in
     let w = list_held rate bytes d q in
-    let first = subst (Answered (ListToObjects rate older) name others target m a) v.1 x in
-    let second = subst (Answered (ListToObjects rate older) name others target n b) w.1 y in
+    let first = subst (Answered (ListToObjects rate older false) name others target m a) v.1 x in
+    let second = subst (Answered (ListToObjects rate older false) name others target n b) w.1 y in
     conformed_once name v.0 (media_in m)
     (λ t. AnswersObject older name target (ObjectOfTimeline t))
     (timeline_object_once older name target) a b first
     (conformed_as name v.0 w.0 (media_in m) (media_in n)
     (λ t. AnswersObject older name target (ObjectOfTimeline t)) b
     (one_list rate bytes w.0 v.0 w.2 v.2) (sym rows) second)
+content_once (ListToObjects rate older true) name bytes others target held c d m n a b alone p q r s
+    x y =
+    let command = ListToObjects rate older true in
+    let Is = λ (t : Timeline). AnswersObject older name target (ObjectOfTimeline t) in
+    let rows = front_once held others.script others.media m n r s in
+    let v = noted_held rate bytes c p in
+    let w = noted_held rate bytes d q in
+    let first = subst (Answered command name others target m a) v.2 x in
+    let second = subst (Answered command name others target n b) w.2 y in
+    let same : w.0 ≡ v.0 = one_list rate bytes w.0 v.0 w.3.is v.3.is in
+    let notes : w.1 ≡ v.1 = same_notes rate bytes w.0 v.0 w.1 v.1 same w.3 v.3 in
+    conformed_once name v.0 (media_in m) (AnswersNoted v.0 v.1 Is)
+    (noted_answer_once v.0 v.1 Is (timeline_object_once older name target)
+    (read_is_formed rate bytes v.0 v.3.is)) a b first
+    (conformed_as name v.0 w.0 (media_in m) (media_in n) (AnswersNoted v.0 v.1 Is) b same (sym rows)
+    (subst (λ (k : List Note). AnswersConformed name w.0 (media_in n) (AnswersNoted v.0 k Is) b)
+    notes (subst (λ (l : EventList). AnswersConformed name w.0 (media_in n)
+    (AnswersNoted l w.1 Is) b) same second)))
 content_once (Frames asked) name bytes others target held c d m n a b alone p q r s x y =
     let v = timeline_held bytes c p in
     let w = timeline_held bytes d q in
@@ -667,12 +607,12 @@ one_once (Pull handles) name others target held a b =
     alone_once (Pull handles) name others target held a b refl
 one_once (ListPull rate handles) name others target held a b =
     alone_once (ListPull rate handles) name others target held a b refl
-one_once (ListToList rate drop wide) name others target held a b =
-    alone_once (ListToList rate drop wide) name others target held a b refl
-one_once (ListToObjects rate older) name others target held a b =
-    alone_once (ListToObjects rate older) name others target held a b refl
-one_once (TimelineToList drop wide) name others target held a b =
-    alone_once (TimelineToList drop wide) name others target held a b refl
+one_once (ListToList rate drop wide notes) name others target held a b =
+    alone_once (ListToList rate drop wide notes) name others target held a b refl
+one_once (ListToObjects rate older notes) name others target held a b =
+    alone_once (ListToObjects rate older notes) name others target held a b refl
+one_once (TimelineToList drop wide notes) name others target held a b =
+    alone_once (TimelineToList drop wide notes) name others target held a b refl
 one_once (ToObjects older) name others target held a b =
     alone_once (ToObjects older) name others target held a b refl
 one_once ToJson name others target held a b =

@@ -24,7 +24,7 @@ use Rattle.otio_tools.specs.Opened.{AnswersOpened, AnswersUnopened, Input, IsCon
 use Rattle.otio_tools.specs.Answer.{AnswersCat, AnswersWorked}
 use Rattle.otio_tools.specs.Tools.{AnswersFault, AnswersJoined, AnswersTool, Joined, NotJoined, NotWorked, Worked, does_list, listings_asked, name_told, tool_fault_text, tool_text}
 use Rattle.otio_tools.proofs.Formats.{timeline_bare_once}
-use Rattle.otio_tools.proofs.HeldContents.{list_held, log_held, media_held, object_held, script_held, there_once, timeline_held, value_held}
+use Rattle.otio_tools.proofs.HeldContents.{list_held, log_held, noted_held, media_held, object_held, script_held, there_once, timeline_held, value_held}
 use Rattle.otio_tools.proofs.OneText.{same_listings, same_text}
 use Rattle.media_rows.specs.declared.row.MediaRow.{MediaRow}
 use Rattle.media_list.proofs.OneOutcome.{list_once as media_list_once}
@@ -219,6 +219,7 @@ IsOther (content.Root object) = Unit {0}
 IsOther (content.Commands commands) = Unit {0}
 IsOther (content.Film timeline) = ⊥
 IsOther (content.Events list) = ⊥
+IsOther (content.Noted noted said) = Unit {0}
 IsOther (content.Rows rows) = ⊥
 
 data SameHeld (c d : Content) : Type 0 where
@@ -241,6 +242,10 @@ same_held kinds.Script bytes c d p q =
     let v = script_held bytes c p in
     let w = script_held bytes d q in
     others_too (subst IsOther (sym v.1) tt) (subst IsOther (sym w.1) tt)
+same_held (kinds.NotedList rate) bytes c d p q =
+    let v = noted_held rate bytes c p in
+    let w = noted_held rate bytes d q in
+    others_too (subst IsOther (sym v.2) tt) (subst IsOther (sym w.2) tt)
 same_held kinds.Media bytes c d p q =
     let v = media_held bytes c p in
     let w = media_held bytes d q in
@@ -271,6 +276,7 @@ other_inputs file files (content.Root object) cs o = refl
 other_inputs file files (content.Commands commands) cs o = refl
 other_inputs file files (content.Film timeline) cs o = absurd o
 other_inputs file files (content.Events list) cs o = absurd o
+other_inputs file files (content.Noted noted said) cs o = refl
 other_inputs file files (content.Rows rows) cs o = absurd o
 
 other_media : (c : Content) (cs : List Content) → IsOther c → media_behind (c ∷ cs) ≡ None
@@ -279,6 +285,7 @@ other_media (content.Root object) cs o = refl
 other_media (content.Commands commands) cs o = refl
 other_media (content.Film timeline) cs o = absurd o
 other_media (content.Events list) cs o = absurd o
+other_media (content.Noted noted said) cs o = refl
 other_media (content.Rows rows) cs o = absurd o
 
 -- the inputs are alike, and the media lists the same

@@ -22,6 +22,7 @@ use Rattle.source_files.specs.declared.file_faults.SourceFault.{SourceFault}
 use Rattle.source_files.proofs.Handing.{refused_by}
 use Rattle.source_files.proofs.Order.{first_for}
 use Rattle.command_words.specs.declared.requests.Command.{Command}
+use Rattle.command_words.specs.declared.requests.Command.TheVariants.{ListToList, ListToObjects}
 use Rattle.media_rows.specs.declared.row.MediaRow.{MediaRow}
 use Rattle.media_rows.specs.Rows.{MediaRows}
 use Rattle.edl_frames.specs.Conformed.{IsTimelineOf}
@@ -48,14 +49,16 @@ use Rattle.otio_tools.specs.Carried.{AnswersCarried, NotSound, Left}
 use Rattle.edl_law.proofs.ItemCounts.{timeline_count}
 use Rattle.limits.specs.Limits.{most_items}
 use Rattle.otio_model.specs.Counts.{count as count_below}
-use Rattle.otio_tools.specs.Asked.{Asked, is_log, one_file, media_source, kind_of}
+use Rattle.note_text.specs.Noted.{IsNoted}
+use Rattle.note_text.specs.declared.notes.Note.{Note}
+use Rattle.otio_tools.specs.Asked.{Asked, is_log, list_kind, one_file, media_source, kind_of}
 use Rattle.otio_tools.specs.Forms.{Answer, done, absent, refused}
-use Rattle.otio_tools.specs.Written.{object_json, old_object_json}
+use Rattle.otio_tools.specs.Written.{AnswersNoted, object_json, old_object_json}
 use Rattle.otio_tools.specs.Tools.{AnswersCounted, Uncounted}
 use Rattle.otio_tools.specs.Answer.{AnswersHeld, AnswersUnread, Gone, Faulty, AnswersAsked, Unread, Judged}
 use Rattle.otio_tools.specs.Run.{FailsUnder}
 use Rattle.otio_tools.specs.Opened.{IsConformedTo}
-use Rattle.otio_tools.specs.Plan.{HasFormedList, Suffices, IsRefusedAs, PlansHeld, IsStop, Plans, AreContents, IsCarriedBy, LeavesWork, media_content, text_planned}
+use Rattle.otio_tools.specs.Plan.{HasFormedList, HasNotedList, Suffices, IsRefusedAs, PlansHeld, IsStop, Plans, AreContents, IsCarriedBy, LeavesWork, media_content, text_planned}
 use Rattle.edl_list.specs.declared.list.EventList.{EventList}
 use Rattle.otio_model.specs.declared.timelines.Timeline.{Timeline}
 use Rattle.otio_tools.specs.Conformed.{media_in, AnswersConformed, Conformed, NotConformed}
@@ -134,8 +137,31 @@ suits_list rate (content.Events list) s = s
 suits_list rate (content.Value value) s = s
 suits_list rate (content.Root object) s = s
 suits_list rate (content.Film timeline) s = s
+suits_list rate (content.Noted noted said) s = s
 suits_list rate (content.Rows rows) s = s
 suits_list rate (content.Commands commands) s = s
+
+-- and one that is read with notes is one with notes of its events
+suits_noted : (rate : Rate) (held : Content) → Suits (kinds.NotedList rate) held
+    → HasNotedList held
+suits_noted rate (content.Noted list said) s = s
+suits_noted rate (content.Events list) s = s
+suits_noted rate (content.Value value) s = s
+suits_noted rate (content.Root object) s = s
+suits_noted rate (content.Film timeline) s = s
+suits_noted rate (content.Rows rows) s = s
+suits_noted rate (content.Commands commands) s = s
+
+-- where a list is read with notes or without, by what is asked for
+pub plain_suits : (rate : Rate) (noted : Bool) (held : Content) → noted ≡ false
+    → Suits (list_kind rate noted) held → HasFormedList held
+plain_suits rate noted held e s =
+    suits_list rate held (subst (λ b. Suits (list_kind rate b) held) e s)
+
+pub noted_suits : (rate : Rate) (noted : Bool) (held : Content) → noted ≡ true
+    → Suits (list_kind rate noted) held → HasNotedList held
+noted_suits rate noted held e s =
+    suits_noted rate held (subst (λ b. Suits (list_kind rate b) held) e s)
 
 -- what a file of a command that reads a list holds is a well formed list
 pub suits_of_list : (command : Command) (rate : Rate) (held : Content)
@@ -147,11 +173,13 @@ pub media_suits : (log : Bool) (held : Content) → Suits (cond log kinds.Log ki
     → (rows : List MediaRow) × (held ≡ content.Rows rows)
 media_suits log (content.Rows rows) s = (rows, refl)
 media_suits true (content.Events list) s = absurd s
+media_suits true (content.Noted list said) s = absurd s
 media_suits true (content.Value value) s = absurd s
 media_suits true (content.Root object) s = absurd s
 media_suits true (content.Film timeline) s = absurd s
 media_suits true (content.Commands commands) s = absurd s
 media_suits false (content.Events list) s = absurd s
+media_suits false (content.Noted list said) s = absurd s
 media_suits false (content.Value value) s = absurd s
 media_suits false (content.Root object) s = absurd s
 media_suits false (content.Film timeline) s = absurd s
@@ -235,6 +263,32 @@ held_as command other held known more file files result e f h =
     (subst (λ c. Suffices (λ target answer.
     AnswersHeld other (file ∷ files) target (c ∷ more) answer) file.name result) (sym f) h)
 
+-- what is planned of a list that is written again is planned for its command
+pub again_as : (command : Command) (rate : Rate) (drop wide noted : Bool) (held : Content)
+    (more : List Content) (file : Source) (files : List Source) (result : Result Planned Refusal)
+    → command ≡ ListToList rate drop wide noted
+    → ((rate : Rate) (file : Source) (files : List Source) (more : List Content)
+    → Suffices (λ target answer. AnswersHeld (ListToList rate drop wide noted) (file ∷ files) target
+    (held ∷ more) answer) file.name result)
+    → Suffices (λ target answer. AnswersHeld command (file ∷ files) target (held ∷ more) answer)
+    file.name result
+again_as command rate drop wide noted held more file files result e h =
+    held_as command (ListToList rate drop wide noted) held held more file files result e refl
+    (h rate file files more)
+
+-- and so is what is planned of one that is conformed and written
+pub objects_as : (command : Command) (rate : Rate) (older noted : Bool) (held : Content)
+    (more : List Content) (file : Source) (files : List Source) (result : Result Planned Refusal)
+    → command ≡ ListToObjects rate older noted
+    → ((rate : Rate) (file : Source) (files : List Source)
+    → Suffices (λ target answer. AnswersHeld (ListToObjects rate older noted) (file ∷ files) target
+    (held ∷ more) answer) file.name result)
+    → Suffices (λ target answer. AnswersHeld command (file ∷ files) target (held ∷ more) answer)
+    file.name result
+objects_as command rate older noted held more file files result e h =
+    held_as command (ListToObjects rate older noted) held held more file files result e refl
+    (h rate file files)
+
 -- the media list after a list is the one that was read
 pub media_is : (media : MediaRows) → media_in (media_content media) ≡ media
 media_is None = refl
@@ -258,6 +312,23 @@ of_conformed name list media Is timeline (Ok planned) c h =
     λ target. Conformed timeline c.is c.accepted c.few (h target)
 of_conformed name list media Is timeline (Err refusal) c h =
     λ target. refused_conformed name list media (Is target) timeline refusal c (h target)
+
+refused_noted : (name : List ℕ) (list : EventList) (notes : List Note)
+    (Is : Timeline → Answer → Type 0) (timeline noted : Timeline) (refusal : Refusal)
+    → IsNoted timeline list notes noted → IsRefused (λ why. Is noted (refused name why)) refusal
+    → IsRefused (λ why. AnswersNoted list notes Is timeline (refused name why)) refusal
+refused_noted name list notes Is timeline noted (Broken reason) is h = (noted, is, h)
+refused_noted name list notes Is timeline noted Memory is h = tt
+
+-- what is planned of a timeline with notes is planned of it
+pub of_noted : (name : List ℕ) (list : EventList) (notes : List Note)
+    (Is : Option (List ℕ) → Timeline → Answer → Type 0) (timeline noted : Timeline)
+    (result : Result Planned Refusal) → IsNoted timeline list notes noted
+    → Suffices (λ target answer. Is target noted answer) name result
+    → Suffices (λ target answer. AnswersNoted list notes (Is target) timeline answer) name result
+of_noted name list notes Is timeline noted (Ok planned) is h = λ target. (noted, is, h target)
+of_noted name list notes Is timeline noted (Err refusal) is h =
+    λ target. refused_noted name list notes (Is target) timeline noted refusal is (h target)
 
 -- what a list conforms to
 pub conformed_to : (list : EventList) (media : MediaRows) (result : Result Timeline ConformFault)
@@ -307,25 +378,28 @@ unsound_frames asked name timeline fault (Broken reason) is told =
 unsound_frames asked name timeline fault Memory is told = λ target. tt
 
 -- how one is refused where it is to be written as a list
-pub unsound_list : (drop wide : Bool) (name : List ℕ) (media : MediaRows) (timeline : Timeline)
+pub unsound_list : (notes drop wide : Bool) (name : List ℕ) (media : MediaRows) (timeline :
+    Timeline)
     (fault : CoordFault) (refusal : Refusal) → IsFaultOf timeline fault
     → IsRefused (λ why. (fault ≢ coord.Memory) × (why ≡ coord_fault_text fault)) refusal
-    → Suffices (λ target answer. AnswersCarried drop wide name media target timeline answer) name
+    → Suffices (λ target answer. AnswersCarried notes drop wide name media target timeline
+    answer) name
     (Err refusal)
-unsound_list drop wide name media timeline fault (Broken reason) is told =
+unsound_list notes drop wide name media timeline fault (Broken reason) is told =
     λ target. NotSound fault told.0 is (ap (refused name) told.1)
-unsound_list drop wide name media timeline fault Memory is told = λ target. tt
+unsound_list notes drop wide name media timeline fault Memory is told = λ target. tt
 
 -- how a sound timeline is refused that a list doesn't carry
-pub left_as : (drop wide : Bool) (name : List ℕ) (media : MediaRows) (timeline : Timeline)
+pub left_as : (notes drop wide : Bool) (name : List ℕ) (media : MediaRows) (timeline : Timeline)
     (fault : NotCarried) (refusal : Refusal) → IsFaultless timeline
     → IsNotCarried timeline media drop wide fault
     → IsRefused (λ why. (fault ≢ carried.Memory) × (why ≡ not_carried_text fault)) refusal
-    → Suffices (λ target answer. AnswersCarried drop wide name media target timeline answer) name
+    → Suffices (λ target answer. AnswersCarried notes drop wide name media target timeline
+    answer) name
     (Err refusal)
-left_as drop wide name media timeline fault (Broken reason) sound is told =
+left_as notes drop wide name media timeline fault (Broken reason) sound is told =
     λ target. Left sound fault told.0 is (ap (refused name) told.1)
-left_as drop wide name media timeline fault Memory sound is told = λ target. tt
+left_as notes drop wide name media timeline fault Memory sound is told = λ target. tt
 
 -- the list of a timeline's events, asked for with this media list
 carried_with : (t : Timeline) (media : MediaRows) (drop wide : Bool)

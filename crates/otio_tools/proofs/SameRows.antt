@@ -6,7 +6,7 @@ use Rattle.source_files.specs.Formats.{Holds}
 use Rattle.source_files.specs.Reading.{Held, Source, IsRead, AreRead}
 use Rattle.source_files.specs.declared.kinds.Kind.TheVariants as kinds
 use Rattle.source_files.specs.declared.kinds.Content.{Content}
-use Rattle.source_files.specs.declared.kinds.Content.TheVariants.{Value, Root, Film, Events, Rows, Commands}
+use Rattle.source_files.specs.declared.kinds.Content.TheVariants.{Value, Root, Film, Events, Noted, Rows, Commands}
 use Rattle.source_files.proofs.Order.{each_more}
 use Rattle.command_words.specs.Asked.{OtherNames}
 use Rattle.command_words.proofs.Drilling.{not_both as never_drill}
@@ -90,6 +90,7 @@ swap_inputs held (f ∷ front) s t (Events list ∷ cs) rows e =
     (swap_inputs held front s t cs rows e.1)
 swap_inputs held (f ∷ front) s t (Value value ∷ cs) rows e = refl
 swap_inputs held (f ∷ front) s t (Root object ∷ cs) rows e = refl
+swap_inputs held (f ∷ front) s t (Noted noted said ∷ cs) rows e = refl
 swap_inputs held (f ∷ front) s t (Rows said ∷ cs) rows e = refl
 swap_inputs held (f ∷ front) s t (Commands commands ∷ cs) rows e = refl
 
@@ -109,6 +110,8 @@ swap_held ToJson held file front s t (Events list) cs rows target answer e h =
     absurd h
 swap_held ToJson held file front s t (Rows said) cs rows target answer e h =
     absurd h
+swap_held ToJson held file front s t (Noted noted said) cs rows target answer e h =
+    absurd h
 swap_held ToJson held file front s t (Commands commands) cs rows target answer e h =
     absurd h
 swap_held LogToMedia held file front s t (Value value) cs rows target answer e h =
@@ -121,6 +124,8 @@ swap_held LogToMedia held file front s t (Events list) cs rows target answer e h
     absurd h
 swap_held LogToMedia held file front s t (Rows said) cs rows target answer e h =
     h
+swap_held LogToMedia held file front s t (Noted noted said) cs rows target answer e h =
+    absurd h
 swap_held LogToMedia held file front s t (Commands commands) cs rows target answer e h =
     absurd h
 swap_held (ToObjects older) held file front s t (Value value) cs rows target answer e h =
@@ -133,47 +138,72 @@ swap_held (ToObjects older) held file front s t (Events list) cs rows target ans
     absurd h
 swap_held (ToObjects older) held file front s t (Rows said) cs rows target answer e h =
     absurd h
+swap_held (ToObjects older) held file front s t (Noted noted said) cs rows target answer e h =
+    absurd h
 swap_held (ToObjects older) held file front s t (Commands commands) cs rows target answer e h =
     absurd h
-swap_held (ListToList rate drop wide) held file front s t (Value value) cs rows target answer e h =
+swap_held (ListToList rate drop wide notes) held file front s t (Value value) cs rows target
+    answer e h =
     absurd h
-swap_held (ListToList rate drop wide) held file front s t (Root object) cs rows target answer e h =
+swap_held (ListToList rate drop wide notes) held file front s t (Root object) cs rows target
+    answer e h =
     absurd h
-swap_held (ListToList rate drop wide) held file front s t (Film timeline) cs rows
+swap_held (ListToList rate drop wide notes) held file front s t (Film timeline) cs rows
     target answer e h =
     absurd h
-swap_held (ListToList rate drop wide) held file front s t (Events list) cs rows target answer e h =
+swap_held (ListToList rate drop wide notes) held file front s t (Events list) cs rows target
+    answer e h =
     h
-swap_held (ListToList rate drop wide) held file front s t (Rows said) cs rows target answer e h =
+swap_held (ListToList rate drop wide notes) held file front s t (Rows said) cs rows target answer
+    e h =
     absurd h
-swap_held (ListToList rate drop wide) held file front s t (Commands commands) cs rows
-    target answer e h =
-    absurd h
-swap_held (ListToObjects rate older) held file front s t (Value value) cs rows target answer e h =
-    absurd h
-swap_held (ListToObjects rate older) held file front s t (Root object) cs rows target answer e h =
-    absurd h
-swap_held (ListToObjects rate older) held file front s t (Film timeline) cs rows target answer e h =
-    absurd h
-swap_held (ListToObjects rate older) held file front s t (Events list) cs rows target answer e h =
+swap_held (ListToList rate drop wide notes) held file front s t (Noted list said) cs rows target
+    answer e h =
     h
-swap_held (ListToObjects rate older) held file front s t (Rows said) cs rows target answer e h =
-    absurd h
-swap_held (ListToObjects rate older) held file front s t (Commands commands) cs rows
+swap_held (ListToList rate drop wide notes) held file front s t (Commands commands) cs rows
     target answer e h =
     absurd h
-swap_held (TimelineToList drop wide) held file front s t (Value value) cs rows target answer e h =
+swap_held (ListToObjects rate older notes) held file front s t (Value value) cs rows target
+    answer e h =
     absurd h
-swap_held (TimelineToList drop wide) held file front s t (Root object) cs rows target answer e h =
+swap_held (ListToObjects rate older notes) held file front s t (Root object) cs rows target
+    answer e h =
     absurd h
-swap_held (TimelineToList drop wide) held file front s t (Film timeline) cs rows target answer e h =
+swap_held (ListToObjects rate older notes) held file front s t (Film timeline) cs rows target
+    answer e h =
+    absurd h
+swap_held (ListToObjects rate older notes) held file front s t (Events list) cs rows target
+    answer e h =
     h
-swap_held (TimelineToList drop wide) held file front s t (Events list) cs rows target answer e h =
+swap_held (ListToObjects rate older notes) held file front s t (Rows said) cs rows target answer
+    e h =
     absurd h
-swap_held (TimelineToList drop wide) held file front s t (Rows said) cs rows target answer e h =
+swap_held (ListToObjects rate older notes) held file front s t (Noted list said) cs rows target
+    answer e h =
+    h
+swap_held (ListToObjects rate older notes) held file front s t (Commands commands) cs rows target
+    answer e h =
     absurd h
-swap_held (TimelineToList drop wide) held file front s t (Commands commands) cs rows
-    target answer e h =
+swap_held (TimelineToList drop wide notes) held file front s t (Value value) cs rows target
+    answer e h =
+    absurd h
+swap_held (TimelineToList drop wide notes) held file front s t (Root object) cs rows target
+    answer e h =
+    absurd h
+swap_held (TimelineToList drop wide notes) held file front s t (Film timeline) cs rows target
+    answer e h =
+    h
+swap_held (TimelineToList drop wide notes) held file front s t (Events list) cs rows target
+    answer e h =
+    absurd h
+swap_held (TimelineToList drop wide notes) held file front s t (Rows said) cs rows target answer
+    e h =
+    absurd h
+swap_held (TimelineToList drop wide notes) held file front s t (Noted noted said) cs rows target
+    answer e h =
+    absurd h
+swap_held (TimelineToList drop wide notes) held file front s t (Commands commands) cs rows target
+    answer e h =
     absurd h
 swap_held (Frames asked) held file front s t (Value value) cs rows target answer e h =
     absurd h
@@ -184,6 +214,8 @@ swap_held (Frames asked) held file front s t (Film timeline) cs rows target answ
 swap_held (Frames asked) held file front s t (Events list) cs rows target answer e h =
     absurd h
 swap_held (Frames asked) held file front s t (Rows said) cs rows target answer e h =
+    absurd h
+swap_held (Frames asked) held file front s t (Noted noted said) cs rows target answer e h =
     absurd h
 swap_held (Frames asked) held file front s t (Commands commands) cs rows target answer e h =
     absurd h
@@ -197,8 +229,10 @@ swap_held (ListFrames rate asked) held file front s t (Events list) cs rows targ
     h
 swap_held (ListFrames rate asked) held file front s t (Rows said) cs rows target answer e h =
     absurd h
-swap_held (ListFrames rate asked) held file front s t (Commands commands) cs rows
-    target answer e h =
+swap_held (ListFrames rate asked) held file front s t (Noted noted said) cs rows target answer e h =
+    absurd h
+swap_held (ListFrames rate asked) held file front s t (Commands commands) cs rows target answer e
+    h =
     absurd h
 swap_held Stat held file front s t (Value value) cs rows target answer e h =
     absurd h
@@ -209,6 +243,8 @@ swap_held Stat held file front s t (Film timeline) cs rows target answer e h =
 swap_held Stat held file front s t (Events list) cs rows target answer e h =
     absurd h
 swap_held Stat held file front s t (Rows said) cs rows target answer e h =
+    absurd h
+swap_held Stat held file front s t (Noted noted said) cs rows target answer e h =
     absurd h
 swap_held Stat held file front s t (Commands commands) cs rows target answer e h =
     absurd h
@@ -222,6 +258,8 @@ swap_held (ListStat rate) held file front s t (Events list) cs rows target answe
     h
 swap_held (ListStat rate) held file front s t (Rows said) cs rows target answer e h =
     absurd h
+swap_held (ListStat rate) held file front s t (Noted noted said) cs rows target answer e h =
+    absurd h
 swap_held (ListStat rate) held file front s t (Commands commands) cs rows target answer e h =
     absurd h
 swap_held (Pull handles) held file front s t (Value value) cs rows target answer e h =
@@ -233,6 +271,8 @@ swap_held (Pull handles) held file front s t (Film timeline) cs rows target answ
 swap_held (Pull handles) held file front s t (Events list) cs rows target answer e h =
     absurd h
 swap_held (Pull handles) held file front s t (Rows said) cs rows target answer e h =
+    absurd h
+swap_held (Pull handles) held file front s t (Noted noted said) cs rows target answer e h =
     absurd h
 swap_held (Pull handles) held file front s t (Commands commands) cs rows target answer e h =
     absurd h
@@ -246,14 +286,17 @@ swap_held (ListPull rate handles) held file front s t (Events list) cs rows targ
     h
 swap_held (ListPull rate handles) held file front s t (Rows said) cs rows target answer e h =
     absurd h
-swap_held (ListPull rate handles) held file front s t (Commands commands) cs rows
-    target answer e h =
+swap_held (ListPull rate handles) held file front s t (Noted noted said) cs rows target answer e h =
+    absurd h
+swap_held (ListPull rate handles) held file front s t (Commands commands) cs rows target answer e
+    h =
     absurd h
 swap_held Edit held file [] s t (Value value) [] rows target answer e h = absurd h
 swap_held Edit held file [] s t (Root object) [] rows target answer e h = absurd h
 swap_held Edit held file [] s t (Film timeline) [] rows target answer e h = absurd h
 swap_held Edit held file [] s t (Events list) [] rows target answer e h = absurd h
 swap_held Edit held file [] s t (Rows said) [] rows target answer e h = absurd h
+swap_held Edit held file [] s t (Noted noted said) [] rows target answer e h = absurd h
 swap_held Edit held file [] s t (Commands commands) [] rows target answer e h = absurd h
 swap_held Edit held file [] s t c (d ∷ cs) rows target answer e h = absurd e.1
 swap_held Edit held file (f ∷ front) s t c [] rows target answer e h = absurd e.1
@@ -271,12 +314,17 @@ swap_held Edit held file (f ∷ front) s t (Film timeline) (Events events ∷ cs
     h = absurd h
 swap_held Edit held file (f ∷ front) s t (Film timeline) (Rows said ∷ cs) rows target answer e
     h = absurd h
-swap_held Edit held file (f ∷ front) s t (Film timeline) (Commands commands ∷ cs) rows
-    target answer e
+swap_held Edit held file (f ∷ front) s t (Film timeline) (Noted noted said ∷ cs) rows target
+    answer e
+    h = absurd h
+swap_held Edit held file (f ∷ front) s t (Film timeline) (Commands commands ∷ cs) rows target
+    answer e
     h = h
 swap_held Edit held file (f ∷ front) s t (Events list) (d ∷ cs) rows target answer e h =
     absurd h
 swap_held Edit held file (f ∷ front) s t (Rows said) (d ∷ cs) rows target answer e h =
+    absurd h
+swap_held Edit held file (f ∷ front) s t (Noted noted said) (d ∷ cs) rows target answer e h =
     absurd h
 swap_held Edit held file (f ∷ front) s t (Commands commands) (d ∷ cs) rows target answer e h =
     absurd h
@@ -285,6 +333,7 @@ swap_held (ListEdit rate) held file [] s t (Root object) [] rows target answer e
 swap_held (ListEdit rate) held file [] s t (Film timeline) [] rows target answer e h = absurd h
 swap_held (ListEdit rate) held file [] s t (Events list) [] rows target answer e h = absurd h
 swap_held (ListEdit rate) held file [] s t (Rows said) [] rows target answer e h = absurd h
+swap_held (ListEdit rate) held file [] s t (Noted noted said) [] rows target answer e h = absurd h
 swap_held (ListEdit rate) held file [] s t (Commands commands) [] rows target answer e h = absurd h
 swap_held (ListEdit rate) held file [] s t c (d ∷ cs) rows target answer e h = absurd e.1
 swap_held (ListEdit rate) held file (f ∷ front) s t c [] rows target answer e h = absurd e.1
@@ -310,13 +359,19 @@ swap_held (ListEdit rate) held file (f ∷ front) s t (Events list) (Events even
 swap_held (ListEdit rate) held file (f ∷ front) s t (Events list) (Rows said ∷ cs) rows
     target answer e
     h = absurd h
+swap_held (ListEdit rate) held file (f ∷ front) s t (Events list) (Noted noted said ∷ cs) rows
+    target answer e
+    h = absurd h
 swap_held (ListEdit rate) held file (f ∷ front) s t (Events list) (Commands commands ∷ cs) rows
     target answer e
     h = h
 swap_held (ListEdit rate) held file (f ∷ front) s t (Rows said) (d ∷ cs) rows target answer e h =
     absurd h
-swap_held (ListEdit rate) held file (f ∷ front) s t (Commands commands) (d ∷ cs) rows
-    target answer e h =
+swap_held (ListEdit rate) held file (f ∷ front) s t (Noted noted said) (d ∷ cs) rows target
+    answer e h =
+    absurd h
+swap_held (ListEdit rate) held file (f ∷ front) s t (Commands commands) (d ∷ cs) rows target
+    answer e h =
     absurd h
 swap_held Cat held file front s t c cs rows target answer e h =
     subst (λ i. AnswersOpened (media_behind (c ∷ (cs ++ Rows rows ∷ []))) i

@@ -45,7 +45,7 @@ use Rattle.otio_model.specs.declared.roots.Object.{Timeline as ObjectOfTimeline}
 use Rattle.command_words.specs.declared.tools.ToolAsked.{ToolAsked}
 use Rattle.otio_tools.proofs.Planning.{held_planned, media_suits, stop_planned}
 use Rattle.otio_tools.specs.declared.planned.Planned.{Planned}
-use Rattle.otio_tools.specs.declared.planned.Planned.TheVariants.{Events, Value, Root, OldRoot, Rows, Edited, Listed, Text, Media}
+use Rattle.otio_tools.specs.declared.planned.Planned.TheVariants.{Events, Noted, Value, Root, OldRoot, Rows, Edited, Listed, Text, Media}
 
 -- ---- the names of lists
 
@@ -98,9 +98,9 @@ no_edit_several Stat e t = t
 no_edit_several (ListStat rate) e t = t
 no_edit_several (Pull handles) e t = t
 no_edit_several (ListPull rate handles) e t = t
-no_edit_several (ListToList rate drop wide) e t = t
-no_edit_several (ListToObjects rate older) e t = t
-no_edit_several (TimelineToList drop wide) e t = t
+no_edit_several (ListToList rate drop wide notes) e t = t
+no_edit_several (ListToObjects rate older notes) e t = t
+no_edit_several (TimelineToList drop wide notes) e t = t
 no_edit_several (ToObjects older) e t = t
 no_edit_several ToJson e t = t
 no_edit_several LogToMedia e t = t
@@ -133,9 +133,9 @@ asked_as Stat name others target e = refl
 asked_as (ListStat rate) name others target e = refl
 asked_as (Pull handles) name others target e = refl
 asked_as (ListPull rate handles) name others target e = refl
-asked_as (ListToList rate drop wide) name others target e = refl
-asked_as (ListToObjects rate older) name others target e = refl
-asked_as (TimelineToList drop wide) name others target e = refl
+asked_as (ListToList rate drop wide notes) name others target e = refl
+asked_as (ListToObjects rate older notes) name others target e = refl
+asked_as (TimelineToList drop wide notes) name others target e = refl
 asked_as (ToObjects older) name others target e = refl
 asked_as ToJson name others target e = refl
 asked_as LogToMedia name others target e = refl
@@ -152,6 +152,7 @@ pub leaves_none : (command : Command) (contents : List Content) (planned : Plann
     → (EditsTimeline command → ⊥) → (IsDesk planned → ⊥) → LeavesWork command contents planned
 leaves_none command contents (Edited desk) other none = absurd (none tt)
 leaves_none command contents (Events list drop wide) other none = other
+leaves_none command contents (Noted list said drop wide) other none = other
 leaves_none command contents (Value value) other none = other
 leaves_none command contents (Root object) other none = other
 leaves_none command contents (OldRoot object) other none = other
@@ -223,6 +224,7 @@ media_editable (Some name) (c ∷ d ∷ cs) s = absurd s.1
 film_editable : (held : Content) → Suits kinds.Timeline held → IsEditable held
 film_editable (content.Film timeline) s = s
 film_editable (content.Commands commands) s = absurd s
+film_editable (content.Noted noted said) s = absurd s
 film_editable (content.Rows rows) s = absurd s
 film_editable (content.Events list) s = absurd s
 film_editable (content.Value value) s = absurd s
@@ -241,6 +243,7 @@ list_editable held kind e s = list_by held (subst (λ k. Suits k held) e.1 s)
     list_by : (held : Content) → Suits (kinds.List e.0) held → IsEditable held
     list_by (content.Events list) s = s
     list_by (content.Commands commands) s = absurd s
+    list_by (content.Noted noted said) s = absurd s
     list_by (content.Rows rows) s = absurd s
     list_by (content.Film timeline) s = absurd s
     list_by (content.Value value) s = absurd s
@@ -260,9 +263,9 @@ input_editable Stat name held e s = absurd (cc e)
 input_editable (ListStat rate) name held e s = absurd (cc e)
 input_editable (Pull handles) name held e s = absurd (cc e)
 input_editable (ListPull rate handles) name held e s = absurd (cc e)
-input_editable (ListToList rate drop wide) name held e s = absurd (cc e)
-input_editable (ListToObjects rate older) name held e s = absurd (cc e)
-input_editable (TimelineToList drop wide) name held e s = absurd (cc e)
+input_editable (ListToList rate drop wide notes) name held e s = absurd (cc e)
+input_editable (ListToObjects rate older notes) name held e s = absurd (cc e)
+input_editable (TimelineToList drop wide notes) name held e s = absurd (cc e)
 input_editable (ToObjects older) name held e s = absurd (cc e)
 input_editable ToJson name held e s = absurd (cc e)
 input_editable LogToMedia name held e s = absurd (cc e)
@@ -313,6 +316,8 @@ inputs_held command (name ∷ names) files (content.Value t ∷ cs) rows l a =
     absurd (All-head IsEditable (content.Value t) cs a)
 inputs_held command (name ∷ names) files (content.Root t ∷ cs) rows l a =
     absurd (All-head IsEditable (content.Root t) cs a)
+inputs_held command (name ∷ names) files (content.Noted t said ∷ cs) rows l a =
+    absurd (All-head IsEditable (content.Noted t said) cs a)
 inputs_held command (name ∷ names) files (content.Rows t ∷ cs) rows l a =
     absurd (All-head IsEditable (content.Rows t) cs a)
 inputs_held command (name ∷ names) files (content.Commands t ∷ cs) rows l a =
@@ -330,6 +335,8 @@ media_held_behind (content.Value t ∷ cs) rows a =
     absurd (All-head IsEditable (content.Value t) cs a)
 media_held_behind (content.Root t ∷ cs) rows a =
     absurd (All-head IsEditable (content.Root t) cs a)
+media_held_behind (content.Noted t said ∷ cs) rows a =
+    absurd (All-head IsEditable (content.Noted t said) cs a)
 media_held_behind (content.Rows t ∷ cs) rows a =
     absurd (All-head IsEditable (content.Rows t) cs a)
 media_held_behind (content.Commands t ∷ cs) rows a =
@@ -371,9 +378,9 @@ held_several Stat files target contents answer e h = absurd (cc e)
 held_several (ListStat rate) files target contents answer e h = absurd (cc e)
 held_several (Pull handles) files target contents answer e h = absurd (cc e)
 held_several (ListPull rate handles) files target contents answer e h = absurd (cc e)
-held_several (ListToList rate drop wide) files target contents answer e h = absurd (cc e)
-held_several (ListToObjects rate older) files target contents answer e h = absurd (cc e)
-held_several (TimelineToList drop wide) files target contents answer e h = absurd (cc e)
+held_several (ListToList rate drop wide notes) files target contents answer e h = absurd (cc e)
+held_several (ListToObjects rate older notes) files target contents answer e h = absurd (cc e)
+held_several (TimelineToList drop wide notes) files target contents answer e h = absurd (cc e)
 held_several (ToObjects older) files target contents answer e h = absurd (cc e)
 held_several ToJson files target contents answer e h = absurd (cc e)
 held_several LogToMedia files target contents answer e h = absurd (cc e)

@@ -23,7 +23,7 @@ use Rattle.otio_tools.specs.Run.{Streams}
 use Rattle.otio_tools.specs.Worked.{AskNoEdit, IsWorkOf, LeavesDesk, WorksOn}
 use Rattle.otio_tools.specs.declared.Desk.{Desk}
 use Rattle.otio_tools.specs.declared.planned.Planned.{Planned}
-use Rattle.otio_tools.specs.declared.planned.Planned.TheVariants.{Events, Value, Root, OldRoot, Rows, Edited, Listed, Text, Media}
+use Rattle.otio_tools.specs.declared.planned.Planned.TheVariants.{Events, Noted, Value, Root, OldRoot, Rows, Edited, Listed, Text, Media}
 use Rattle.otio_tools.specs.declared.Status.{Status}
 use Rattle.otio_tools.specs.declared.Status.TheVariants.{Done, Usage, Refused, Input, Output, Memory}
 
@@ -74,9 +74,9 @@ edit_named Edit verbs.Pull name others target given r e =
 edit_named (ListEdit rate) verbs.Pull name others target given r e =
     absurd (not_named (Pull r.asked.handles) (λ q. ListPull q r.asked.handles) (ListEdit rate)
     (name ∷ []) r.asked.rate r.asked.means (λ k. cc k) (λ q k. cc k))
-edit_named (ListToList rate drop wide) verb name others target given r e = absurd e
-edit_named (ListToObjects rate older) verb name others target given r e = absurd e
-edit_named (TimelineToList drop wide) verb name others target given r e = absurd e
+edit_named (ListToList rate drop wide notes) verb name others target given r e = absurd e
+edit_named (ListToObjects rate older notes) verb name others target given r e = absurd e
+edit_named (TimelineToList drop wide notes) verb name others target given r e = absurd e
 edit_named (ToObjects older) verb name others target given r e = absurd e
 edit_named ToJson verb name others target given r e = absurd e
 edit_named LogToMedia verb name others target given r e = absurd e
@@ -100,12 +100,12 @@ scripted_by Edit verb name others target given r =
 scripted_by (ListEdit rate) verb name others target given r =
     some_named (ListEdit rate) given.script others.script tt
     (edit_named (ListEdit rate) verb name others target given r tt) r.script_is
-scripted_by (ListToList rate drop wide) verb name others target given r =
-    none_named (ListToList rate drop wide) others.script (λ e. e) r.script_is
-scripted_by (ListToObjects rate older) verb name others target given r =
-    none_named (ListToObjects rate older) others.script (λ e. e) r.script_is
-scripted_by (TimelineToList drop wide) verb name others target given r =
-    none_named (TimelineToList drop wide) others.script (λ e. e) r.script_is
+scripted_by (ListToList rate drop wide notes) verb name others target given r =
+    none_named (ListToList rate drop wide notes) others.script (λ e. e) r.script_is
+scripted_by (ListToObjects rate older notes) verb name others target given r =
+    none_named (ListToObjects rate older notes) others.script (λ e. e) r.script_is
+scripted_by (TimelineToList drop wide notes) verb name others target given r =
+    none_named (TimelineToList drop wide notes) others.script (λ e. e) r.script_is
 scripted_by (ToObjects older) verb name others target given r =
     none_named (ToObjects older) others.script (λ e. e) r.script_is
 scripted_by ToJson verb name others target given r =
@@ -148,6 +148,7 @@ work_of : (command : Command) (name : List ℕ) (others : OtherNames) (target : 
 work_of command name others target held (Edited desk) before e w =
     record { contents = w.0; read = w.1; desk = desk; is = refl; work = w.2 }
 work_of command name others target held (Events list drop wide) before e w = absurd (w.2 e)
+work_of command name others target held (Noted list said drop wide) before e w = absurd (w.2 e)
 work_of command name others target held (Value value) before e w = absurd (w.2 e)
 work_of command name others target held (Root object) before e w = absurd (w.2 e)
 work_of command name others target held (OldRoot object) before e w = absurd (w.2 e)
@@ -227,6 +228,7 @@ desk_alone : (command : Command) (planned : Planned) (before : Option Desk)
     → IsDeskFor command planned → (EditsTimeline command → ⊥) → desk_planned planned before ≡ before
 desk_alone command (Edited desk) before is other = absurd (other (is tt))
 desk_alone command (Events list drop wide) before is other = refl
+desk_alone command (Noted list said drop wide) before is other = refl
 desk_alone command (Value value) before is other = refl
 desk_alone command (Root object) before is other = refl
 desk_alone command (OldRoot object) before is other = refl

@@ -1,5 +1,5 @@
 -- The list of a timeline's events: it can be written, and keeps the timeline's frames.
-use Rattle.std.proofs.Common.{◌≡◌, ◌≤◌, Bool, true, false, cond, IsSome, Some, None, length, refl, ap, ◌∙◌}
+use Rattle.std.proofs.Common.{◌≡◌, ◌≤◌, ℕ, Bool, true, false, cond, List, IsSome, Some, None, length, refl, sym, ap, subst, ◌∙◌}
 use Rattle.std.specs.declared.option.Option.{Option}
 use Rattle.limits.specs.Limits.{most_bytes}
 use Rattle.smpte_tc.specs.declared.modes.Mode.{Mode}
@@ -20,8 +20,10 @@ use Rattle.edl_law.proofs.ListShows.{carried_all}
 use Rattle.edl_text.specs.Spelling.{spelling}
 use Rattle.edl_law.specs.Kept.{KeepsFrames}
 use Rattle.edl_law.proofs.KeptFrames.{frames_kept}
-use Rattle.otio_tools.specs.Carried.{HasTexts}
+use Rattle.otio_tools.specs.Carried.{HasTexts, IsTextOf}
+use Rattle.note_law.proofs.NotedKept.{noted_frames_kept}
 use Rattle.otio_tools.specs.Plan.{IsWritableIn}
+use Rattle.otio_tools.proofs.FoundNotes.{found_texts}
 
 -- the text that was written keeps the timeline's frames
 pub written_keeps : (t : Timeline) (rows : MediaRows) (drop wide : Bool) (list : EventList)
@@ -31,6 +33,21 @@ pub written_keeps : (t : Timeline) (rows : MediaRows) (drop wide : Bool) (list :
 written_keeps t rows drop wide list sound calm listed none is texts small =
     frames_kept t rows drop wide list (record { faultless = sound; calm = calm }) listed none is
     texts.title texts.names small
+
+-- so does that with the notes of its clips, and that of either kind
+pub text_keeps : (notes : Bool) (t : Timeline) (rows : MediaRows) (drop wide : Bool)
+    (list : EventList) (text : List ℕ) → IsFaultless t → IsCalm t → AreListed rows
+    → not_carried t rows drop wide ≡ None → IsListOf t rows drop wide list → HasTexts list
+    → IsTextOf notes t drop wide list text → length text ≤ most_bytes → KeepsFrames t rows text
+text_keeps false t rows drop wide list text sound calm listed none is texts p small =
+    subst (KeepsFrames t rows) (sym p) (written_keeps t rows drop wide list sound calm listed
+    none is
+    texts (subst (λ x. length x ≤ most_bytes) p small))
+text_keeps true t rows drop wide list text sound calm listed none is texts p small =
+    subst (KeepsFrames t rows) (sym p.3) (noted_frames_kept t rows drop wide list p.0
+    (record { faultless = sound; calm = calm }) listed none is texts.title texts.names
+    (found_texts t rows drop wide list p.0 calm listed none is p.1 p.2)
+    (subst (λ x. length x ≤ most_bytes) p.3 small))
 
 some_there : (o : Option Mode) → is_there o ≡ true → IsSome o
 some_there None e = absurd (cc e)

@@ -5,7 +5,7 @@ use Rattle.json_text.specs.Layout.{layout}
 use Rattle.source_files.specs.Order.{FirstIsNot}
 use Rattle.source_files.specs.Reading.{Held, Source, IsRead, AreRead, IsRefusedIn}
 use Rattle.source_files.specs.declared.kinds.Content.{Content}
-use Rattle.source_files.specs.declared.kinds.Content.TheVariants.{Value, Root, Film, Events, Rows, Commands}
+use Rattle.source_files.specs.declared.kinds.Content.TheVariants.{Value, Root, Film, Events, Noted, Rows, Commands}
 use Rattle.command_words.specs.Asked.{AskNothing}
 use Rattle.command_words.specs.Drills.{AsksDrill}
 use Rattle.command_words.specs.declared.requests.Command.{Command}
@@ -25,6 +25,10 @@ use Rattle.otio_tools.specs.Carried.{AnswersCarried}
 use Rattle.otio_tools.specs.Conformed.{media_in, AnswersConformed}
 use Rattle.otio_model.specs.declared.roots.Object.{Timeline as ObjectOfTimeline}
 use Rattle.otio_tools.specs.Objects.{AnswersObject}
+use Rattle.edl_text.specs.Spelling.{spelling}
+use Rattle.note_text.specs.Belonging.{below_day}
+use Rattle.note_text.specs.NotedSpelling.{noted_spelling}
+use Rattle.otio_tools.specs.Written.{AnswersNoted}
 use Rattle.otio_tools.specs.Edited.{AnswersEdited}
 use Rattle.otio_tools.specs.Opened.{AnswersOpened, inputs_in, media_behind, names_in}
 use Rattle.otio_tools.specs.Pulled.{AnswersPull}
@@ -47,20 +51,29 @@ AnswersWorked asked files target contents answer = AnswersOpened (media_behind c
 -- layout, in the older family of schemas where that is asked for, a list in its one spelling, with
 -- drop-frame timecode where that is asked for or is in force at its first event line, the timeline
 -- that a list conforms to with the media list after it, written as an object is, the list of a
--- timeline's events with the media list after it, the rows of frames, the counts of items, the
--- pull list, the timeline that a script after it leads to, the one that several become, or the
--- media list of a log. A refusal is told of one of the files.
+-- timeline's events with the media list after it, each with its notes where these are asked for,
+-- the rows of frames, the counts of items, the pull list, the timeline that a script after it leads
+-- to, the one that several become, or the media list of a log. A refusal is told of one of the
+-- files.
 abbrev pub AnswersHeld : Command → List Source → Option (List ℕ) → List Content → Answer → Type 0
 AnswersHeld ToJson files target (Value value ∷ more) answer = answer ≡ done target (layout value)
 AnswersHeld (ToObjects older) (file ∷ files) target (Root object ∷ more) answer =
     AnswersObject older file.name target object answer
-AnswersHeld (ListToList rate drop wide) (file ∷ files) target (Events list ∷ more) answer =
-    AnswersEvents file.name target list (drop || list.drop) wide answer
-AnswersHeld (ListToObjects rate older) (file ∷ files) target (Events list ∷ more) answer =
+AnswersHeld (ListToList rate drop wide notes) (file ∷ files) target (Events list ∷ more) answer =
+    AnswersEvents file.name target list (drop || list.drop) wide
+    (spelling list (drop || list.drop) wide) answer
+AnswersHeld (ListToList rate drop wide notes) (file ∷ files) target (Noted list said ∷ more)
+    answer = AnswersEvents file.name target list (drop || list.drop) wide
+    (noted_spelling list (below_day list.rate (drop || list.drop) said) (drop || list.drop) wide)
+    answer
+AnswersHeld (ListToObjects rate older notes) (file ∷ files) target (Events list ∷ more) answer =
     AnswersConformed file.name list (media_in more)
     (λ t. AnswersObject older file.name target (ObjectOfTimeline t)) answer
-AnswersHeld (TimelineToList drop wide) (file ∷ files) target (Film timeline ∷ more) answer =
-    AnswersCarried drop wide file.name (media_in more) target timeline answer
+AnswersHeld (ListToObjects rate older notes) (file ∷ files) target (Noted list said ∷ more)
+    answer = AnswersConformed file.name list (media_in more) (AnswersNoted list said
+    (λ t. AnswersObject older file.name target (ObjectOfTimeline t))) answer
+AnswersHeld (TimelineToList drop wide notes) (file ∷ files) target (Film timeline ∷ more) answer =
+    AnswersCarried notes drop wide file.name (media_in more) target timeline answer
 AnswersHeld (Frames asked) (file ∷ files) target (Film timeline ∷ more) answer =
     AnswersTimeline asked file.name target timeline answer
 AnswersHeld (ListFrames rate asked) (file ∷ files) target (Events list ∷ more) answer =

@@ -1,6 +1,7 @@
 -- What words ask for: a command, the files in the order in which they are read, and the output.
 use Rattle.std.specs.Prelude.{◌≡◌, ◌||◌, ℕ, Bool, true, false, cond, List, [], ◌∷◌, ◌++◌, Some, None, bytes_eq, codes, map}
 use Rattle.std.specs.declared.option.Option.{Option}
+use Rattle.tick_time.specs.declared.rates.Rate.{Rate}
 use Rattle.source_files.specs.Reading.{Source}
 use Rattle.source_files.specs.declared.kinds.Kind.{Kind}
 use Rattle.source_files.specs.declared.kinds.Kind.TheVariants as kinds
@@ -15,11 +16,15 @@ pub record Asked : Type 0 where
   -- the file that the output goes to; none is the standard output
   pub target : Option (List ℕ)
 
+-- what a list at this rate is read as, with its notes or without
+abbrev pub list_kind : Rate → Bool → Kind
+list_kind rate notes = cond notes (kinds.NotedList rate) (kinds.List rate)
+
 -- what a command reads its file as; one that takes several reads each by its name
 abbrev pub kind_of : Command → Kind
-kind_of (ListToList rate drop wide) = kinds.List rate
-kind_of (ListToObjects rate older) = kinds.List rate
-kind_of (TimelineToList drop wide) = kinds.Timeline
+kind_of (ListToList rate drop wide notes) = list_kind rate notes
+kind_of (ListToObjects rate older notes) = list_kind rate notes
+kind_of (TimelineToList drop wide notes) = kinds.Timeline
 kind_of (ToObjects older) = kinds.Object
 kind_of ToJson = kinds.Json
 kind_of LogToMedia = kinds.Log
@@ -126,9 +131,9 @@ asked_alone command name others target = record {
 
 -- the command edits a timeline
 abbrev pub EditsTimeline : Command → Type 0
-EditsTimeline (ListToList rate drop wide) = ⊥
-EditsTimeline (ListToObjects rate older) = ⊥
-EditsTimeline (TimelineToList drop wide) = ⊥
+EditsTimeline (ListToList rate drop wide notes) = ⊥
+EditsTimeline (ListToObjects rate older notes) = ⊥
+EditsTimeline (TimelineToList drop wide notes) = ⊥
 EditsTimeline (ToObjects older) = ⊥
 EditsTimeline ToJson = ⊥
 EditsTimeline LogToMedia = ⊥
@@ -152,9 +157,9 @@ IsScripted command (Some script) = EditsTimeline command
 
 -- the command lists frames
 abbrev pub ListsFrames : Command → Type 0
-ListsFrames (ListToList rate drop wide) = ⊥
-ListsFrames (ListToObjects rate older) = ⊥
-ListsFrames (TimelineToList drop wide) = ⊥
+ListsFrames (ListToList rate drop wide notes) = ⊥
+ListsFrames (ListToObjects rate older notes) = ⊥
+ListsFrames (TimelineToList drop wide notes) = ⊥
 ListsFrames (ToObjects older) = ⊥
 ListsFrames ToJson = ⊥
 ListsFrames LogToMedia = ⊥

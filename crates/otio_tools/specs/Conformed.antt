@@ -12,7 +12,7 @@ use Rattle.edl_frames.specs.declared.faults.ConformFault.{ConformFault}
 use Rattle.edl_frames.specs.declared.faults.ConformFault.TheVariants.{Memory}
 use Rattle.source_files.specs.Faults.{conform_fault_text}
 use Rattle.source_files.specs.declared.kinds.Content.{Content}
-use Rattle.source_files.specs.declared.kinds.Content.TheVariants.{Value, Root, Film, Events, Rows, Commands}
+use Rattle.source_files.specs.declared.kinds.Content.TheVariants.{Value, Root, Film, Events, Noted, Rows, Commands}
 use Rattle.otio_tools.specs.Forms.{Answer, refused}
 
 -- the media list after a list, where one was read
@@ -23,6 +23,7 @@ media_in (Value value ∷ more) = None
 media_in (Root object ∷ more) = None
 media_in (Film timeline ∷ more) = None
 media_in (Events list ∷ more) = None
+media_in (Noted list notes ∷ more) = None
 media_in (Commands commands ∷ more) = None
 
 -- The first fault of a list that isn't conformed, told of the file of that name; else the answer to

@@ -49,8 +49,8 @@ pub record SendsFrames (held : Held) (name : List ℕ) (media target : Option (L
 -- what words that ask for a timeline written as a list have sent, where the run is done
 abbrev pub KeepsShown : List (List ℕ) → Streams → Status → KnownFiles → Type 0
 KeepsShown words d Done old =
-    (drop wide : Bool) (name : List ℕ) (others : OtherNames) (target : Option (List ℕ))
-    → Ask words (TimelineToList drop wide) name others target
+    (drop wide notes : Bool) (name : List ℕ) (others : OtherNames) (target : Option (List ℕ))
+    → Ask words (TimelineToList drop wide notes) name others target
     → SendsFrames old.held name others.media target d
 KeepsShown words d Usage old = Unit {0}
 KeepsShown words d Refused old = Unit {0}

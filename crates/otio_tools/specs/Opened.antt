@@ -31,6 +31,7 @@ pub record IsConformedTo (list : EventList) (media : MediaRows)
 abbrev pub IsOpened : Content → MediaRows → Timeline → Type 0
 IsOpened (content.Film film) media timeline = timeline ≡ film
 IsOpened (content.Events list) media timeline = IsConformedTo list media timeline
+IsOpened (content.Noted list notes) media timeline = ⊥
 IsOpened (content.Value value) media timeline = ⊥
 IsOpened (content.Root object) media timeline = ⊥
 IsOpened (content.Rows rows) media timeline = ⊥
@@ -51,6 +52,7 @@ abbrev pub IsUnopened : Content → MediaRows → List ℕ → Type 0
 IsUnopened (content.Film film) media why = IsUnsound film why
 IsUnopened (content.Events list) media why = IsUnconformed list media why
     ⊎ ((timeline : Timeline) × IsConformedTo list media timeline × IsUnsound timeline why)
+IsUnopened (content.Noted list notes) media why = ⊥
 IsUnopened (content.Value value) media why = ⊥
 IsUnopened (content.Root object) media why = ⊥
 IsUnopened (content.Rows rows) media why = ⊥
@@ -71,6 +73,7 @@ inputs_in (file ∷ files) (content.Film timeline ∷ more) =
     record { name = file.name; content = content.Film timeline } ∷ inputs_in files more
 inputs_in (file ∷ files) (content.Events list ∷ more) =
     record { name = file.name; content = content.Events list } ∷ inputs_in files more
+inputs_in (file ∷ files) (content.Noted list notes ∷ more) = []
 inputs_in (file ∷ files) (content.Value value ∷ more) = []
 inputs_in (file ∷ files) (content.Root object ∷ more) = []
 inputs_in (file ∷ files) (content.Rows rows ∷ more) = []
@@ -86,6 +89,7 @@ media_behind [] = None
 media_behind (content.Rows rows ∷ more) = Some rows
 media_behind (content.Film timeline ∷ more) = media_behind more
 media_behind (content.Events list ∷ more) = media_behind more
+media_behind (content.Noted list notes ∷ more) = None
 media_behind (content.Value value ∷ more) = None
 media_behind (content.Root object ∷ more) = None
 media_behind (content.Commands commands ∷ more) = None

@@ -1,5 +1,5 @@
 -- What is planned before anything is sent, and how it is carried out.
-use Rattle.std.specs.Prelude.{◌≡◌, ◌<◌, ◌≤◌, ◌^◌, ℕ, Bool, List, [], ◌∷◌, Some, None, Result, Ok, Err, MatchResult}
+use Rattle.std.specs.Prelude.{◌≡◌, ◌<◌, ◌≤◌, ◌^◌, ℕ, Bool, List, [], ◌∷◌, Some, None, Result, Ok, Err, MatchResult, All}
 use Rattle.std.specs.declared.option.Option.{Option}
 use Rattle.std.specs.Global.{Vec}
 use Rattle.json_text.specs.Layout.{layout}
@@ -7,6 +7,9 @@ use Rattle.edl_list.specs.Formed.{IsWellFormed}
 use Rattle.edl_list.specs.declared.list.EventList.{EventList}
 use Rattle.edl_text.specs.Labelled.{IsFirstPast}
 use Rattle.edl_text.specs.Spelling.{spelling}
+use Rattle.note_text.specs.Belonging.{IsNoteOf}
+use Rattle.note_text.specs.NotedSpelling.{noted_spelling}
+use Rattle.note_text.specs.declared.notes.Note.{Note}
 use Rattle.otio_model.specs.Counts.{count as count_below}
 use Rattle.otio_model.specs.declared.timelines.Timeline.{Timeline}
 use Rattle.coord.specs.Soundness.{IsFaultless}
@@ -14,7 +17,7 @@ use Rattle.undo_log.specs.States.{State}
 use Rattle.edit_script.specs.Runs.{Halts}
 use Rattle.edit_script.specs.declared.faults.CommandFault.{CommandFault}
 use Rattle.edit_script.specs.declared.commands.Command as script
-use Rattle.source_files.specs.Formats.{IsOfTables, Suits}
+use Rattle.source_files.specs.Formats.{IsOfTables, Suits, SuitsNotes}
 use Rattle.listings.specs.Rows.{listing_text}
 use Rattle.listings.specs.declared.listing.RowFault.{RowFault}
 use Rattle.listings.specs.declared.listing.RowFault.TheVariants.{Sink, Memory as NoMemory}
@@ -50,11 +53,12 @@ use Rattle.otio_tools.specs.Run.{Streams, Sends, Directs, DirectsFront, DirectsP
 use Rattle.otio_tools.specs.declared.Status.{Status}
 use Rattle.otio_tools.specs.declared.Status.TheVariants as status
 use Rattle.otio_tools.specs.declared.planned.Planned.{Planned}
-use Rattle.otio_tools.specs.declared.planned.Planned.TheVariants.{Events, Value, Root, OldRoot, Rows, Edited, Listed, Text, Media}
+use Rattle.otio_tools.specs.declared.planned.Planned.TheVariants.{Events, Noted, Value, Root, OldRoot, Rows, Edited, Listed, Text, Media}
 
 -- the text of what is to be sent
 abbrev pub text_planned : Planned → List ℕ
 text_planned (Events list drop wide) = spelling list drop wide
+text_planned (Noted list notes drop wide) = noted_spelling list notes drop wide
 text_planned (Value value) = layout value
 text_planned (Root object) = layout (object_json object)
 text_planned (OldRoot object) = layout (old_object_json object)
@@ -120,6 +124,7 @@ IsWorkHeld command contents desk = ⊥
 abbrev pub LeavesWork : Command → List Content → Planned → Type 0
 LeavesWork command contents (Edited desk) = IsWorkHeld command contents desk
 LeavesWork command contents (Events list drop wide) = EditsTimeline command → ⊥
+LeavesWork command contents (Noted list notes drop wide) = EditsTimeline command → ⊥
 LeavesWork command contents (Value value) = EditsTimeline command → ⊥
 LeavesWork command contents (Root object) = EditsTimeline command → ⊥
 LeavesWork command contents (OldRoot object) = EditsTimeline command → ⊥
@@ -138,6 +143,7 @@ LeavesWorkOf asked held planned =
 abbrev pub IsDesk : Planned → Type 0
 IsDesk (Edited desk) = Unit {0}
 IsDesk (Events list drop wide) = ⊥
+IsDesk (Noted list notes drop wide) = ⊥
 IsDesk (Value value) = ⊥
 IsDesk (Root object) = ⊥
 IsDesk (OldRoot object) = ⊥
@@ -153,6 +159,7 @@ IsDeskFor command planned = IsDesk planned → EditsTimeline command
 abbrev pub desk_planned : Planned → Option Desk → Option Desk
 desk_planned (Edited desk) before = Some desk
 desk_planned (Events list drop wide) before = before
+desk_planned (Noted list notes drop wide) before = before
 desk_planned (Value value) before = before
 desk_planned (Root object) before = before
 desk_planned (OldRoot object) before = before
@@ -174,6 +181,7 @@ IsHaltOf timeline commands media why = (state : State) × (fault : CommandFault)
 abbrev pub IsEditable : Content → Type 0
 IsEditable (content.Film timeline) = IsOfTables timeline
 IsEditable (content.Events list) = IsWellFormed list
+IsEditable (content.Noted list notes) = ⊥
 IsEditable (content.Value value) = ⊥
 IsEditable (content.Root object) = ⊥
 IsEditable (content.Rows rows) = ⊥
@@ -210,17 +218,33 @@ Plans asked (Err stop) old new = IsStop asked stop.name.now stop.fault old new
 -- the content is a well formed list
 abbrev pub HasFormedList : Content → Type 0
 HasFormedList (content.Events list) = IsWellFormed list
+HasFormedList (content.Noted list notes) = ⊥
 HasFormedList (content.Value value) = ⊥
 HasFormedList (content.Root object) = ⊥
 HasFormedList (content.Film timeline) = ⊥
 HasFormedList (content.Rows rows) = ⊥
 HasFormedList (content.Commands commands) = ⊥
 
+-- the content is a well formed list with notes of its events
+abbrev pub HasNotedList : Content → Type 0
+HasNotedList (content.Noted list notes) = SuitsNotes list notes
+HasNotedList (content.Events list) = ⊥
+HasNotedList (content.Value value) = ⊥
+HasNotedList (content.Root object) = ⊥
+HasNotedList (content.Film timeline) = ⊥
+HasNotedList (content.Rows rows) = ⊥
+HasNotedList (content.Commands commands) = ⊥
+
 -- a list that can be written in this mode and layout
 pub record IsWritableIn (list : EventList) (drop wide : Bool) : Type 0 where
   pub formed : IsWellFormed list
   pub can : CanBeWritten list drop wide
   pub labelled : IsFirstPast list.rate drop list.events None
+
+-- so can a list with notes
+pub record CanBeNoted (list : EventList) (notes : List Note) (drop wide : Bool) : Type 0 where
+  pub list_can : IsWritableIn list drop wide
+  pub notes_can : All (IsNoteOf list drop) notes
 
 -- a timeline whose rows can be written
 pub record CanBeShown (timeline : Timeline) : Type 0 where
@@ -230,6 +254,7 @@ pub record CanBeShown (timeline : Timeline) : Type 0 where
 -- what is planned can be written
 abbrev pub Fits : Planned → Type 0
 Fits (Events list drop wide) = IsWritableIn list drop wide
+Fits (Noted list notes drop wide) = CanBeNoted list notes drop wide
 Fits (Value value) = Unit {0}
 Fits (Root object) = Unit {0}
 Fits (OldRoot object) = Unit {0}
@@ -241,6 +266,7 @@ Fits (Media list) = Unit {0}
 
 abbrev pub AreRows : Planned → Type 0
 AreRows (Events list drop wide) = ⊥
+AreRows (Noted list notes drop wide) = ⊥
 AreRows (Value value) = ⊥
 AreRows (Root object) = ⊥
 AreRows (OldRoot object) = ⊥

@@ -70,9 +70,9 @@ AnswersTimelines (Tool asked) names target timelines answer =
     AnswersTool asked names target timelines answer
 AnswersTimelines (ListTool rate asked) names target timelines answer =
     AnswersTool asked names target timelines answer
-AnswersTimelines (ListToList rate drop wide) names target timelines answer = ⊥
-AnswersTimelines (ListToObjects rate older) names target timelines answer = ⊥
-AnswersTimelines (TimelineToList drop wide) names target timelines answer = ⊥
+AnswersTimelines (ListToList rate drop wide notes) names target timelines answer = ⊥
+AnswersTimelines (ListToObjects rate older notes) names target timelines answer = ⊥
+AnswersTimelines (TimelineToList drop wide notes) names target timelines answer = ⊥
 AnswersTimelines (ToObjects older) names target timelines answer = ⊥
 AnswersTimelines ToJson names target timelines answer = ⊥
 AnswersTimelines LogToMedia names target timelines answer = ⊥
@@ -95,9 +95,9 @@ HasJoining (Tool asked) count = FitsJoining asked count
 HasJoining (ListTool rate asked) count = FitsJoining asked count
 HasJoining Cat count = Unit {0}
 HasJoining (ListCat rate) count = Unit {0}
-HasJoining (ListToList rate drop wide) count = Unit {0}
-HasJoining (ListToObjects rate older) count = Unit {0}
-HasJoining (TimelineToList drop wide) count = Unit {0}
+HasJoining (ListToList rate drop wide notes) count = Unit {0}
+HasJoining (ListToObjects rate older notes) count = Unit {0}
+HasJoining (TimelineToList drop wide notes) count = Unit {0}
 HasJoining (ToObjects older) count = Unit {0}
 HasJoining ToJson count = Unit {0}
 HasJoining LogToMedia count = Unit {0}

@@ -6,6 +6,9 @@ use Rattle.json_text.specs.Layout.{layout}
 use Rattle.otio_model.specs.declared.roots.Object.{Object, Timeline as ObjectOfTimeline}
 use Rattle.otio_model.specs.declared.timelines.Timeline.{Timeline}
 use Rattle.schema_write.specs.Objects.{json_of, old_json_of}
+use Rattle.edl_list.specs.declared.list.EventList.{EventList}
+use Rattle.note_text.specs.Noted.{IsNoted}
+use Rattle.note_text.specs.declared.notes.Note.{Note}
 use Rattle.listings.specs.ListingTexts.{listed_text}
 use Rattle.listings.specs.declared.asked.Listings.{Listings}
 use Rattle.otio_tools.specs.Forms.{Answer, done}
@@ -25,6 +28,12 @@ timeline_text timeline = layout (object_json (ObjectOfTimeline timeline))
 -- the answer to a timeline that is written
 abbrev pub AnswersWritten : Option (List ℕ) → Timeline → Answer → Type 0
 AnswersWritten target timeline answer = answer ≡ done target (timeline_text timeline)
+
+-- the answer to a timeline that gets the notes of its list and is then answered so
+abbrev pub AnswersNoted : EventList → List Note → (Timeline → Answer → Type 0) → Timeline → Answer
+    → Type 0
+AnswersNoted list notes Answers timeline answer = (noted : Timeline)
+    × IsNoted timeline list notes noted × Answers noted answer
 
 -- the listings of a timeline that are asked for
 abbrev pub listings_text : Timeline → Listings → List ℕ

@@ -2,6 +2,7 @@
 ghost use Rattle.std.specs.Prelude.{◌≡◌, ◌≢◌, ◌⊎◌, ◌<◌, ◌^◌, ℕ, List, None, length, map, string_bytes, suc, IfOk, IfSome};
 ghost use Rattle.dev_io.specs.Calls.{Tells, SendsAll, IsFresh};
 ghost use Rattle.edl_text.specs.Spelling.{spelling};
+ghost use Rattle.note_text.specs.NotedSpelling.{noted_spelling};
 ghost use Rattle.json_text.specs.Layout.{layout};
 ghost use Rattle.listings.specs.Rows.{listing_text};
 ghost use Rattle.media_text.specs.Texts.{media_text};
@@ -17,7 +18,7 @@ ghost use Rattle.otio_tools.specs.Drilled.{EndsDrills};
 ghost use Rattle.otio_tools.specs.Texts.{text_at};
 ghost use Rattle.otio_tools.specs.Kept.{KeepsShown};
 ghost use Rattle.otio_tools.specs.Run.{Completes, Ends, Says, KeepsStill, no_memory, streams};
-ghost use Rattle.otio_tools.specs.Plan.{AreRows, CanBeShown, Carries, Complains, Fits, HasSendCause, IsWritableIn, desk_after, desk_planned, Writes, WritesTo, text_planned, message_about, message_unsent, status_of, status_unsent};
+ghost use Rattle.otio_tools.specs.Plan.{AreRows, CanBeShown, Carries, Complains, Fits, HasSendCause, CanBeNoted, IsWritableIn, desk_after, desk_planned, Writes, WritesTo, text_planned, message_about, message_unsent, status_of, status_unsent};
 ghost use Rattle.source_files.specs.declared.file_faults.ReadFault.TheVariants.{Refused as RefusedFor};
 
 use crate::drilled::serve_drill;
@@ -33,6 +34,7 @@ use json_value::Json;
 use listings::{Listing, Listings, RowFault, write_listings, write_rows};
 use media_list::MediaList;
 use media_text::write_media;
+use note_text::{Notes, write_noted};
 use otio_model::{Object, Timeline};
 use schema_write::{write_object, write_old_object, write_timeline};
 use source_files::{ReadFault, Refusal, SourceFault};
@@ -40,7 +42,7 @@ use std::alloc::Global;
 use std::mem;
 
 const USAGE: &[u8] = b"otio: usage
-  otio convert [--from F] [--to T] [--family N] [--rate R] [--drop] [--wide] [--media LIST] [-o OUT] FILE
+  otio convert [--from F] [--to T] [--family N] [--rate R] [--drop] [--wide] [--notes] [--media LIST] [-o OUT] FILE
   otio cat [--rate R] [--media LIST] [-o OUT] FILE...
   otio stat [--rate R] [--media LIST] [-o OUT] FILE
   otio tool [OPTIONS] [--rate R] [--media LIST] [-o OUT] FILE...
@@ -69,6 +71,12 @@ const USAGE: &[u8] = b"otio: usage
 /// that `--media` names, else with those of the clips' metadata. Refused is the first child that a
 /// list doesn't carry. With `--wide` a list has event numbers of six digits and reels of up to 32
 /// bytes, else numbers of three digits and reels of up to eight bytes.
+///
+/// With `--notes` the locators and color corrections (ASC CDL) of a list, which stand in it as
+/// comments, go with its events: in a list that is written they follow their events, without the
+/// locators whose frame isn't below the day, and in a conformed timeline they are markers and
+/// metadata of the events' items. Those of a timeline's clips follow the events of its list. No
+/// note is a reason to refuse.
 ///
 /// `frames FILE` reads an object too, or a list, which it conforms in the same way, and sends a row
 /// for each record frame and root child of a sound timeline: the frame's number, the child's index
@@ -327,6 +335,12 @@ fn write_planned<W: Out>(alloc: Global, planned: &Planned, out: &mut W) -> Resul
 {
     match planned {
         Planned::Events { list, drop, wide } => write_events(list, *drop, *wide, out),
+        Planned::Noted {
+            list,
+            notes,
+            drop,
+            wide,
+        } => write_noted_events(list, notes, *drop, *wide, out),
         Planned::Value(value) => write_value(value, out),
         Planned::Root(object) => write_root(object, out),
         Planned::OldRoot(object) => write_old_root(object, out),
@@ -351,6 +365,25 @@ fn write_events<W: Out>(
     ensures cause { HasSendCause ⊥ (W.faults out.old) (W.faults out.new) result }
 {
     match write_list(list, drop, wide, out) {
+        Ok(()) => Ok(()),
+        Err(_) => Err(RowFault::Sink),
+    }
+}
+
+// Sends a list with notes.
+fn write_noted_events<W: Out>(
+    list: &EventList,
+    notes: &Notes,
+    drop: bool,
+    wide: bool,
+    out: &mut W,
+) -> Result<(), RowFault>
+    requires { CanBeNoted list.now notes.now drop wide }
+    ensures told { Tells (SendsAll (noted_spelling list.now notes.now drop wide) result)
+        (W.known out.old) (W.known out.new) }
+    ensures cause { HasSendCause ⊥ (W.faults out.old) (W.faults out.new) result }
+{
+    match write_noted(list, notes, drop, wide, out) {
         Ok(()) => Ok(()),
         Err(_) => Err(RowFault::Sink),
     }

@@ -80,8 +80,23 @@ pub fn conformed(
     ensures few { IfOk result (λ timeline. count_below timeline.tracks.children < 2 ^ 32) }
     ensures fault { IfErr result (IsConformFault list media) }
 {
-    let timeline = conform(alloc, &list, media.as_ref());
+    let timeline = conformed_with(alloc, &list, media);
     mem::forget(list);
+    timeline
+}
+
+/// The same of a list that is used again. The media list isn't freed.
+pub fn conformed_with(
+    alloc: Global,
+    list: &EventList,
+    media: Option<MediaList>,
+) -> Result<Timeline, ConformFault>
+    requires { IsWellFormed list.now }
+    ensures timeline { IfOk result (IsConformedTo list.now media) }
+    ensures few { IfOk result (λ timeline. count_below timeline.tracks.children < 2 ^ 32) }
+    ensures fault { IfErr result (IsConformFault list.now media) }
+{
+    let timeline = conform(alloc, list, media.as_ref());
     mem::forget(media);
     timeline
 }

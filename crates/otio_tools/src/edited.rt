@@ -52,6 +52,7 @@ pub fn opened_timeline(
         },
         Content::Value(_) => unreachable!(),
         Content::Root(_) => unreachable!(),
+        Content::Noted(_, _) => unreachable!(),
         Content::Rows(_) => unreachable!(),
         Content::Commands(_) => unreachable!(),
     }

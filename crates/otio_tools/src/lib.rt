@@ -15,6 +15,7 @@ mod drilled;
 mod edited;
 mod frames;
 mod list;
+mod noted;
 mod objects;
 mod planned;
 mod pulled;

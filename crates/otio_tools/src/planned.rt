@@ -3,13 +3,15 @@ ghost use Rattle.std.specs.Prelude.{◌≡◌, ◌≢◌, ◌++◌, ℕ, List, O
 ghost use Rattle.std.specs.Global.{Vec as AnyVec};
 ghost use Rattle.std.specs.Option.{option_copied};
 ghost use Rattle.command_words.specs.declared.requests.Command.{Command as AnyCommand};
+ghost use Rattle.command_words.specs.declared.requests.Command.TheVariants.{ListToList as ListAgain, ListToObjects as ListAsObjects};
+ghost use Rattle.tick_time.specs.declared.rates.Rate.{Rate as AnyRate};
 ghost use Rattle.dev_io.specs.Calls.{Tells};
 ghost use Rattle.source_files.specs.Order.{EachIs};
 ghost use Rattle.source_files.specs.Formats.{Suits};
 ghost use Rattle.source_files.specs.Reading.{RaisedAt, HaveRead, HasStopped, Source as Input};
 ghost use Rattle.edit_script.specs.declared.commands.Command.{Command as Line};
 ghost use Rattle.source_files.specs.declared.kinds.Content.{Content as AnyContent};
-ghost use Rattle.source_files.specs.declared.kinds.Content.TheVariants.{Value, Root, Film, Events as ListOf, Rows, Commands};
+ghost use Rattle.source_files.specs.declared.kinds.Content.TheVariants.{Value, Root, Film, Events as ListOf, Noted as NotedOf, Rows, Commands};
 ghost use Rattle.source_files.specs.declared.kinds.Kind.TheVariants.{Json as AsJson, Object as AsObject, Timeline as AsTimeline, Log as AsLog};
 ghost use Rattle.command_words.specs.Asked.{other_names};
 ghost use Rattle.otio_tools.specs.Asked.{EditsTimeline, IsScripted, asked_alone, asked_for, edit_files, files_alone, is_log as is_log_text, kind_of, media_kind as media_kind_of, one_file};
@@ -17,16 +19,17 @@ ghost use Rattle.otio_tools.specs.Asked as asking;
 ghost use Rattle.otio_tools.specs.Several.{HasJoining};
 ghost use Rattle.otio_tools.specs.Pulled.{HasFewHandles};
 ghost use Rattle.otio_tools.specs.Answer.{AnswersHeld};
-ghost use Rattle.otio_tools.specs.Plan.{Plans, PlansHeld, Suffices, AreContents, AreEditContents, AreEditParts, AreRows, Fits, HasFormedList, IsDesk, IsDeskFor, IsEditable, IsFor, LeavesWork, media_content};
+ghost use Rattle.otio_tools.specs.Plan.{Plans, PlansHeld, Suffices, AreContents, AreEditContents, AreEditParts, AreRows, Fits, HasFormedList, HasNotedList, IsDesk, IsDeskFor, IsEditable, IsFor, LeavesWork, media_content};
 ghost use Rattle.otio_tools.specs.Texts.{text_at};
 
 use crate::Desk;
-use crate::carried::timeline_to_list;
+use crate::carried::{ListWays, timeline_to_list};
 use crate::conformed::{conformed_frames_to_write, conformed_to_write};
 use crate::counted::{conformed_counts_to_write, counts_to_write};
 use crate::edited::{opened_timeline, run_script};
 use crate::frames::frames_to_write;
-use crate::list::list_to_write;
+use crate::list::{list_to_write, noted_list_to_write};
+use crate::noted::noted_to_write;
 use crate::objects::object_to_write;
 use crate::pulled::{conformed_pull_to_write, pull_to_write};
 use crate::several::plan_several;
@@ -37,10 +40,12 @@ use edl_list::EventList;
 use json_value::Json;
 use listings::{Listing, Listings};
 use media_list::MediaList;
+use note_text::Notes;
 use otio_model::{Object, Timeline};
 use source_files::{Content, Kind, ReadFault, Refusal, Source, SourceFault, read_sources};
 use std::alloc::Global;
 use std::mem;
+use tick_time::Rate;
 
 /// What is to be sent.
 #[derive(Drop)]
@@ -49,6 +54,17 @@ pub enum Planned {
     Events {
         /// The list.
         list: EventList,
+        /// Whether it is written with drop-frame timecode.
+        drop: bool,
+        /// Whether it is written in the wide layout.
+        wide: bool,
+    },
+    /// A list with notes, in its one spelling.
+    Noted {
+        /// The list.
+        list: EventList,
+        /// The notes, in the order of their events.
+        notes: Notes,
         /// Whether it is written with drop-frame timecode.
         drop: bool,
         /// Whether it is written in the wide layout.
@@ -201,8 +217,12 @@ fn kind_asked(command: Command) -> Kind
     ensures { result ≡ kind_of command }
 {
     match command {
-        Command::ListToList { rate, .. } => Kind::List(rate),
-        Command::ListToObjects { rate, older: _ } => Kind::List(rate),
+        Command::ListToList { rate, notes, .. } => list_kind(rate, notes),
+        Command::ListToObjects {
+            rate,
+            older: _,
+            notes,
+        } => list_kind(rate, notes),
         Command::TimelineToList { .. } => Kind::Timeline,
         Command::ToObjects { older: _ } => Kind::Object,
         Command::ToJson => Kind::Json,
@@ -234,6 +254,17 @@ fn is_log(name: &str) -> bool
     ensures { result ≡ is_log_text name.now }
 {
     is_log_name(name)
+}
+
+// What a list is read as, with its notes or without.
+pub(crate) fn list_kind(rate: Rate, notes: bool) -> Kind
+    ensures { result ≡ asking.list_kind rate notes }
+{
+    if notes {
+        Kind::NotedList(rate)
+    } else {
+        Kind::List(rate)
+    }
 }
 
 // What the command is to send for what the file of that name and the others hold.
@@ -455,15 +486,23 @@ fn judge(
     ensures desk { IfOk result (λ planned. IsDesk planned → ⊥) }
 {
     match command {
-        Command::ListToList { drop, wide, .. } => {
+        Command::ListToList {
+            rate: _,
+            drop,
+            wide,
+            notes,
+        } => {
             mem::forget(media);
-            list_to_write(list_in(content), drop, wide)
+            list_again(content, notes, drop, wide)
         }
-        Command::ListToObjects { rate: _, older } => {
-            conformed_to_write(alloc, list_in(content), media, older)
-        }
-        Command::TimelineToList { drop, wide } => {
-            timeline_to_list(alloc, timeline_in(content), media, drop, wide)
+        Command::ListToObjects {
+            rate: _,
+            older,
+            notes,
+        } => list_to_objects(alloc, content, notes, media, older),
+        Command::TimelineToList { drop, wide, notes } => {
+            let ways = ListWays { drop, wide, notes };
+            timeline_to_list(alloc, timeline_in(content), media, ways)
         }
         Command::ToObjects { older } => {
             mem::forget(media);
@@ -505,6 +544,49 @@ fn judge(
     }
 }
 
+// What is to be sent of a list that is written again, with its notes where these are asked for.
+fn list_again(content: Content, noted: bool, drop: bool, wide: bool) -> Result<Planned, Refusal>
+    requires { (rate : AnyRate) × Suits (asking.list_kind rate noted) content }
+    ensures owed { (rate : AnyRate) (file : Input) (files : List Input) (more : List AnyContent) →
+        Suffices (λ target answer. AnswersHeld (ListAgain rate drop wide noted) (file ∷ files)
+        target (content ∷ more) answer) file.name result }
+    ensures fits { IfOk result (λ planned. Fits planned) }
+    ensures kind { IfOk result (λ planned. AreRows planned → ⊥) }
+    ensures desk { IfOk result (λ planned. IsDesk planned → ⊥) }
+{
+    if noted {
+        let (list, notes) = noted_in(content);
+        noted_list_to_write(list, notes, drop, wide)
+    } else {
+        list_to_write(list_in(content), drop, wide)
+    }
+}
+
+// What is to be sent of a list that is conformed and written, with its notes where these are asked
+// for.
+fn list_to_objects(
+    alloc: Global,
+    content: Content,
+    noted: bool,
+    media: Option<MediaList>,
+    older: bool,
+) -> Result<Planned, Refusal>
+    requires { (rate : AnyRate) × Suits (asking.list_kind rate noted) content }
+    ensures owed { (rate : AnyRate) (file : Input) (files : List Input) →
+        Suffices (λ target answer. AnswersHeld (ListAsObjects rate older noted) (file ∷ files)
+        target (content ∷ media_content media) answer) file.name result }
+    ensures fits { IfOk result (λ planned. Fits planned) }
+    ensures kind { IfOk result (λ planned. AreRows planned → ⊥) }
+    ensures desk { IfOk result (λ planned. IsDesk planned → ⊥) }
+{
+    if noted {
+        let (list, notes) = noted_in(content);
+        noted_to_write(alloc, list, notes, media, older)
+    } else {
+        conformed_to_write(alloc, list_in(content), media, older)
+    }
+}
+
 // The list that a file holds.
 fn list_in(content: Content) -> EventList
     requires { HasFormedList content }
@@ -512,6 +594,23 @@ fn list_in(content: Content) -> EventList
 {
     match content {
         Content::Events(list) => list,
+        Content::Value(_) => unreachable!(),
+        Content::Root(_) => unreachable!(),
+        Content::Film(_) => unreachable!(),
+        Content::Noted(_, _) => unreachable!(),
+        Content::Rows(_) => unreachable!(),
+        Content::Commands(_) => unreachable!(),
+    }
+}
+
+// The list that a file holds, with its notes.
+fn noted_in(content: Content) -> (EventList, Notes)
+    requires { HasNotedList content }
+    ensures { content ≡ NotedOf result.0 result.1 }
+{
+    match content {
+        Content::Noted(list, notes) => (list, notes),
+        Content::Events(_) => unreachable!(),
         Content::Value(_) => unreachable!(),
         Content::Root(_) => unreachable!(),
         Content::Film(_) => unreachable!(),
@@ -530,6 +629,7 @@ fn value_in(content: Content) -> Json
         Content::Root(_) => unreachable!(),
         Content::Film(_) => unreachable!(),
         Content::Events(_) => unreachable!(),
+        Content::Noted(_, _) => unreachable!(),
         Content::Rows(_) => unreachable!(),
         Content::Commands(_) => unreachable!(),
     }
@@ -545,6 +645,7 @@ fn object_in(content: Content) -> Object
         Content::Value(_) => unreachable!(),
         Content::Film(_) => unreachable!(),
         Content::Events(_) => unreachable!(),
+        Content::Noted(_, _) => unreachable!(),
         Content::Rows(_) => unreachable!(),
         Content::Commands(_) => unreachable!(),
     }
@@ -560,6 +661,7 @@ fn timeline_in(content: Content) -> Timeline
         Content::Value(_) => unreachable!(),
         Content::Root(_) => unreachable!(),
         Content::Events(_) => unreachable!(),
+        Content::Noted(_, _) => unreachable!(),
         Content::Rows(_) => unreachable!(),
         Content::Commands(_) => unreachable!(),
     }
@@ -576,6 +678,7 @@ fn rows_in(content: Content) -> MediaList
         Content::Root(_) => unreachable!(),
         Content::Film(_) => unreachable!(),
         Content::Events(_) => unreachable!(),
+        Content::Noted(_, _) => unreachable!(),
         Content::Commands(_) => unreachable!(),
     }
 }

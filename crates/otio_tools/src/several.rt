@@ -20,7 +20,7 @@ ghost use Rattle.otio_tools.specs.Plan.{AreRows, Fits, IsDesk, IsEditable, Plans
 ghost use Rattle.otio_tools.specs.Texts.{text_at};
 
 use crate::edited::opened_timeline;
-use crate::planned::{Planned, media_kind};
+use crate::planned::{Planned, list_kind, media_kind};
 use command_words::{Command, Others, ToolAsked, is_list_name};
 use dev_io::Files;
 use flat_timelines::{ToolFault, concatenated, tooled};
@@ -127,8 +127,12 @@ fn kind_by_name(command: Command, name: &str) -> Kind
                 Kind::Timeline
             }
         }
-        Command::ListToList { rate, .. } => Kind::List(rate),
-        Command::ListToObjects { rate, older: _ } => Kind::List(rate),
+        Command::ListToList { rate, notes, .. } => list_kind(rate, notes),
+        Command::ListToObjects {
+            rate,
+            older: _,
+            notes,
+        } => list_kind(rate, notes),
         Command::TimelineToList { .. } => Kind::Timeline,
         Command::ToObjects { older: _ } => Kind::Object,
         Command::ToJson => Kind::Json,

@@ -11,3 +11,4 @@ pub mod ObjectLemmas
 pub mod MediaLemmas
 pub mod ScriptLemmas
 pub mod LogLemmas
+pub mod NotedLemmas

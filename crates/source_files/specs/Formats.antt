@@ -1,5 +1,5 @@
 -- The formats of files: which bytes are what, why bytes are none, and bytes that show no fault yet.
-use Rattle.std.specs.Prelude.{◌≡◌, ◌⊎◌, ◌≤◌, ◌<◌, ◌^◌, ℕ, List, [], length}
+use Rattle.std.specs.Prelude.{◌≡◌, ◌⊎◌, ◌≤◌, ◌<◌, ◌^◌, ℕ, List, [], length, All}
 use Rattle.std.specs.Global.{Vec}
 use Rattle.limits.specs.Limits.{most_bytes, most_items}
 use Rattle.json_value.specs.declared.Json.{Json}
@@ -8,6 +8,10 @@ use Rattle.json_text.specs.Faults.{IsFault}
 use Rattle.json_text.specs.declared.faults.JsonFault.{JsonFault}
 use Rattle.text_lines.specs.Lines.{ended_lines}
 use Rattle.tick_time.specs.declared.rates.Rate.{Rate}
+use Rattle.edl_list.specs.declared.list.EventList.{EventList}
+use Rattle.note_text.specs.Belonging.{AreNotes}
+use Rattle.note_text.specs.Noted.{IsNoteFor}
+use Rattle.note_text.specs.declared.notes.Note.{Note}
 use Rattle.edl_text.specs.Statements.{Statement}
 use Rattle.edl_list.specs.Formed.{IsWellFormed}
 use Rattle.edl_text.specs.Lists.{IsList, IsFault as IsListFault}
@@ -34,7 +38,7 @@ use Rattle.source_files.specs.Faults.{ale_fault_text, json_fault_text, list_faul
 use Rattle.source_files.specs.declared.kinds.Kind.{Kind}
 use Rattle.source_files.specs.declared.kinds.Kind.TheVariants as kinds
 use Rattle.source_files.specs.declared.kinds.Content.{Content}
-use Rattle.source_files.specs.declared.kinds.Content.TheVariants.{Value, Root, Film, Events, Rows, Commands}
+use Rattle.source_files.specs.declared.kinds.Content.TheVariants.{Value, Root, Film, Events, Noted, Rows, Commands}
 
 -- the bytes are a text of this value
 pub record IsJson (bytes : List ℕ) (value : Json) : Type 0 where
@@ -59,12 +63,24 @@ pub record IsTimeline (bytes : List ℕ) (timeline : Timeline) : Type 0 where
 abbrev pub IsCommands : List ℕ → Vec Command → Type 0
 IsCommands bytes commands = IsScript bytes commands.items
 
+-- the bytes are a list at that rate, with these notes
+pub record IsNotedList (rate : Rate) (bytes : List ℕ) (list : EventList)
+    (notes : List Note) : Type 0 where
+  pub is : IsList rate bytes list
+  pub are : AreNotes bytes list notes
+
+-- what is known of a list with notes whatever the files tell
+pub record SuitsNotes (list : EventList) (notes : List Note) : Type 0 where
+  pub formed : IsWellFormed list
+  pub notes_for : All (IsNoteFor list) notes
+
 -- the bytes are this, by the format of their file
 abbrev pub Holds : Kind → List ℕ → Content → Type 0
 Holds kinds.Json bytes (Value value) = IsJson bytes value
 Holds kinds.Object bytes (Root object) = IsObject bytes object
 Holds kinds.Timeline bytes (Film timeline) = IsTimeline bytes timeline
 Holds (kinds.List rate) bytes (Events list) = IsList rate bytes list
+Holds (kinds.NotedList rate) bytes (Noted list notes) = IsNotedList rate bytes list notes
 Holds kinds.Media bytes (Rows rows) = IsMediaList bytes rows
 Holds kinds.Log bytes (Rows rows) = IsLog bytes rows
 Holds kinds.Script bytes (Commands commands) = IsCommands bytes commands
@@ -123,6 +139,7 @@ Refuses kinds.Json bytes why = RefusesJson bytes why
 Refuses kinds.Object bytes why = RefusesObject bytes why
 Refuses kinds.Timeline bytes why = RefusesTimeline bytes why
 Refuses (kinds.List rate) bytes why = RefusesList rate bytes why
+Refuses (kinds.NotedList rate) bytes why = RefusesList rate bytes why
 Refuses kinds.Media bytes why = RefusesMedia bytes why
 Refuses kinds.Log bytes why = RefusesLog bytes why
 Refuses kinds.Script bytes why = RefusesScript bytes why
@@ -157,6 +174,7 @@ IsCalm kinds.Json taken = IsCalmJson taken
 IsCalm kinds.Object taken = IsCalmJson taken
 IsCalm kinds.Timeline taken = IsCalmJson taken
 IsCalm (kinds.List rate) taken = IsCalmList rate taken
+IsCalm (kinds.NotedList rate) taken = IsCalmList rate taken
 IsCalm kinds.Media taken = IsCalmMedia taken
 IsCalm kinds.Log taken = IsCalmLog taken
 IsCalm kinds.Script taken = IsCalmScript taken
@@ -176,6 +194,7 @@ Suits kinds.Json (Value value) = Unit {0}
 Suits kinds.Object (Root object) = count_of object ≤ most_items
 Suits kinds.Timeline (Film timeline) = IsOfTables timeline
 Suits (kinds.List rate) (Events list) = IsWellFormed list
+Suits (kinds.NotedList rate) (Noted list notes) = SuitsNotes list notes
 Suits kinds.Media (Rows rows) = Unit {0}
 Suits kinds.Log (Rows rows) = Unit {0}
 Suits kinds.Script (Commands commands) = Unit {0}

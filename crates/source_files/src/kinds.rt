@@ -3,6 +3,7 @@ use edit_script::Command;
 use edl_list::EventList;
 use json_value::Json;
 use media_list::MediaList;
+use note_text::Notes;
 use otio_model::{Object, Timeline};
 use tick_time::Rate;
 
@@ -17,6 +18,8 @@ pub enum Kind {
     Timeline,
     /// A CMX 3600 list at that rate, in frames a second.
     List(Rate),
+    /// A CMX 3600 list at that rate, with its notes.
+    NotedList(Rate),
     /// A media list.
     Media,
     /// A log of the Avid Log Exchange, which stands for a media list.
@@ -45,6 +48,8 @@ pub enum Content {
     Film(Timeline),
     /// A list.
     Events(EventList),
+    /// A list, with its notes in the order of their lines.
+    Noted(EventList, Notes),
     /// A media list, or that of a log.
     Rows(MediaList),
     /// The commands of a script, at most 10 000.

@@ -1,11 +1,13 @@
 // Reading a list in pieces.
-ghost use Rattle.std.specs.Prelude.{◌≡◌, ◌≢◌, ℕ, List, IfOk};
+ghost use Rattle.std.specs.Prelude.{◌≡◌, ◌≢◌, ◌⊎◌, ◌≤◌, ◌++◌, ℕ, List, length, IfOk, IfErr, OnOk};
 ghost use Rattle.dev_io.specs.Calls.{Tells};
 ghost use Rattle.edl_list.specs.Formed.{IsWellFormed};
-ghost use Rattle.edl_text.specs.Lists.{IsList};
+ghost use Rattle.edl_text.specs.Lists.{IsList, IsEarlyFault};
 ghost use Rattle.edl_text.specs.Reader.{HasRead};
+ghost use Rattle.limits.specs.Limits.{most_bytes};
+ghost use Rattle.note_text.specs.Reader.{HasHeard};
 ghost use Rattle.source_files.specs.Faults.{list_fault_text};
-ghost use Rattle.source_files.specs.Formats.{RefusesList, IsCalmList};
+ghost use Rattle.source_files.specs.Formats.{IsNotedList, RefusesList, IsCalmList, SuitsNotes};
 ghost use Rattle.source_files.specs.Hand.{Judges, ReadsHand};
 ghost use Rattle.source_files.specs.Reading.{IsRefused, Raised};
 
@@ -15,6 +17,7 @@ use dev_io::Files;
 use edl_list::EventList;
 use edl_text::{EdlFault, EdlReader};
 use limits::{MOST_BYTES, PIECE_BYTES};
+use note_text::{NoteReader, Notes};
 use std::alloc::Global;
 use std::mem;
 use tick_time::Rate;
@@ -51,6 +54,96 @@ pub fn read_list<F: Files>(alloc: Global, rate: Rate, files: &mut F) -> Result<E
     }
     mem::forget(reader);
     Err(ReadFault::Refused(list_refusal(EdlFault::Large)))
+}
+
+#[tactic(auto, using(crate::proofs::Taking::same_at_first))]
+/// The list that is left of the file in hand, and its notes. Each piece is judged before the next is
+/// read, and its notes are kept, not its bytes.
+pub fn read_noted_list<F: Files>(
+    alloc: Global,
+    rate: Rate,
+    files: &mut F,
+) -> Result<(EventList, Notes), ReadFault>
+    ensures told { Tells (ReadsHand (λ bytes read. IsNotedList rate bytes read.0 read.1)
+        (RefusesList rate) (IsCalmList rate) result) (F.known files.old) (F.known files.new) }
+    ensures suits { IfOk result (λ read. SuitsNotes read.0 read.1) }
+    ensures cause { Raised result (F.faults files.old) (F.faults files.new) }
+{
+    let mut reader = EdlReader::new(alloc, rate);
+    let mut listener = NoteReader::new(alloc, rate);
+    let mut piece = [0u8; PIECE_BYTES];
+    let mut taken = 0usize;
+    'pieces: while taken <= MOST {
+        match files.read(&mut piece) {
+            Err(_) => {
+                mem::forget(reader);
+                mem::forget(listener);
+                return Err(ReadFault::Failed);
+            }
+            Ok(0) => return noted_of(reader, listener),
+            Ok(count) => match feed_both(&mut reader, &mut listener, &piece[..count]) {
+                Ok(()) => taken += count,
+                Err(fault) => {
+                    let refusal = list_refusal(fault);
+                    mem::forget(reader);
+                    mem::forget(listener);
+                    return Err(ReadFault::Refused(refusal));
+                }
+            },
+        }
+    }
+    mem::forget(reader);
+    mem::forget(listener);
+    Err(ReadFault::Refused(list_refusal(EdlFault::Large)))
+}
+
+// Feeds a piece to the reader of the list, and where it shows no fault to that of the notes.
+fn feed_both(
+    reader: &mut EdlReader,
+    listener: &mut NoteReader,
+    piece: &[u8],
+) -> Result<(), EdlFault>
+    ensures read { OnOk result ((rate : Rate) (bytes : List ℕ) → HasRead rate bytes reader.old
+        → HasRead rate (bytes ++ piece.now) reader.new) }
+    ensures heard { OnOk result ((rate : Rate) (bytes : List ℕ) → HasHeard rate bytes listener.old
+        → HasHeard rate (bytes ++ piece.now) listener.new) }
+    ensures live { OnOk result ((rate : Rate) (bytes : List ℕ) → HasRead rate bytes reader.old
+        → (length (bytes ++ piece.now) ≤ most_bytes)
+        × ((fault : EdlFault) → IsEarlyFault rate (bytes ++ piece.now) fault → ⊥)) }
+    ensures fault { IfErr result (λ fault. (rate : Rate) (bytes : List ℕ)
+        → HasRead rate bytes reader.old → (fault ≡ EdlFault.Memory)
+        ⊎ IsEarlyFault rate (bytes ++ piece.now) fault) }
+{
+    match reader.feed(piece) {
+        Ok(()) => {}
+        Err(fault) => return Err(fault),
+    }
+    match listener.feed(piece) {
+        Ok(()) => Ok(()),
+        Err(_) => Err(EdlFault::Memory),
+    }
+}
+
+// The list that was read, and its notes.
+fn noted_of(reader: EdlReader, listener: NoteReader) -> Result<(EventList, Notes), ReadFault>
+    requires { (rate : Rate) × (bytes : List ℕ) × HasRead rate bytes reader }
+    ensures read { (rate : Rate) (bytes : List ℕ) → HasRead rate bytes reader
+        → HasHeard rate bytes listener
+        → Judges (λ of read. IsNotedList rate of read.0 read.1) (RefusesList rate) bytes result }
+    ensures suits { (rate : Rate) (bytes : List ℕ) → HasRead rate bytes reader
+        → HasHeard rate bytes listener → IfOk result (λ read. SuitsNotes read.0 read.1) }
+    ensures calm { (n : ℕ) → Raised result n n }
+{
+    match reader.finish() {
+        Ok(list) => match listener.finish(&list) {
+            Ok(notes) => Ok((list, notes)),
+            Err(_) => {
+                mem::forget(list);
+                Err(ReadFault::Refused(Refusal::Memory))
+            }
+        },
+        Err(fault) => Err(ReadFault::Refused(list_refusal(fault))),
+    }
 }
 
 // The list that was read.

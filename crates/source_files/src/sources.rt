@@ -5,12 +5,12 @@ ghost use Rattle.source_files.specs.Order.{EachIs};
 ghost use Rattle.source_files.specs.Formats.{Holds, Refuses, IsCalm, Suits};
 ghost use Rattle.source_files.specs.Reading.{Raised, RaisedAt, ReadsSource, HaveRead, HasStopped, source_of};
 ghost use Rattle.source_files.specs.Hand.{ReadsHand};
-ghost use Rattle.source_files.specs.declared.kinds.Kind.TheVariants.{List as ListAt};
+ghost use Rattle.source_files.specs.declared.kinds.Kind.TheVariants.{List as ListAt, NotedList as NotedListAt};
 
 use crate::file_faults::{ReadFault, Refusal, SourceFault};
 use crate::json::read_json;
 use crate::kinds::{Content, Kind, Source};
-use crate::lists::read_list;
+use crate::lists::{read_list, read_noted_list};
 use crate::logs::read_log;
 use crate::media::read_media;
 use crate::objects::{read_object, read_timeline};
@@ -89,6 +89,7 @@ fn read_as<F: Files>(alloc: Global, kind: Kind, files: &mut F) -> Result<Content
         Kind::Object => read_root(alloc, files),
         Kind::Timeline => read_film(alloc, files),
         Kind::List(rate) => read_events(alloc, rate, files),
+        Kind::NotedList(rate) => read_noted_events(alloc, rate, files),
         Kind::Media => read_rows(alloc, files),
         Kind::Log => read_log_rows(alloc, files),
         Kind::Script => read_edits(alloc, files),
@@ -146,6 +147,24 @@ fn read_events<F: Files>(alloc: Global, rate: Rate, files: &mut F) -> Result<Con
 {
     match read_list(alloc, rate, files) {
         Ok(list) => Ok(Content::Events(list)),
+        Err(fault) => Err(fault),
+    }
+}
+
+// The list in the file in hand, with its notes.
+fn read_noted_events<F: Files>(
+    alloc: Global,
+    rate: Rate,
+    files: &mut F,
+) -> Result<Content, ReadFault>
+    ensures told { Tells (ReadsHand (Holds (NotedListAt rate)) (Refuses (NotedListAt rate))
+        (IsCalm (NotedListAt rate)) result)
+        (F.known files.old) (F.known files.new) }
+    ensures suits { IfOk result (Suits (NotedListAt rate)) }
+    ensures cause { Raised result (F.faults files.old) (F.faults files.new) }
+{
+    match read_noted_list(alloc, rate, files) {
+        Ok((list, notes)) => Ok(Content::Noted(list, notes)),
         Err(fault) => Err(fault),
     }
 }

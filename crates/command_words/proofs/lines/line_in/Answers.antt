@@ -15,6 +15,7 @@ returns c = λ i. record {
   handles = c.value_of-11.ensures i;
   drop = c.has_flag.ensures i;
   wide = c.has_flag-2.ensures i;
+  notes = c.has_flag-3.ensures i;
   tool = c.tool_line_in.ensures i;
   file = c.value_of-12.ensures i;
   more = c.in_ok-more.ensures i;

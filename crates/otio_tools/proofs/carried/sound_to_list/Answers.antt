@@ -1,4 +1,4 @@
-use Rattle.std.proofs.Common.{refl}
+use Rattle.std.proofs.Common.{false, refl}
 use Rattle.otio_tools.specs.Carried.{Carried}
 use Rattle.otio_tools.proofs.CalmTimelines.{tables_are_calm}
 use Rattle.otio_tools.proofs.Planning.{left_as}
@@ -8,7 +8,7 @@ use Rattle.otio_tools.proofs.carried.sound_to_list.Goals as goal
 pub returns-in-Ok-clause-owed : goal.returns-in-Ok-clause-owed
 returns-in-Ok-clause-owed c = λ name target.
     let is = c.in-Ok.ensures.list in
-    Carried c.requires.sound is.carried c.in-Ok.list is.is c.check_texts.ensures refl
+    Carried c.requires.sound is.carried c.in-Ok.list is.is c.check_texts.ensures _ refl refl
 
 pub returns-in-Ok-clause-fits : goal.returns-in-Ok-clause-fits
 returns-in-Ok-clause-fits c =
@@ -18,5 +18,5 @@ returns-in-Ok-clause-fits c =
 
 pub returns-in-Err-clause-owed : goal.returns-in-Err-clause-owed
 returns-in-Err-clause-owed c = λ name.
-    left_as c.args.drop c.args.wide name c.args.media c.args.timeline c.in-Err.fault
+    left_as false c.args.drop c.args.wide name c.args.media c.args.timeline c.in-Err.fault
     c.uncarried.result c.requires.sound c.in-Err.ensures.fault c.uncarried.ensures

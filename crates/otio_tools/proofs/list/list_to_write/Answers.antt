@@ -1,4 +1,12 @@
+use Rattle.std.proofs.Common.{refl}
+use Rattle.otio_tools.specs.Events.{Spelled}
 use Rattle.otio_tools.proofs.list.list_to_write.Goals as goal
 
-pub returns-clause-owed : goal.returns-clause-owed
-returns-clause-owed c = λ name. rw c.is_drop-drop.ensures at (c.write_in_mode.ensures.owed name)
+pub returns-in-Ok-clause-owed : goal.returns-in-Ok-clause-owed
+returns-in-Ok-clause-owed c = λ name target.
+    rw (← c.is_drop-drop.ensures)
+    (Spelled c.in-Ok.ensures.fits.can c.in-Ok.ensures.fits.labelled refl)
+
+pub returns-in-Err-clause-owed : goal.returns-in-Err-clause-owed
+returns-in-Err-clause-owed c = λ name target.
+    rw (← c.is_drop-drop.ensures) (c.in-Err.ensures.refused _ name target)

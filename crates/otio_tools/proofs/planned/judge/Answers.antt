@@ -3,18 +3,19 @@ use Rattle.source_files.specs.declared.kinds.Content.TheVariants as content
 use Rattle.otio_tools.specs.Asked.{kind_of}
 use Rattle.otio_tools.specs.Plan.{media_content}
 use Rattle.otio_tools.specs.declared.planned.Planned.TheVariants as planned
-use Rattle.otio_tools.proofs.Planning.{held_as, suits_of_list, media_is}
+use Rattle.otio_tools.proofs.Planning.{again_as, held_as, media_is, objects_as, suits_of_list}
 use Rattle.otio_tools.proofs.planned.judge.Goals as goal
 
-pub list_in-requires : goal.list_in-requires
-list_in-requires c =
-    suits_of_list _ _ c.args.content (ap kind_of c.in-ListToList.is) c.requires.suits
+pub list_again-requires : goal.list_again-requires
+list_again-requires c = (_, rw c.in-ListToList.is at c.requires.suits)
+
+pub list_to_objects-requires : goal.list_to_objects-requires
+list_to_objects-requires c = (_, rw c.in-ListToObjects.is at c.requires.suits)
 
 pub returns-in-ListToList-clause-owed : goal.returns-in-ListToList-clause-owed
 returns-in-ListToList-clause-owed c = λ file more.
-    held_as c.args.command _ c.args.content (content.Events c.list_in.result)
-    (media_content c.args.media) file more c.list_to_write.result
-    c.in-ListToList.is c.list_in.ensures (c.list_to_write.ensures.owed file.name)
+    again_as c.args.command _ _ _ _ c.args.content (media_content c.args.media) file more
+    c.list_again.result c.in-ListToList.is c.list_again.ensures.owed
 
 pub returns-in-ToObjects-clause-owed : goal.returns-in-ToObjects-clause-owed
 returns-in-ToObjects-clause-owed c = λ file more.
@@ -49,16 +50,18 @@ returns-in-Frames-clause-owed c = λ file more.
 
 pub returns-in-ListToObjects-clause-owed : goal.returns-in-ListToObjects-clause-owed
 returns-in-ListToObjects-clause-owed c = λ file more.
-    held_as c.args.command _ c.args.content (content.Events c.list_in-in-ListToObjects.result)
-    (media_content c.args.media) file more c.conformed_to_write.result
-    c.in-ListToObjects.is c.list_in-in-ListToObjects.ensures
-    (rw (media_is c.args.media) (c.conformed_to_write.ensures.owed file.name))
+    objects_as c.args.command _ _ _ c.args.content (media_content c.args.media) file more
+    c.list_to_objects.result c.in-ListToObjects.is c.list_to_objects.ensures.owed
+
+pub list_in-requires : goal.list_in-requires
+list_in-requires c =
+    suits_of_list _ _ c.args.content (ap kind_of c.in-ListFrames.is) c.requires.suits
 
 pub returns-in-ListFrames-clause-owed : goal.returns-in-ListFrames-clause-owed
 returns-in-ListFrames-clause-owed c = λ file more.
-    held_as c.args.command _ c.args.content (content.Events c.list_in-in-ListFrames.result)
+    held_as c.args.command _ c.args.content (content.Events c.list_in.result)
     (media_content c.args.media) file more c.conformed_frames_to_write.result
-    c.in-ListFrames.is c.list_in-in-ListFrames.ensures
+    c.in-ListFrames.is c.list_in.ensures
     (rw (media_is c.args.media) (c.conformed_frames_to_write.ensures.owed file.name))
 
 pub returns-in-Stat-clause-owed : goal.returns-in-Stat-clause-owed

@@ -1,0 +1,76 @@
+use Rattle.std.proofs.Common.{◌++◌, Ok, take, arith}
+use Rattle.std.proofs.lemmas.Grind.{common_steps}
+use Rattle.sequences.specs.declared.lists.Sequence.{Sequence}
+use Rattle.edl_list.specs.declared.list.EventList.{EventList}
+use Rattle.note_text.specs.declared.notes.Note.{Note}
+use Rattle.dev_io.specs.declared.files.Failed.{Failed as FailedCall}
+use Rattle.source_files.specs.Formats.{IsNotedList, RefusesList, IsCalmList}
+use Rattle.source_files.proofs.Taking.{takes_more, takes_all, same_more}
+use Rattle.source_files.proofs.Handing.{judged, refused, failed}
+use Rattle.source_files.proofs.ListLemmas.{front_refused}
+use Rattle.source_files.proofs.lists.read_noted_list.Goals as goal
+
+pub pieces-preserved : goal.pieces-preserved
+pieces-preserved g c =
+    let i = c.pieces.invariant in
+    let buf = c.read.new.buf in
+    let n = c.in-Ok.count in
+    record {
+      fed = (
+        i.fed.0 ++ take n buf,
+        c.in-Ok-feed_both.ensures.read c.args.rate i.fed.0 i.fed.1,
+        c.in-Ok-feed_both.ensures.heard c.args.rate i.fed.0 i.fed.2,
+        grind (arith, common_steps),
+        (c.in-Ok-feed_both.ensures.live c.args.rate i.fed.0 i.fed.1).0,
+        takes_more FailedCall i.fed.0 _ _ _ n buf i.fed.5 c.in-Ok.ensures.told,
+      );
+      same = same_more FailedCall _ _ _ (Ok n) buf i.same c.in-Ok.ensures.told;
+      calm = omega (arith, c.in-Ok.ensures.cause.failed, i.calm);
+    }
+
+pub returns-in-Ok-eq0-clause-told : goal.returns-in-Ok-eq0-clause-told
+returns-in-Ok-eq0-clause-told g c =
+    let i = c.pieces.invariant in
+    let rate = c.args.rate in
+    let told = rw c.in-Ok-eq0.field-0-test at c.in-Ok-eq0.ensures.told in
+    judged (λ bytes read. IsNotedList rate bytes read.0 read.1) (RefusesList rate)
+    (IsCalmList rate) i.fed.0 _ _ c.noted_of.result
+    (same_more FailedCall _ _ _ (Ok c.in-Ok-eq0.field-0) c.read.new.buf i.same
+    c.in-Ok-eq0.ensures.told)
+    (takes_all FailedCall i.fed.0 _ _ _ c.read.new.buf i.fed.5 told)
+    (c.noted_of.ensures.read rate i.fed.0 i.fed.1 i.fed.2)
+
+pub returns-in-Ok-eq0-clause-suits : goal.returns-in-Ok-eq0-clause-suits
+returns-in-Ok-eq0-clause-suits g c =
+    let i = c.pieces.invariant in
+    c.noted_of.ensures.suits c.args.rate i.fed.0 i.fed.1 i.fed.2
+
+pub noted_of-requires : goal.noted_of-requires
+noted_of-requires g c =
+    let i = c.pieces.invariant in (c.args.rate, i.fed.0, i.fed.1)
+
+pub returns-in-Err-clause-told : goal.returns-in-Err-clause-told
+returns-in-Err-clause-told g c =
+    let i = c.pieces.invariant in
+    let rate = c.args.rate in
+    failed (EventList × Sequence Note) (λ bytes read. IsNotedList rate bytes read.0 read.1)
+    (RefusesList rate) (IsCalmList rate) i.fed.0 _ _ _
+    (record {
+      few = i.fed.4;
+      said = i.fed.1.past;
+      sound = i.fed.1.ended;
+    }) i.same i.fed.5 c.in-Err.ensures.told
+
+pub returns-in-Err-feed_both-clause-told : goal.returns-in-Err-feed_both-clause-told
+returns-in-Err-feed_both-clause-told g c =
+    let i = c.pieces.invariant in
+    let rate = c.args.rate in
+    let buf = c.read.new.buf in
+    let n = c.in-Ok.count in
+    refused (EventList × Sequence Note) (λ bytes read. IsNotedList rate bytes read.0 read.1)
+    (RefusesList rate) (IsCalmList rate) (i.fed.0 ++ take n buf) _ _ c.list_refusal-refusal.result
+    (same_more FailedCall _ _ _ (Ok n) buf i.same c.in-Ok.ensures.told)
+    (takes_more FailedCall i.fed.0 _ _ _ n buf i.fed.5 c.in-Ok.ensures.told)
+    (λ rest. front_refused rate c.in-Err-feed_both.fault (i.fed.0
+    ++ take n buf) rest c.list_refusal-refusal.result
+    (c.in-Err-feed_both.ensures.fault rate i.fed.0 i.fed.1) c.list_refusal-refusal.ensures)
