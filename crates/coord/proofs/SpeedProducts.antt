@@ -1,6 +1,6 @@
 -- A speed that was kept.
 use Rattle.std.proofs.Common.{◌≡◌, sym, ◌∙◌, Bool, true, false, cond, List, Option, Some, None, ℤ}
-use Rattle.otio_model.specs.declared.warps.Effect.{Effect}
+use Rattle.otio_model.specs.declared.effect_types.Effect.{Effect}
 use Rattle.otio_model.specs.Speeds.{combined, keeps_speed, kept_speed}
 
 kept_by : (b : Bool) (v w : ℤ) → cond b (Some v) None ≡ Some w → w ≡ v

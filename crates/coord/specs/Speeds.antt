@@ -1,7 +1,7 @@
 -- The speed at which an item plays, in millionths, by its effects.
 use Rattle.std.specs.Prelude.{ℤ, pos, ◌+ℤ◌, ◌*ℤ◌, List, []}
 use Rattle.std.specs.Int.{int_div_euclid}
-use Rattle.otio_model.specs.declared.warps.Effect.{Effect}
+use Rattle.otio_model.specs.declared.effect_types.Effect.{Effect}
 use Rattle.otio_model.specs.declared.compositions.ItemOf.{ItemOf}
 use Rattle.otio_model.specs.declared.compositions.ItemOf.TheVariants.{Clip, Gap, Transition}
 use Rattle.otio_model.specs.declared.compositions.ItemOf.TheVariants.{Stack, Track}

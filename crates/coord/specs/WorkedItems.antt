@@ -7,9 +7,9 @@ use Rattle.tick_time.specs.declared.spans.Span.{Span}
 use Rattle.tick_time.specs.declared.times.Time.{Time}
 use Rattle.tick_time.specs.Times.{IsWhole}
 use Rattle.tick_time.specs.Rates.{unit}
-use Rattle.otio_model.specs.declared.sources.Media.TheVariants as M
-use Rattle.otio_model.specs.declared.warps.Effect.{Effect}
-use Rattle.otio_model.specs.declared.warps.Effect.TheVariants as E
+use Rattle.otio_model.specs.declared.media.Media.TheVariants as M
+use Rattle.otio_model.specs.declared.effect_types.Effect.{Effect}
+use Rattle.otio_model.specs.declared.effect_types.Effect.TheVariants as E
 use Rattle.otio_model.specs.declared.compositions.ItemOf.{ItemOf}
 use Rattle.otio_model.specs.declared.compositions.ItemOf.TheVariants.{Clip, Gap, Transition, Stack, Track}
 use Rattle.coord.specs.Looks.{Url, Show, Blank, Frame, Mix, list_shows}

@@ -21,8 +21,8 @@ use Rattle.drill.specs.Rewinding.{rewound}
 use Rattle.drill.specs.Turns.{round_of}
 use Rattle.drill.specs.Sums.{back_sum}
 use Rattle.drill.specs.Lists.{Conforms, IsListed}
-use Rattle.drill.specs.declared.listed.Listed.{Listed}
-use Rattle.drill.specs.declared.listed.Listed.TheVariants as L
+use Rattle.drill.specs.declared.list_outcome.Listed.{Listed}
+use Rattle.drill.specs.declared.list_outcome.Listed.TheVariants as L
 use Rattle.drill.specs.declared.tally.Carried.{Carried}
 use Rattle.drill.specs.declared.tally.Tally.{Tally}
 use Rattle.drill.specs.Told.{DrillsTo, GoesThrough, IsToldOf, begun, carried_of, track_children}

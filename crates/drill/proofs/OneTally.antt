@@ -15,8 +15,8 @@ use Rattle.drill.specs.Starting.{IsStart, behind_start}
 use Rattle.drill.specs.Rounds.{Drills, Goes, Round, accepted, refused, drawn}
 use Rattle.drill.specs.Rewinding.{rewound}
 use Rattle.drill.specs.Lists.{Conforms, IsListed, IsReason}
-use Rattle.drill.specs.declared.listed.Listed.{Listed}
-use Rattle.drill.specs.declared.listed.Listed.TheVariants as L
+use Rattle.drill.specs.declared.list_outcome.Listed.{Listed}
+use Rattle.drill.specs.declared.list_outcome.Listed.TheVariants as L
 use Rattle.drill.specs.Sums.{back_sum}
 use Rattle.drill.specs.declared.tally.Carried.{Carried}
 use Rattle.drill.specs.declared.tally.Carried.TheVariants as C

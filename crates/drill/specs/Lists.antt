@@ -10,8 +10,8 @@ use Rattle.edl_frames.specs.declared.reasons.Why.{Why}
 use Rattle.edl_frames.specs.Carried.{IsListOf, not_carried}
 use Rattle.edl_frames.specs.Channels.{on}
 use Rattle.edl_frames.specs.Conformed.{IsTimelineOf}
-use Rattle.drill.specs.declared.listed.Listed.{Listed}
-use Rattle.drill.specs.declared.listed.Listed.TheVariants as listed
+use Rattle.drill.specs.declared.list_outcome.Listed.{Listed}
+use Rattle.drill.specs.declared.list_outcome.Listed.TheVariants as listed
 
 -- a list with these media doesn't carry the timeline: this is the first reason
 abbrev pub IsReason : Timeline → List MediaRow → Why → Type 0

@@ -8,8 +8,8 @@ use Rattle.undo_log.specs.States.{State}
 use Rattle.script_law.specs.Shown.{opened}
 use Rattle.coord.specs.Programs.{start_frame}
 use Rattle.drill.specs.Lists.{IsListed}
-use Rattle.drill.specs.declared.listed.Listed.{Listed}
-use Rattle.drill.specs.declared.listed.Listed.TheVariants as L
+use Rattle.drill.specs.declared.list_outcome.Listed.{Listed}
+use Rattle.drill.specs.declared.list_outcome.Listed.TheVariants as L
 use Rattle.drill.specs.Media.{rows}
 use Rattle.drill.specs.Starting.{IsStart, behind_start}
 use Rattle.drill.specs.Rounds.{Drills, Round}

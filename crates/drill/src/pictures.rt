@@ -1,10 +1,10 @@
 //! The numbers of the frames in a picture.
 
 ghost use Rattle.std.specs.Prelude.{◌≡◌, IfSome};
-ghost use Rattle.listings.specs.Pictures.{image_of};
+ghost use Rattle.show_prog.specs.Pictures.{image_of};
 ghost use Rattle.drill.specs.Sums.{numbers_of};
 
-use listings::Picture;
+use show_prog::Picture;
 
 /// The numbers of the frames in a picture, added up; `None` only where a sum leaves 128 bits.
 pub(crate) fn picture_sum(picture: &Picture<'_>) -> Option<i128>

@@ -6,15 +6,15 @@ ghost use Rattle.otio_model.specs.Trees.{items_of};
 ghost use Rattle.coord.specs.Programs.{program};
 ghost use Rattle.coord.specs.Images.{image};
 ghost use Rattle.coord.specs.Soundness.{IsFaultless};
-ghost use Rattle.listings.specs.Clocks.{IsClockOf};
+ghost use Rattle.show_prog.specs.Clocks.{IsClockOf};
 ghost use Rattle.drill.specs.Sums as sums;
 ghost use Rattle.drill.specs.Sums.{numbers_of};
 
 use crate::pictures::picture_sum;
 use crate::record_frames::frames_of;
 use coord::start_frame;
-use listings::{Clock, clock_of, show_at};
 use otio_model::Timeline;
+use show_prog::{Clock, clock_of, show_at};
 use std::alloc::{AllocError, Global};
 
 /// The record frame so many behind another; an error where its number leaves 128 bits.

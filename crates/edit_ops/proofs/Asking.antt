@@ -15,11 +15,11 @@ use Rattle.edit_plans.specs.Meanings.{moves_of}
 use Rattle.edit_plans.specs.declared.moves.Moves.{Moves}
 use Rattle.edit_ops.specs.Motions.{IsMotion, trim_growth}
 use Rattle.edit_ops.specs.Seats.{IsInstant, ripple_shape, roll_shape, slide_shape, trim_shape}
-use Rattle.edit_ops.specs.declared.asked.EdgeEdit.{EdgeEdit}
-use Rattle.edit_ops.specs.declared.asked.EdgeEdit.TheVariants as M
-use Rattle.edit_ops.specs.declared.motions.Motion.TheVariants as W
-use Rattle.edit_ops.specs.declared.shapes.Shape.{Shape}
-use Rattle.edit_ops.specs.declared.shapes.Stretch.{Stretch}
+use Rattle.edit_ops.specs.declared.edge_edits.EdgeEdit.{EdgeEdit}
+use Rattle.edit_ops.specs.declared.edge_edits.EdgeEdit.TheVariants as M
+use Rattle.edit_ops.specs.declared.edge_moves.Motion.TheVariants as W
+use Rattle.edit_ops.specs.declared.replacements.Shape.{Shape}
+use Rattle.edit_ops.specs.declared.replacements.Stretch.{Stretch}
 use Rattle.edit_ops.proofs.MotionLemmas.{ripple_is, roll_is, slide_is, slip_is}
 use Rattle.edit_ops.proofs.TrimLemmas.{trim_is}
 

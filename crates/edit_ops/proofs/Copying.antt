@@ -13,8 +13,8 @@ use Rattle.edits.specs.Cuts.{strip}
 use Rattle.edits.specs.Edges.{added}
 use Rattle.edits.specs.Narrow.{ahead, touched}
 use Rattle.edit_ops.specs.Seats.{IsShaped}
-use Rattle.edit_ops.specs.declared.shapes.Shape.{Shape}
-use Rattle.edit_ops.specs.declared.shapes.Stretch.{Stretch}
+use Rattle.edit_ops.specs.declared.replacements.Shape.{Shape}
+use Rattle.edit_ops.specs.declared.replacements.Stretch.{Stretch}
 use Rattle.edit_ops.proofs.Reshaping.{Copied, Reckoned, before_items, behind_items, gone_within}
 use Rattle.edit_ops.proofs.Reshaping.{inside}
 use Rattle.edit_ops.proofs.Whole.{Within}

@@ -7,8 +7,8 @@ use Rattle.std.proofs.lemmas.Int.{ints}
 use Rattle.otio_model.specs.declared.compositions.ItemOf.{ItemOf}
 use Rattle.otio_model.specs.declared.compositions.Listed.{Listed}
 use Rattle.otio_model.specs.declared.timelines.Timeline.{Timeline}
-use Rattle.otio_model.specs.declared.editing.EditFault.{EditFault}
-use Rattle.otio_model.specs.declared.editing.EditFault.TheVariants as F
+use Rattle.otio_model.specs.declared.edit_types.EditFault.{EditFault}
+use Rattle.otio_model.specs.declared.edit_types.EditFault.TheVariants as F
 use Rattle.edits.specs.After.{at_of, frame_of, list_of, place_of}
 use Rattle.edits.specs.Edges.{Held, added, held_at, is_zero}
 use Rattle.edits.specs.Edits.{at_held, edited}
@@ -20,9 +20,9 @@ use Rattle.edits_law.proofs.Accepted.{found}
 use Rattle.edit_ops.specs.Asked.{edit_of}
 use Rattle.edit_ops.specs.Founds.{IsFound, IsNoItem, IsNoNeighbour, motion_touches, pin_at}
 use Rattle.edit_ops.specs.Motions.{growth_of, held_list, held_zone, motion_list}
-use Rattle.edit_ops.specs.declared.asked.EdgeEdit.{EdgeEdit}
-use Rattle.edit_ops.specs.declared.asked.EdgeEdit.TheVariants as M
-use Rattle.edit_ops.specs.declared.motions.Motion.{Motion}
+use Rattle.edit_ops.specs.declared.edge_edits.EdgeEdit.{EdgeEdit}
+use Rattle.edit_ops.specs.declared.edge_edits.EdgeEdit.TheVariants as M
+use Rattle.edit_ops.specs.declared.edge_moves.Motion.{Motion}
 use Rattle.otio_model.specs.declared.seeks.Seat.{Seat}
 
 pub place_is : (place : List ℕ) (at : ℤ) (m : EdgeEdit) → place_of (edit_of place at m) ≡ place

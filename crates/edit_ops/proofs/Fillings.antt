@@ -4,17 +4,17 @@ use Rattle.limits.specs.Limits.{most_ticks}
 use Rattle.tick_time.specs.declared.rates.Rate.{Rate}
 use Rattle.otio_model.specs.declared.compositions.ItemOf.{ItemOf}
 use Rattle.otio_model.specs.declared.compositions.Listed.{Listed}
-use Rattle.otio_model.specs.declared.editing.EditFault.{EditFault}
-use Rattle.otio_model.specs.declared.editing.EditFault.TheVariants as F
-use Rattle.otio_model.specs.declared.editing.FillMode.{FillMode}
-use Rattle.otio_model.specs.declared.editing.RemoveMode.{RemoveMode}
-use Rattle.otio_model.specs.declared.editing.RemoveMode.TheVariants as R
+use Rattle.otio_model.specs.declared.edit_types.EditFault.{EditFault}
+use Rattle.otio_model.specs.declared.edit_types.EditFault.TheVariants as F
+use Rattle.otio_model.specs.declared.edit_types.FillMode.{FillMode}
+use Rattle.otio_model.specs.declared.edit_types.RemoveMode.{RemoveMode}
+use Rattle.otio_model.specs.declared.edit_types.RemoveMode.TheVariants as R
 use Rattle.edits.specs.Children.{all_made, is_far, made, new_gap, with_first}
 use Rattle.edits.specs.Edits.{filling}
 use Rattle.edits.specs.Refusals.{cuts_filling}
 use Rattle.edit_plans.specs.Filled.{IsFilling, IsMisfit, is_wrong}
-use Rattle.edit_plans.specs.declared.fillings.FillFault.{FillFault}
-use Rattle.edit_plans.specs.declared.fillings.FillFault.TheVariants as G
+use Rattle.edit_plans.specs.declared.gap_fill.FillFault.{FillFault}
+use Rattle.edit_plans.specs.declared.gap_fill.FillFault.TheVariants as G
 use Rattle.edit_ops.specs.Zoned.{in_place, misfit, told}
 use Rattle.edit_ops.proofs.Items.{gap_near}
 

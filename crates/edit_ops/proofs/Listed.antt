@@ -4,9 +4,9 @@ use Rattle.std.specs.Result.{IfErr, IfOk}
 use Rattle.std.proofs.lemmas.Result.{IfOk-weaker}
 use Rattle.otio_model.specs.declared.timelines.Timeline.{Timeline}
 use Rattle.otio_model.specs.declared.patches.Patch.{Patch}
-use Rattle.otio_model.specs.declared.editing.Edit.{Edit}
-use Rattle.otio_model.specs.declared.editing.EditFault.{EditFault}
-use Rattle.otio_model.specs.declared.editing.EditFault.TheVariants as F
+use Rattle.otio_model.specs.declared.edit_types.Edit.{Edit}
+use Rattle.otio_model.specs.declared.edit_types.EditFault.{EditFault}
+use Rattle.otio_model.specs.declared.edit_types.EditFault.TheVariants as F
 use Rattle.otio_model.specs.Patches.{applied}
 use Rattle.coord.specs.Soundness.{IsSound}
 use Rattle.edits_law.specs.Editable.{HasEditItem}

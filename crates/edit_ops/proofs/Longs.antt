@@ -14,7 +14,7 @@ use Rattle.edits.specs.Edges.{last_changed, last_item, moved, one}
 use Rattle.edits.specs.Refusals.{long}
 use Rattle.edits_law.proofs.Splice.{cases}
 use Rattle.edit_ops.specs.Changes.{changed, parts}
-use Rattle.edit_ops.specs.declared.shapes.Shape.{Shape}
+use Rattle.edit_ops.specs.declared.replacements.Shape.{Shape}
 use Rattle.edit_plans.proofs.LongLemmas.{long_olds, long_both}
 
 pub zero_is : (z : ℤ) → is_zero z ≡ true → z ≡ pos 0

@@ -21,12 +21,12 @@ use Rattle.edit_plans.specs.Bounds.{IsMove}
 use Rattle.edit_ops.specs.Changes.{IsChange, Leaves, changed, reshaped}
 use Rattle.edit_ops.specs.Motions.{IsMotion, held_list}
 use Rattle.edit_ops.specs.Seats.{IsInstant, keep, ripple_shape, roll_shape, slide_shape, zone_of}
-use Rattle.edit_ops.specs.declared.asked.EdgeEdit.TheVariants as M
-use Rattle.edit_ops.specs.declared.motions.Motion.TheVariants as W
-use Rattle.edit_ops.specs.declared.changes.Change.{Change}
-use Rattle.edit_ops.specs.declared.changes.Change.TheVariants as C
-use Rattle.edit_ops.specs.declared.shapes.Shape.{Shape}
-use Rattle.edit_ops.specs.declared.shapes.Stretch.{Stretch}
+use Rattle.edit_ops.specs.declared.edge_edits.EdgeEdit.TheVariants as M
+use Rattle.edit_ops.specs.declared.edge_moves.Motion.TheVariants as W
+use Rattle.edit_ops.specs.declared.resized_items.Change.{Change}
+use Rattle.edit_ops.specs.declared.resized_items.Change.TheVariants as C
+use Rattle.edit_ops.specs.declared.replacements.Shape.{Shape}
+use Rattle.edit_ops.specs.declared.replacements.Stretch.{Stretch}
 use Rattle.edit_plans.proofs.LongLemmas.{long_both, long_olds}
 use Rattle.edit_ops.proofs.Bounded.{GivesBefore, GivesBehind, Rolls, ripple_left, rolls}
 use Rattle.edit_ops.proofs.Bounded.{slide_left}

@@ -10,12 +10,12 @@ use Rattle.edits.specs.Edges.{Held, first_item, is_zero, last_item, start}
 use Rattle.edit_ops.specs.Founds.{HasNeighbours, IsSuited, LacksNeighbour}
 use Rattle.edit_ops.specs.Motions.{IsMotion}
 use Rattle.edit_ops.specs.Seats.{IsAt, IsShaped}
-use Rattle.edit_ops.specs.declared.motions.Motion.TheVariants as W
-use Rattle.edit_ops.specs.declared.shapes.Shape.{Shape}
-use Rattle.edit_ops.specs.declared.shapes.Stretch.{Stretch}
-use Rattle.edit_ops.specs.declared.asked.EdgeEdit.{EdgeEdit}
-use Rattle.edit_ops.specs.declared.asked.EdgeEdit.TheVariants as M
-use Rattle.edit_ops.specs.declared.motions.Motion.{Motion}
+use Rattle.edit_ops.specs.declared.edge_moves.Motion.TheVariants as W
+use Rattle.edit_ops.specs.declared.replacements.Shape.{Shape}
+use Rattle.edit_ops.specs.declared.replacements.Stretch.{Stretch}
+use Rattle.edit_ops.specs.declared.edge_edits.EdgeEdit.{EdgeEdit}
+use Rattle.edit_ops.specs.declared.edge_edits.EdgeEdit.TheVariants as M
+use Rattle.edit_ops.specs.declared.edge_moves.Motion.{Motion}
 
 item_eq : (l : List (ItemOf Listed)) (s : Seat) (x : ItemOf Listed) (h : Held)
     → slice_get l s.index ≡ Some x → IsAt l s h → h.item ≡ x

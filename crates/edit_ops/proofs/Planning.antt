@@ -8,9 +8,9 @@ use Rattle.tick_time.specs.Rates.{frame}
 use Rattle.otio_model.specs.declared.compositions.ItemOf.{ItemOf}
 use Rattle.otio_model.specs.declared.compositions.Listed.{Listed}
 use Rattle.otio_model.specs.declared.timelines.Timeline.{Timeline}
-use Rattle.otio_model.specs.declared.editing.Edit.{Edit}
-use Rattle.otio_model.specs.declared.editing.EditFault.{EditFault}
-use Rattle.otio_model.specs.declared.editing.EditFault.TheVariants as F
+use Rattle.otio_model.specs.declared.edit_types.Edit.{Edit}
+use Rattle.otio_model.specs.declared.edit_types.EditFault.{EditFault}
+use Rattle.otio_model.specs.declared.edit_types.EditFault.TheVariants as F
 use Rattle.otio_model.specs.declared.seeks.Seat.{Seat}
 use Rattle.otio_model.specs.Edits.{replaced}
 use Rattle.edits.specs.Children.{all_made, has_far}
@@ -24,9 +24,9 @@ use Rattle.edit_ops.specs.Founds.{IsFound, IsNoItem, IsNoNeighbour, IsSuited, mo
 use Rattle.edit_ops.specs.Founds.{pin_at}
 use Rattle.edit_ops.specs.Motions.{growth_of, motion_list}
 use Rattle.edit_ops.specs.Seats.{IsAt}
-use Rattle.edit_ops.specs.declared.asked.EdgeEdit.{EdgeEdit}
-use Rattle.edit_ops.specs.declared.asked.EdgeEdit.TheVariants as M
-use Rattle.edit_ops.specs.declared.motions.Motion.{Motion}
+use Rattle.edit_ops.specs.declared.edge_edits.EdgeEdit.{EdgeEdit}
+use Rattle.edit_ops.specs.declared.edge_edits.EdgeEdit.TheVariants as M
+use Rattle.edit_ops.specs.declared.edge_moves.Motion.{Motion}
 use Rattle.edit_ops.proofs.Early.{known, lacking, place_is}
 
 pub item_is : (place : List ℕ) (at : ℤ) (m : EdgeEdit) → HasEditItem (edit_of place at m)

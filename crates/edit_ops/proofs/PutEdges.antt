@@ -11,14 +11,14 @@ use Rattle.edits.specs.Cuts.{olds}
 use Rattle.otio_model.specs.declared.seeks.Seat.{Seat}
 use Rattle.otio_model.specs.Edits.{replaced}
 use Rattle.edit_ops.specs.Motions.{motion_list}
-use Rattle.edit_ops.specs.declared.motions.Motion.TheVariants as W
+use Rattle.edit_ops.specs.declared.edge_moves.Motion.TheVariants as W
 use Rattle.edits.specs.Edges.{Held, first_changed, first_item, gap_of, last_changed, last_item, one}
 use Rattle.edits.specs.Edges.{slipped_item}
 use Rattle.edits_law.proofs.Parted.{made_narrow}
 use Rattle.edit_ops.specs.Changes.{Leaves, changed, parts}
 use Rattle.edit_ops.specs.Seats.{IsAt, IsFirst, IsLast, changed_at}
-use Rattle.edit_ops.specs.declared.changes.Change.{Change}
-use Rattle.edit_ops.specs.declared.shapes.Shape.{Shape}
+use Rattle.edit_ops.specs.declared.resized_items.Change.{Change}
+use Rattle.edit_ops.specs.declared.replacements.Shape.{Shape}
 use Rattle.edit_ops.proofs.KeptEdges.{first_at, first_none, last_at, last_none}
 
 -- ---- lists that are made, or not, together

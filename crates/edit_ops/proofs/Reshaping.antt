@@ -17,8 +17,8 @@ use Rattle.edits_law.proofs.NarrowEdges.{added_split}
 use Rattle.edits_law.proofs.TouchedHeld.{ahead_is}
 use Rattle.edit_ops.specs.Changes.{parts, reshaped}
 use Rattle.edit_ops.specs.Seats.{IsAt, IsShaped, LeavesAll, zone_of}
-use Rattle.edit_ops.specs.declared.shapes.Shape.{Shape}
-use Rattle.edit_ops.specs.declared.shapes.Stretch.{Stretch}
+use Rattle.edit_ops.specs.declared.replacements.Shape.{Shape}
+use Rattle.edit_ops.specs.declared.replacements.Stretch.{Stretch}
 use Rattle.edit_ops.proofs.PutEdges.{far_left, far_right}
 use Rattle.edit_ops.proofs.Seated.{index_is, leaves_near, one_held, parts_are}
 use Rattle.edit_ops.proofs.Whole.{Counts, Within, before_is, behind_is, counted, middle}

@@ -11,8 +11,8 @@ use Rattle.edits.specs.Narrow.{ahead, onward, past_met, up_to_met}
 use Rattle.edits_law.proofs.Touched.{ahead_onward, up_past}
 use Rattle.edit_ops.specs.Changes.{Leaves}
 use Rattle.edit_ops.specs.Seats.{IsAt, LeavesAll}
-use Rattle.edit_ops.specs.declared.changes.Change.{Change}
-use Rattle.edit_ops.specs.declared.shapes.Shape.{Shape}
+use Rattle.edit_ops.specs.declared.resized_items.Change.{Change}
+use Rattle.edit_ops.specs.declared.replacements.Shape.{Shape}
 use Rattle.edit_ops.proofs.KeptEdges.{first_more, first_strip, last_more, last_strip}
 
 split_at : (l : List (ItemOf Listed)) (i : ℕ) (x : ItemOf Listed) → slice_get l i ≡ Some x

@@ -14,9 +14,9 @@ use Rattle.edit_plans.specs.Parts.{IsHeldAt}
 use Rattle.edit_ops.specs.Founds.{HasNeighbours, IsFound, IsNoNeighbour, LacksNeighbour}
 use Rattle.edit_ops.specs.Motions.{IsMotion}
 use Rattle.edit_ops.specs.Seats.{IsAt}
-use Rattle.edit_ops.specs.declared.asked.EdgeEdit.{EdgeEdit}
-use Rattle.edit_ops.specs.declared.motions.Motion.{Motion}
-use Rattle.otio_model.specs.declared.editing.EditFault.TheVariants as F
+use Rattle.edit_ops.specs.declared.edge_edits.EdgeEdit.{EdgeEdit}
+use Rattle.edit_ops.specs.declared.edge_moves.Motion.{Motion}
+use Rattle.otio_model.specs.declared.edit_types.EditFault.TheVariants as F
 
 pub at_seat : (l : List (ItemOf Listed)) (w : ℤ) (s : Seat) → (k : IsHeldAt l w s.index s.start)
     → IsAt l s k.held

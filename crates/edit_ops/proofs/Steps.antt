@@ -6,13 +6,13 @@ use Rattle.tick_time.specs.declared.rates.Rate.{Rate}
 use Rattle.otio_model.specs.declared.compositions.ItemOf.{ItemOf}
 use Rattle.otio_model.specs.declared.compositions.Listed.{Listed}
 use Rattle.otio_model.specs.declared.timelines.Timeline.{Timeline}
-use Rattle.otio_model.specs.declared.editing.Edit.{Edit}
-use Rattle.otio_model.specs.declared.editing.Edit.TheVariants as A
-use Rattle.otio_model.specs.declared.editing.EditFault.{EditFault}
-use Rattle.otio_model.specs.declared.editing.EditFault.TheVariants as F
-use Rattle.otio_model.specs.declared.editing.FillMode.{FillMode}
-use Rattle.otio_model.specs.declared.editing.RemoveMode.{RemoveMode}
-use Rattle.otio_model.specs.declared.editing.RemoveMode.TheVariants as R
+use Rattle.otio_model.specs.declared.edit_types.Edit.{Edit}
+use Rattle.otio_model.specs.declared.edit_types.Edit.TheVariants as A
+use Rattle.otio_model.specs.declared.edit_types.EditFault.{EditFault}
+use Rattle.otio_model.specs.declared.edit_types.EditFault.TheVariants as F
+use Rattle.otio_model.specs.declared.edit_types.FillMode.{FillMode}
+use Rattle.otio_model.specs.declared.edit_types.RemoveMode.{RemoveMode}
+use Rattle.otio_model.specs.declared.edit_types.RemoveMode.TheVariants as R
 use Rattle.edits.specs.Children.{Child, Old, all_made, child_ticks, ticks}
 use Rattle.edits.specs.Cuts.{olds, put_between, strip}
 use Rattle.edits_law.specs.Editable.{IsEditItem}

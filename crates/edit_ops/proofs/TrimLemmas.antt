@@ -19,10 +19,10 @@ use Rattle.edit_plans.specs.Bounds.{IsMove}
 use Rattle.edit_ops.specs.Changes.{IsChange, Leaves, changed, reshaped}
 use Rattle.edit_ops.specs.Motions.{IsMotion, held_list, trim_growth}
 use Rattle.edit_ops.specs.Seats.{IsInstant, keep, trim_shape, zone_of}
-use Rattle.edit_ops.specs.declared.asked.EdgeEdit.TheVariants as M
-use Rattle.edit_ops.specs.declared.motions.Motion.TheVariants as W
-use Rattle.edit_ops.specs.declared.changes.Change.TheVariants as C
-use Rattle.edit_ops.specs.declared.shapes.Stretch.{Stretch}
+use Rattle.edit_ops.specs.declared.edge_edits.EdgeEdit.TheVariants as M
+use Rattle.edit_ops.specs.declared.edge_moves.Motion.TheVariants as W
+use Rattle.edit_ops.specs.declared.resized_items.Change.TheVariants as C
+use Rattle.edit_ops.specs.declared.replacements.Stretch.{Stretch}
 use Rattle.edit_ops.proofs.Bounded.{Trims, trims}
 use Rattle.edit_ops.proofs.KeptEdges.{first_keep, last_keep}
 use Rattle.edit_ops.proofs.Longs.{long_gap, long_grown}

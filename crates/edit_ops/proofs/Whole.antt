@@ -18,8 +18,8 @@ use Rattle.edits_law.proofs.TouchedHeld.{ahead_is, touched_held}
 use Rattle.edits_law.proofs.NarrowEdges.{last_before, first_behind, olds_behind}
 use Rattle.edit_ops.specs.Changes.{changed, parts, reshaped}
 use Rattle.edit_ops.specs.Seats.{IsRound, zone_of}
-use Rattle.edit_ops.specs.declared.shapes.Shape.{Shape}
-use Rattle.edit_ops.specs.declared.shapes.Stretch.{Stretch}
+use Rattle.edit_ops.specs.declared.replacements.Shape.{Shape}
+use Rattle.edit_ops.specs.declared.replacements.Stretch.{Stretch}
 use Rattle.edit_ops.proofs.KeptEdges.{first_keep}
 
 -- the touched children before and behind the item, as the zone lies for them

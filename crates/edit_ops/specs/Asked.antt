@@ -1,10 +1,10 @@
 -- Edits of edges by their parts.
 use Rattle.std.specs.Prelude.{ℕ, ℤ, List}
-use Rattle.otio_model.specs.declared.editing.Edit.{Edit}
-use Rattle.otio_model.specs.declared.editing.Edit.TheVariants as A
-use Rattle.edit_ops.specs.declared.asked.Asked.{Asked}
-use Rattle.edit_ops.specs.declared.asked.EdgeEdit.{EdgeEdit}
-use Rattle.edit_ops.specs.declared.asked.EdgeEdit.TheVariants as M
+use Rattle.otio_model.specs.declared.edit_types.Edit.{Edit}
+use Rattle.otio_model.specs.declared.edit_types.Edit.TheVariants as A
+use Rattle.edit_ops.specs.declared.edge_edits.Asked.{Asked}
+use Rattle.edit_ops.specs.declared.edge_edits.EdgeEdit.{EdgeEdit}
+use Rattle.edit_ops.specs.declared.edge_edits.EdgeEdit.TheVariants as M
 
 abbrev pub edit_of : List ℕ → ℤ → EdgeEdit → Edit
 edit_of place at (M.Trim head tail) = A.Trim place at head tail

@@ -6,9 +6,9 @@ use Rattle.edits.specs.Children.{Child, ticks}
 use Rattle.edits.specs.Edges.{Held, Zone, left_before, left_behind, first_changed, last_changed}
 use Rattle.edits.specs.Edges.{one, moved, grown, slipped_item, gap_of}
 use Rattle.edit_plans.specs.Bounds.{IsMove}
-use Rattle.edit_ops.specs.declared.changes.Change.{Change}
-use Rattle.edit_ops.specs.declared.changes.Change.TheVariants as C
-use Rattle.edit_ops.specs.declared.shapes.Shape.{Shape}
+use Rattle.edit_ops.specs.declared.resized_items.Change.{Change}
+use Rattle.edit_ops.specs.declared.resized_items.Change.TheVariants as C
+use Rattle.edit_ops.specs.declared.replacements.Shape.{Shape}
 
 abbrev pub changed : Change → ItemOf Listed → List Child
 changed (C.Move head tail) x = one (moved head tail x)

@@ -3,8 +3,8 @@ use Rattle.std.specs.Prelude.{◌≡◌, ℕ, ℤ, true, false, cond, List, Opti
 use Rattle.std.specs.Prelude.{length}
 use Rattle.otio_model.specs.declared.compositions.ItemOf.{ItemOf}
 use Rattle.otio_model.specs.declared.compositions.Listed.{Listed}
-use Rattle.otio_model.specs.declared.editing.EditFault.{EditFault}
-use Rattle.otio_model.specs.declared.editing.EditFault.TheVariants as F
+use Rattle.otio_model.specs.declared.edit_types.EditFault.{EditFault}
+use Rattle.otio_model.specs.declared.edit_types.EditFault.TheVariants as F
 use Rattle.otio_model.specs.declared.seeks.Seat.{Seat}
 use Rattle.otio_model.specs.declared.timelines.Timeline.{Timeline}
 use Rattle.edits.specs.Edges.{Held, held_at, is_zero}
@@ -13,8 +13,8 @@ use Rattle.edits.specs.Refusals.{has_no_neighbour, unpinned}
 use Rattle.edit_ops.specs.Asked.{edit_of}
 use Rattle.edit_ops.specs.Motions.{IsMotion, Suits, motion_zone}
 use Rattle.edit_ops.specs.Seats.{IsAt}
-use Rattle.edit_ops.specs.declared.asked.EdgeEdit.{EdgeEdit}
-use Rattle.edit_ops.specs.declared.motions.Motion.{Motion}
+use Rattle.edit_ops.specs.declared.edge_edits.EdgeEdit.{EdgeEdit}
+use Rattle.edit_ops.specs.declared.edge_moves.Motion.{Motion}
 
 -- an item that the edit needs beside the held one isn't there
 abbrev pub LacksNeighbour : EdgeEdit → Held → Type 0

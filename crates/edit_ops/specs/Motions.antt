@@ -14,10 +14,10 @@ use Rattle.edits.specs.Refusals.{long}
 use Rattle.edit_plans.specs.Bounds.{IsMove}
 use Rattle.edit_ops.specs.Changes.{reshaped}
 use Rattle.edit_ops.specs.Seats.{IsRound, IsShape, LeavesAll, zone_of}
-use Rattle.edit_ops.specs.declared.asked.EdgeEdit.{EdgeEdit}
-use Rattle.edit_ops.specs.declared.asked.EdgeEdit.TheVariants as M
-use Rattle.edit_ops.specs.declared.motions.Motion.{Motion}
-use Rattle.edit_ops.specs.declared.motions.Motion.TheVariants as W
+use Rattle.edit_ops.specs.declared.edge_edits.EdgeEdit.{EdgeEdit}
+use Rattle.edit_ops.specs.declared.edge_edits.EdgeEdit.TheVariants as M
+use Rattle.edit_ops.specs.declared.edge_moves.Motion.{Motion}
+use Rattle.edit_ops.specs.declared.edge_moves.Motion.TheVariants as W
 
 -- the list that an edit makes round the held item, with frames of f ticks
 abbrev pub held_list : ℤ → EdgeEdit → Held → List Child

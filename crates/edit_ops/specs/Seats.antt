@@ -9,10 +9,10 @@ use Rattle.edits.specs.Children.{Child}
 use Rattle.edits.specs.Cuts.{olds}
 use Rattle.edits.specs.Edges.{Held, Zone, start, end, first_item, last_item}
 use Rattle.edit_ops.specs.Changes.{changed, IsChange, Leaves}
-use Rattle.edit_ops.specs.declared.changes.Change.{Change}
-use Rattle.edit_ops.specs.declared.changes.Change.TheVariants as C
-use Rattle.edit_ops.specs.declared.shapes.Shape.{Shape}
-use Rattle.edit_ops.specs.declared.shapes.Stretch.{Stretch}
+use Rattle.edit_ops.specs.declared.resized_items.Change.{Change}
+use Rattle.edit_ops.specs.declared.resized_items.Change.TheVariants as C
+use Rattle.edit_ops.specs.declared.replacements.Shape.{Shape}
+use Rattle.edit_ops.specs.declared.replacements.Stretch.{Stretch}
 
 -- the item stands at the seat
 pub record IsAt (l : List (ItemOf Listed)) (s : Seat) (h : Held) : Type 0 where

@@ -4,12 +4,12 @@ use Rattle.std.specs.Int.{int_max}
 use Rattle.otio_model.specs.declared.compositions.ItemOf.{ItemOf}
 use Rattle.otio_model.specs.declared.compositions.Listed.{Listed}
 use Rattle.otio_model.specs.declared.timelines.Timeline.{Timeline}
-use Rattle.otio_model.specs.declared.editing.Edit.{Edit}
-use Rattle.otio_model.specs.declared.editing.EditFault.{EditFault}
-use Rattle.otio_model.specs.declared.editing.EditFault.TheVariants as F
-use Rattle.otio_model.specs.declared.editing.RemoveMode.{RemoveMode}
-use Rattle.otio_model.specs.declared.editing.RemoveMode.TheVariants as R
-use Rattle.otio_model.specs.declared.editing.FillMode.{FillMode}
+use Rattle.otio_model.specs.declared.edit_types.Edit.{Edit}
+use Rattle.otio_model.specs.declared.edit_types.EditFault.{EditFault}
+use Rattle.otio_model.specs.declared.edit_types.EditFault.TheVariants as F
+use Rattle.otio_model.specs.declared.edit_types.RemoveMode.{RemoveMode}
+use Rattle.otio_model.specs.declared.edit_types.RemoveMode.TheVariants as R
+use Rattle.otio_model.specs.declared.edit_types.FillMode.{FillMode}
 use Rattle.edits.specs.Children.{Child, all_made, new_gap}
 use Rattle.edits.specs.Cuts.{put_between, strip}
 use Rattle.edits_law.specs.Editable.{HasEditItem}
@@ -20,8 +20,8 @@ use Rattle.edits.specs.Narrow.{touched}
 use Rattle.edits.specs.Refusals.{cuts_ends, cuts_filling, early_fault, long, pin_fault, test, unpinned}
 use Rattle.edits.specs.Zones.{touches}
 use Rattle.edit_plans.specs.Filled.{is_wrong}
-use Rattle.edit_plans.specs.declared.fillings.FillFault.{FillFault}
-use Rattle.edit_plans.specs.declared.fillings.FillFault.TheVariants as G
+use Rattle.edit_plans.specs.declared.gap_fill.FillFault.{FillFault}
+use Rattle.edit_plans.specs.declared.gap_fill.FillFault.TheVariants as G
 
 -- the edit is one of the track at the place, and puts these children, so long, between two
 -- instants; these are the items that they are; its tests up to the one of pinned lengths come to

@@ -5,18 +5,18 @@
 //! place of the children that the edit's zone touches.
 #![tactic(auto)]
 
-mod asked;
-mod begins;
-mod beside;
-mod changes;
-mod edges;
-mod holds;
-mod lists;
-mod motions;
-mod plans;
-mod puts;
-mod shapes;
+mod adjacent_items;
+mod edge_edits;
+mod edge_moves;
+mod edge_planner;
+mod edit_start;
+mod item_at;
+mod list_edits;
+mod list_planner;
+mod new_items;
+mod replacements;
+mod resized_items;
 mod zones;
 
-pub use edges::plan_trim;
-pub use lists::plan_list;
+pub use edge_planner::plan_trim;
+pub use list_planner::plan_list;

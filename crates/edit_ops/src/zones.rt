@@ -4,7 +4,7 @@ ghost use Rattle.std.specs.Prelude.{◌≡◌, ◌≢◌, ◌<◌, ◌^◌, ◌�
 ghost use Rattle.std.specs.Prelude.{OnOk, None, Some, List};
 ghost use Rattle.std.specs.Int.{int_max};
 ghost use Rattle.limits.specs.Limits.{most_ticks};
-ghost use Rattle.otio_model.specs.declared.editing.Edit.{Edit as AnyEdit};
+ghost use Rattle.otio_model.specs.declared.edit_types.Edit.{Edit as AnyEdit};
 ghost use Rattle.otio_model.specs.Counts.{count};
 ghost use Rattle.otio_model.specs.Trees.{items_of};
 ghost use Rattle.coord.specs.Soundness.{IsSound};

@@ -6,7 +6,7 @@ use Rattle.otio_model.specs.declared.compositions.Listed.{Listed}
 use Rattle.otio_model.specs.Falls.{counts-append}
 use Rattle.otio_model.specs.Lengths.{added, length_of, or_zero}
 use Rattle.otio_model.proofs.KeptLemmas.{added-append, taken_all}
-use Rattle.edit_plans.specs.declared.amounts.Amount.{Amount}
+use Rattle.edit_plans.specs.declared.totals.Amount.{Amount}
 use Rattle.edit_plans.specs.Amounts.{amount_in, more, ticks_in}
 use Rattle.edit_plans.proofs.PinLemmas.{up_to}
 

@@ -6,12 +6,12 @@ use Rattle.std.specs.Prelude.{int_lt, int_le, is_some, option_map}
 use Rattle.std.proofs.lemmas.Int.{ints, by_lt_z}
 use Rattle.otio_model.specs.declared.compositions.ItemOf.{ItemOf}
 use Rattle.otio_model.specs.declared.compositions.Listed.{Listed}
-use Rattle.otio_model.specs.declared.editing.Edit.{Edit}
-use Rattle.otio_model.specs.declared.editing.Edit.TheVariants as A
-use Rattle.otio_model.specs.declared.editing.FillMode.{FillMode}
-use Rattle.otio_model.specs.declared.editing.FillMode.TheVariants as M
-use Rattle.otio_model.specs.declared.editing.RemoveMode.{RemoveMode}
-use Rattle.otio_model.specs.declared.editing.RemoveMode.TheVariants as R
+use Rattle.otio_model.specs.declared.edit_types.Edit.{Edit}
+use Rattle.otio_model.specs.declared.edit_types.Edit.TheVariants as A
+use Rattle.otio_model.specs.declared.edit_types.FillMode.{FillMode}
+use Rattle.otio_model.specs.declared.edit_types.FillMode.TheVariants as M
+use Rattle.otio_model.specs.declared.edit_types.RemoveMode.{RemoveMode}
+use Rattle.otio_model.specs.declared.edit_types.RemoveMode.TheVariants as R
 use Rattle.otio_model.specs.Trees.{is_transition}
 use Rattle.coord.specs.Sights.{overlap_of}
 use Rattle.edits.specs.Splices.{is_stripped}
@@ -29,7 +29,7 @@ use Rattle.edits.specs.Edges.{ripple_by, rolled, roll_by, trimmed, trim_by, item
 use Rattle.edits.specs.Edits.{edited, at_held, beside, filling, in_ticks, in_place, with_effect}
 use Rattle.tick_time.specs.declared.rates.Rate.{Rate}
 use Rattle.tick_time.specs.declared.spans.Span.{Span}
-use Rattle.otio_model.specs.declared.warps.Effect.{Effect}
+use Rattle.otio_model.specs.declared.effect_types.Effect.{Effect}
 use Rattle.edits_law.proofs.Splice.{cases}
 use Rattle.edits_law.proofs.Sorts.{point, thing, sort}
 use Rattle.edits_law.proofs.Accepted.{found}

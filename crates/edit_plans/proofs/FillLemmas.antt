@@ -6,8 +6,8 @@ use Rattle.limits.specs.Limits.{most_ticks}
 use Rattle.otio_model.specs.declared.compositions.ItemOf.{ItemOf}
 use Rattle.otio_model.specs.declared.compositions.Listed.{Listed}
 use Rattle.tick_time.specs.declared.rates.Rate.{Rate}
-use Rattle.otio_model.specs.declared.editing.FillMode.{FillMode}
-use Rattle.otio_model.specs.declared.editing.FillMode.TheVariants as M
+use Rattle.otio_model.specs.declared.edit_types.FillMode.{FillMode}
+use Rattle.otio_model.specs.declared.edit_types.FillMode.TheVariants as M
 use Rattle.otio_model.specs.Lengths.{trimmed_start}
 use Rattle.edits.specs.Children.{Ranged, child_ticks, is_far, made, ticks}
 use Rattle.edits.specs.Cuts.{is_whole_at}
@@ -15,8 +15,8 @@ use Rattle.edits.specs.Edits.{filling, fitted}
 use Rattle.edits.specs.Refusals.{is_wrong_fit}
 use Rattle.pieces.proofs.Tests.{lt_no, lt_yes}
 use Rattle.edit_plans.specs.Filled.{IsFilling, IsMisfit}
-use Rattle.edit_plans.specs.declared.fillings.FillFault.{FillFault}
-use Rattle.edit_plans.specs.declared.fillings.FillFault.TheVariants as F
+use Rattle.edit_plans.specs.declared.gap_fill.FillFault.{FillFault}
+use Rattle.edit_plans.specs.declared.gap_fill.FillFault.TheVariants as F
 use Rattle.pieces.proofs.SameTimes.{range_yes}
 
 -- a start and a length in range aren't far

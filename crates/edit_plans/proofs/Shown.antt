@@ -1,6 +1,6 @@
 -- What a timeline shows after an accepted edit.
 use Rattle.otio_model.specs.declared.timelines.Timeline.{Timeline}
-use Rattle.otio_model.specs.declared.editing.Edit.{Edit}
+use Rattle.otio_model.specs.declared.edit_types.Edit.{Edit}
 use Rattle.coord.specs.Soundness.{IsSound}
 use Rattle.edits.specs.Refusals.{IsAfter}
 use Rattle.edits_law.specs.Editable.{HasEditItem}

@@ -8,7 +8,7 @@ use Rattle.edits.specs.Edges.{Held, Moves, Room, clamped, first_item, gap_ticks,
 use Rattle.edits.specs.Edges.{last_item, lesser, media_room, room_in, ripple_by, roll_head}
 use Rattle.edits.specs.Edges.{roll_tail, slip_by, tail_room, trim_by, whole_frames, whole_limit}
 use Rattle.edit_plans.specs.Meanings.{gap_of_before, room_of}
-use Rattle.edit_plans.specs.declared.rooms.Room.{Room as RoomRow}
+use Rattle.edit_plans.specs.declared.media_handles.Room.{Room as RoomRow}
 use Rattle.tick_time.specs.declared.spans.Span.{Span}
 use Rattle.otio_model.specs.declared.compositions.Clip.{Clip as ClipRow}
 use Rattle.otio_model.specs.declared.compositions.ItemOf.TheVariants.{Clip}

@@ -6,7 +6,7 @@ use Rattle.otio_model.specs.Counts.{count, count_of, counts_by}
 use Rattle.otio_model.specs.Kept.{capped_count}
 use Rattle.otio_model.specs.Lengths.{added, length_of, or_zero}
 use Rattle.otio_model.specs.Sums.{capped}
-use Rattle.edit_plans.specs.declared.amounts.Amount.{Amount}
+use Rattle.edit_plans.specs.declared.totals.Amount.{Amount}
 
 -- the lengths of these items added up, one that isn't known as 0
 abbrev pub ticks_in : List (ItemOf Listed) → ℕ

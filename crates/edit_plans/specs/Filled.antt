@@ -3,16 +3,16 @@ use Rattle.std.specs.Prelude.{◌≡◌, ℤ, pos, Bool, true, false, Option, So
 use Rattle.tick_time.specs.declared.rates.Rate.{Rate}
 use Rattle.otio_model.specs.declared.compositions.ItemOf.{ItemOf}
 use Rattle.otio_model.specs.declared.compositions.Listed.{Listed}
-use Rattle.otio_model.specs.declared.editing.FillMode.{FillMode}
-use Rattle.otio_model.specs.declared.editing.FillMode.TheVariants as M
+use Rattle.otio_model.specs.declared.edit_types.FillMode.{FillMode}
+use Rattle.otio_model.specs.declared.edit_types.FillMode.TheVariants as M
 use Rattle.otio_model.specs.Speeds.{kept_speed}
 use Rattle.coord.specs.Speeds.{effects_of}
 use Rattle.edits.specs.Children.{made}
 use Rattle.edits.specs.Edges.{is_zero}
 use Rattle.edits.specs.Edits.{filling}
 use Rattle.edits.specs.Refusals.{cuts_filling, is_wrong_fit}
-use Rattle.edit_plans.specs.declared.fillings.FillFault.{FillFault}
-use Rattle.edit_plans.specs.declared.fillings.FillFault.TheVariants as F
+use Rattle.edit_plans.specs.declared.gap_fill.FillFault.{FillFault}
+use Rattle.edit_plans.specs.declared.gap_fill.FillFault.TheVariants as F
 
 -- in a gap of so many ticks the item would have no speed that there is
 abbrev pub is_wrong : FillMode → ItemOf Listed → ℤ → Bool

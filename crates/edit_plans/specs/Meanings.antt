@@ -4,7 +4,7 @@ use Rattle.otio_model.specs.declared.compositions.ItemOf.{ItemOf}
 use Rattle.otio_model.specs.declared.compositions.Listed.{Listed}
 use Rattle.edits.specs.Edges as edges
 use Rattle.edit_plans.specs.declared.moves.Moves.{Moves}
-use Rattle.edit_plans.specs.declared.rooms.Room.{Room}
+use Rattle.edit_plans.specs.declared.media_handles.Room.{Room}
 
 abbrev pub room_of : Room → edges.Room
 room_of r = record { before = r.before; behind = r.behind }

@@ -5,8 +5,8 @@ use Rattle.otio_model.specs.declared.compositions.ItemOf.{ItemOf}
 use Rattle.otio_model.specs.declared.compositions.Listed.{Listed}
 use Rattle.otio_model.specs.declared.timelines.Timeline.{Timeline}
 use Rattle.otio_model.specs.declared.patches.Patch.{Patch}
-use Rattle.otio_model.specs.declared.editing.Edit.{Edit}
-use Rattle.otio_model.specs.declared.editing.Edit.TheVariants as A
+use Rattle.otio_model.specs.declared.edit_types.Edit.{Edit}
+use Rattle.otio_model.specs.declared.edit_types.Edit.TheVariants as A
 use Rattle.otio_model.specs.Edits.{replaced}
 use Rattle.otio_model.specs.Patches.{IsFit, applied}
 use Rattle.coord.specs.Agreement.{Agree}

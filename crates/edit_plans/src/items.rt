@@ -15,7 +15,7 @@ ghost use Rattle.edits_law.specs.Down as down;
 ghost use Rattle.edit_plans.specs.Way as way;
 ghost use Rattle.edit_plans.specs.Way.{IsNear};
 
-use crate::lists::{in_stack, in_track};
+use crate::child_at::{in_stack, in_track};
 use coord::{speed, trimmed_start};
 use otio_model::{Item, ItemOf};
 

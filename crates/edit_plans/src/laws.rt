@@ -1,6 +1,6 @@
 //! The law of plans. Its function does nothing.
 
-ghost use Rattle.otio_model.specs.declared.editing.Edit.{Edit};
+ghost use Rattle.otio_model.specs.declared.edit_types.Edit.{Edit};
 ghost use Rattle.otio_model.specs.declared.timelines.Timeline.{Timeline};
 ghost use Rattle.coord.specs.Soundness.{IsSound};
 ghost use Rattle.edits_law.specs.Editable.{HasEditItem};

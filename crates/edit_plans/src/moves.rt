@@ -11,7 +11,7 @@ ghost use Rattle.edit_plans.specs.Bounds.{IsMove, IsRoom};
 ghost use Rattle.edit_plans.specs.Meanings.{gap_of_before, moves_of};
 
 use crate::clamps::{clamped, is_zero, lesser, whole_frames, whole_limit};
-use crate::rooms::{Room, head_limit, media_room, tail_limit};
+use crate::media_handles::{Room, head_limit, media_room, tail_limit};
 use otio_model::{Item, ItemOf};
 use pieces::sound_ticks;
 

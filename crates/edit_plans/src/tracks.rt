@@ -1,7 +1,7 @@
 //! The track of an edit, and the rate at which it counts.
 
 ghost use Rattle.std.specs.Prelude.{◌≡◌, ◌<◌, ◌^◌, ◌≤ℤ◌, None, Some, length, pos};
-ghost use Rattle.otio_model.specs.declared.editing.Edit.{Edit as AnyEdit};
+ghost use Rattle.otio_model.specs.declared.edit_types.Edit.{Edit as AnyEdit};
 ghost use Rattle.otio_model.specs.declared.timelines.Timeline.{Timeline as AnyTimeline};
 ghost use Rattle.otio_model.specs.Edits.{list_at};
 ghost use Rattle.otio_model.specs.Trees.{items_of};

@@ -2,8 +2,8 @@
 use Rattle.std.proofs.Common.{◌≡◌, refl, sym, ap, subst, ◌∙◌, ℕ, ℤ, true, false, List, [], ◌∷◌, Option, Some, None}
 use Rattle.std.specs.Prelude.{option_map, option_and_then, codes}
 use Rattle.std.specs.Str.{bytes_eq}
-use Rattle.otio_model.specs.declared.editing.FillMode.{FillMode}
-use Rattle.otio_model.specs.declared.editing.RemoveMode.{RemoveMode}
+use Rattle.otio_model.specs.declared.edit_types.FillMode.{FillMode}
+use Rattle.otio_model.specs.declared.edit_types.RemoveMode.{RemoveMode}
 use Rattle.edit_script.specs.declared.commands.Act.{Act}
 use Rattle.edit_script.specs.declared.commands.Act.TheVariants as A
 use Rattle.edit_script.specs.declared.commands.Put.{Put}

@@ -3,8 +3,8 @@ use Rattle.std.proofs.Common.{◌≡◌, refl, sym, ap, subst, ◌∙◌, ℕ, �
 use Rattle.std.specs.Prelude.{cond, int_lt, is_none, not, option_map, ◌&&◌, ◌*ℤ◌, ◌-ℤ◌, pos}
 use Rattle.otio_model.specs.declared.compositions.ItemOf.{ItemOf}
 use Rattle.otio_model.specs.declared.compositions.Listed.{Listed}
-use Rattle.otio_model.specs.declared.editing.Edit.{Edit}
-use Rattle.otio_model.specs.declared.editing.EditFault.{EditFault}
+use Rattle.otio_model.specs.declared.edit_types.Edit.{Edit}
+use Rattle.otio_model.specs.declared.edit_types.EditFault.{EditFault}
 use Rattle.otio_model.specs.declared.patches.Patch.{Patch}
 use Rattle.otio_model.specs.declared.timelines.Timeline.{Timeline}
 use Rattle.limits.specs.Limits.{most_items}
@@ -14,7 +14,7 @@ use Rattle.otio_model.specs.Timelines.{bare}
 use Rattle.edits.specs.Children.{all_made}
 use Rattle.edits.specs.Edits.{edited}
 use Rattle.edits.specs.After.{after, at_of, frame_of, list_of, place_of, rate_of, with_items}
-use Rattle.otio_model.specs.declared.editing.EditFault.TheVariants as F
+use Rattle.otio_model.specs.declared.edit_types.EditFault.TheVariants as F
 use Rattle.edits.specs.Edges.{Held, added, held_at, is_zero}
 use Rattle.edits.specs.Refusals.{asks_item, early_fault, first_fault, has_no_neighbour, is_empty, is_filled_item, is_phased, is_wrong_speed, long, place_fault, test, unpinned}
 use Rattle.edits.specs.Refusals.{HasLong, HasMany, IsAfter, IsRefused, IsTooLong, at_once, too_long, too_many}

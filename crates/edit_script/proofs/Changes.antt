@@ -5,7 +5,7 @@ use Rattle.std.proofs.lemmas.List.{length-take}
 use Rattle.limits.specs.Limits.{most_items}
 use Rattle.otio_model.specs.declared.compositions.ItemOf.{ItemOf}
 use Rattle.otio_model.specs.declared.compositions.Listed.{Listed}
-use Rattle.otio_model.specs.declared.editing.Edit.{Edit}
+use Rattle.otio_model.specs.declared.edit_types.Edit.{Edit}
 use Rattle.otio_model.specs.declared.patches.Patch.{Patch}
 use Rattle.otio_model.specs.declared.timelines.Timeline.{Timeline}
 use Rattle.otio_model.specs.Counts.{count}

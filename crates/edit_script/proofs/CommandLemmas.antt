@@ -3,9 +3,9 @@ use Rattle.std.proofs.Common.{◌≡◌, refl, sym, subst, ◌∙◌, ℕ, ℤ, 
 use Rattle.std.specs.Prelude.{IfErr, IfOk, OnOk, Result, Ok, Err, ◌≢◌}
 use Rattle.std.proofs.lemmas.Bool.{or_parts}
 use Rattle.tick_time.specs.declared.rates.Rate.{Rate}
-use Rattle.otio_model.specs.declared.editing.Edit.{Edit}
-use Rattle.otio_model.specs.declared.editing.EditFault.{EditFault}
-use Rattle.otio_model.specs.declared.editing.EditFault.TheVariants as E
+use Rattle.otio_model.specs.declared.edit_types.Edit.{Edit}
+use Rattle.otio_model.specs.declared.edit_types.EditFault.{EditFault}
+use Rattle.otio_model.specs.declared.edit_types.EditFault.TheVariants as E
 use Rattle.otio_model.specs.declared.patches.Patch.{Patch}
 use Rattle.otio_model.specs.declared.timelines.Timeline.{Timeline}
 use Rattle.otio_model.specs.Timelines.{bare}

@@ -8,8 +8,8 @@ use Rattle.pieces.proofs.SameTimes.{same_span}
 use Rattle.media_rows.specs.declared.row.MediaRow.{MediaRow}
 use Rattle.otio_model.specs.declared.compositions.ItemOf.{ItemOf}
 use Rattle.otio_model.specs.declared.compositions.Listed.{Listed}
-use Rattle.otio_model.specs.declared.editing.Edit.{Edit}
-use Rattle.otio_model.specs.declared.editing.EditFault.{EditFault}
+use Rattle.otio_model.specs.declared.edit_types.Edit.{Edit}
+use Rattle.otio_model.specs.declared.edit_types.EditFault.{EditFault}
 use Rattle.otio_model.specs.declared.timelines.Timeline.{Timeline}
 use Rattle.undo_log.specs.States.{State, back, forth}
 use Rattle.edits.specs.After.{after, rate_of}

@@ -1,8 +1,8 @@
 -- The patches of acts, and their faults.
 use Rattle.otio_model.specs.declared.patches.Patch.{Patch}
 use Rattle.otio_model.specs.declared.timelines.Timeline.{Timeline}
-use Rattle.otio_model.specs.declared.editing.Edit.{Edit}
-use Rattle.otio_model.specs.declared.editing.EditFault.{EditFault}
+use Rattle.otio_model.specs.declared.edit_types.Edit.{Edit}
+use Rattle.otio_model.specs.declared.edit_types.EditFault.{EditFault}
 use Rattle.edits.specs.Refusals.{IsRefused}
 use Rattle.edit_plans.specs.Planned.{IsPlan}
 use Rattle.edit_script.specs.declared.commands.Act.{Act}

@@ -3,14 +3,14 @@ use Rattle.std.specs.Prelude.{ℕ, ◌+◌, ◌*◌, ◌/◌, ◌%◌, ◌==◌,
 use Rattle.otio_model.specs.declared.compositions.ItemOf.{ItemOf}
 use Rattle.otio_model.specs.declared.compositions.ItemOf.TheVariants.{Clip, Gap, Transition, Stack, Track}
 use Rattle.otio_model.specs.declared.compositions.Listed.{Listed}
-use Rattle.otio_model.specs.declared.warps.Effect.{Effect}
-use Rattle.otio_model.specs.declared.warps.Effect.TheVariants as E
-use Rattle.otio_model.specs.declared.editing.Edit.{Edit}
-use Rattle.otio_model.specs.declared.editing.Edit.TheVariants as A
-use Rattle.otio_model.specs.declared.editing.FillMode.{FillMode}
-use Rattle.otio_model.specs.declared.editing.FillMode.TheVariants as M
-use Rattle.otio_model.specs.declared.editing.RemoveMode.{RemoveMode}
-use Rattle.otio_model.specs.declared.editing.RemoveMode.TheVariants as R
+use Rattle.otio_model.specs.declared.effect_types.Effect.{Effect}
+use Rattle.otio_model.specs.declared.effect_types.Effect.TheVariants as E
+use Rattle.otio_model.specs.declared.edit_types.Edit.{Edit}
+use Rattle.otio_model.specs.declared.edit_types.Edit.TheVariants as A
+use Rattle.otio_model.specs.declared.edit_types.FillMode.{FillMode}
+use Rattle.otio_model.specs.declared.edit_types.FillMode.TheVariants as M
+use Rattle.otio_model.specs.declared.edit_types.RemoveMode.{RemoveMode}
+use Rattle.otio_model.specs.declared.edit_types.RemoveMode.TheVariants as R
 use Rattle.otio_model.specs.Lengths.{trimmed_start}
 use Rattle.edits.specs.Children.{Child, Old, Ranged, ticks, child_ticks, new_gap}
 use Rattle.edits.specs.Cuts.{left_piece, strip, olds, put_between}

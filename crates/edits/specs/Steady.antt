@@ -8,8 +8,8 @@ use Rattle.otio_model.specs.declared.compositions.ItemOf.TheVariants.{Clip, Gap,
 use Rattle.otio_model.specs.declared.compositions.Listed.{Listed}
 use Rattle.otio_model.specs.Lengths.{clip_range}
 use Rattle.coord.specs.Looks.{FrameRate}
-use Rattle.otio_model.specs.declared.editing.Edit.{Edit}
-use Rattle.otio_model.specs.declared.editing.Edit.TheVariants as A
+use Rattle.otio_model.specs.declared.edit_types.Edit.{Edit}
+use Rattle.otio_model.specs.declared.edit_types.Edit.TheVariants as A
 use Rattle.coord.specs.Sights.{View, overlap_of}
 use Rattle.edits.specs.Nears.{is_whole}
 use Rattle.edits.specs.Children.{Child, Old, Ranged}

@@ -1,9 +1,9 @@
 -- Edits worked out by hand, at 24 frames a second.
 use Rattle.std.specs.Prelude.{◌≡◌, ℕ, ℤ, pos, ◌-ℤ◌, true, false, is_none, List, [], ◌∷◌, codes}
-use Rattle.otio_model.specs.declared.editing.Edit.{Edit}
-use Rattle.otio_model.specs.declared.editing.Edit.TheVariants as A
-use Rattle.otio_model.specs.declared.editing.FillMode.TheVariants as F
-use Rattle.otio_model.specs.declared.editing.RemoveMode.TheVariants as R
+use Rattle.otio_model.specs.declared.edit_types.Edit.{Edit}
+use Rattle.otio_model.specs.declared.edit_types.Edit.TheVariants as A
+use Rattle.otio_model.specs.declared.edit_types.FillMode.TheVariants as F
+use Rattle.otio_model.specs.declared.edit_types.RemoveMode.TheVariants as R
 use Rattle.otio_model.specs.declared.compositions.ItemOf.{ItemOf}
 use Rattle.otio_model.specs.declared.compositions.Listed.{Listed}
 use Rattle.coord.specs.Looks.{Url, Show, Blank, Frame}

@@ -1,9 +1,9 @@
 -- Items for what is worked out by hand, at 24 frames a second.
 use Rattle.std.specs.Prelude.{ℕ, ◌*◌, ℤ, pos, true, List, [], ◌∷◌, Option, codes}
 use Rattle.tick_time.specs.declared.spans.Span.{Span}
-use Rattle.otio_model.specs.declared.sources.Media.TheVariants as M
-use Rattle.otio_model.specs.declared.warps.Effect.{Effect}
-use Rattle.otio_model.specs.declared.warps.Effect.TheVariants as E
+use Rattle.otio_model.specs.declared.media.Media.TheVariants as M
+use Rattle.otio_model.specs.declared.effect_types.Effect.{Effect}
+use Rattle.otio_model.specs.declared.effect_types.Effect.TheVariants as E
 use Rattle.otio_model.specs.declared.compositions.ItemOf.{ItemOf}
 use Rattle.otio_model.specs.declared.compositions.ItemOf.TheVariants.{Clip, Gap, Transition}
 use Rattle.otio_model.specs.declared.compositions.Listed.{Listed}

@@ -2,8 +2,8 @@
 use Rattle.std.specs.Prelude.{ℕ, ℤ, ◌+ℤ◌, ◌*ℤ◌, List, Option, Some, None, option_map, option_and_then, length}
 use Rattle.otio_model.specs.declared.compositions.ItemOf.{ItemOf}
 use Rattle.otio_model.specs.declared.compositions.Listed.{Listed}
-use Rattle.otio_model.specs.declared.editing.Edit.{Edit}
-use Rattle.otio_model.specs.declared.editing.Edit.TheVariants as A
+use Rattle.otio_model.specs.declared.edit_types.Edit.{Edit}
+use Rattle.otio_model.specs.declared.edit_types.Edit.TheVariants as A
 use Rattle.edits.specs.Children.{ticks, child_ticks}
 use Rattle.edits.specs.Edges.{Held, Zone, held_at, start, item_zone, slide_zone, moves_zone, slide_by, trim_by, roll_by, last_item}
 use Rattle.edits.specs.Edits.{filling, in_ticks}

@@ -5,8 +5,8 @@ use Rattle.std.proofs.lemmas.Int.{ints, by_lt_z}
 use Rattle.otio_model.specs.declared.compositions.ItemOf.{ItemOf}
 use Rattle.otio_model.specs.declared.compositions.Listed.{Listed}
 use Rattle.otio_model.specs.declared.timelines.Timeline.{Timeline}
-use Rattle.otio_model.specs.declared.editing.Edit.{Edit}
-use Rattle.otio_model.specs.declared.editing.EditFault.{EditFault}
+use Rattle.otio_model.specs.declared.edit_types.Edit.{Edit}
+use Rattle.otio_model.specs.declared.edit_types.EditFault.{EditFault}
 use Rattle.otio_model.specs.Overlaps.{within}
 use Rattle.coord.specs.Sights.{overlap_of}
 use Rattle.edits.specs.Children.{Old, ticks}
@@ -14,7 +14,7 @@ use Rattle.edits.specs.Cuts.{strip, cuts_whole}
 use Rattle.edits.specs.Edges.{Held, held_at, held_behind, start, end, added}
 use Rattle.edits.specs.Good.{AreFair, IsPut, IsHeld}
 use Rattle.edits.specs.After.{at_of}
-use Rattle.otio_model.specs.declared.editing.EditFault.TheVariants as F
+use Rattle.otio_model.specs.declared.edit_types.EditFault.TheVariants as F
 use Rattle.edits.specs.Refusals.{first_fault, test, list_fault, pin_fault, asks_item, has_no_neighbour, is_filled_item, is_empty, is_wrong_speed, is_phased}
 use Rattle.edits_law.proofs.Parted.{added_low, added_strip, lt_yes, le_yes}
 use Rattle.edits_law.proofs.Beside.{strip_append}

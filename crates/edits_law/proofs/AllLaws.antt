@@ -6,11 +6,11 @@ use Rattle.otio_model.specs.declared.compositions.ItemOf.{ItemOf}
 use Rattle.otio_model.specs.declared.compositions.ItemOf.TheVariants.{Clip, Gap, Transition, Stack, Track}
 use Rattle.otio_model.specs.declared.compositions.Listed.{Listed}
 use Rattle.otio_model.specs.declared.timelines.Timeline.{Timeline}
-use Rattle.otio_model.specs.declared.warps.Effect.{Effect}
-use Rattle.otio_model.specs.declared.editing.Edit.{Edit}
-use Rattle.otio_model.specs.declared.editing.Edit.TheVariants as A
-use Rattle.otio_model.specs.declared.editing.FillMode.{FillMode}
-use Rattle.otio_model.specs.declared.editing.FillMode.TheVariants as M
+use Rattle.otio_model.specs.declared.effect_types.Effect.{Effect}
+use Rattle.otio_model.specs.declared.edit_types.Edit.{Edit}
+use Rattle.otio_model.specs.declared.edit_types.Edit.TheVariants as A
+use Rattle.otio_model.specs.declared.edit_types.FillMode.{FillMode}
+use Rattle.otio_model.specs.declared.edit_types.FillMode.TheVariants as M
 use Rattle.coord.specs.Looks.{Show, list_shows}
 use Rattle.coord.specs.Sights.{View, overlap_of}
 use Rattle.edits.specs.Children.{Child, Old, ticks, child_looks}

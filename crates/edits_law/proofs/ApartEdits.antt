@@ -7,12 +7,12 @@ use Rattle.std.specs.Prelude.{int_lt}
 use Rattle.std.proofs.lemmas.Int.{ints, clamps}
 use Rattle.otio_model.specs.declared.compositions.ItemOf.{ItemOf}
 use Rattle.otio_model.specs.declared.compositions.Listed.{Listed}
-use Rattle.otio_model.specs.declared.editing.Edit.{Edit}
-use Rattle.otio_model.specs.declared.editing.Edit.TheVariants as A
-use Rattle.otio_model.specs.declared.editing.FillMode.{FillMode}
-use Rattle.otio_model.specs.declared.editing.FillMode.TheVariants as M
-use Rattle.otio_model.specs.declared.editing.RemoveMode.{RemoveMode}
-use Rattle.otio_model.specs.declared.editing.RemoveMode.TheVariants as R
+use Rattle.otio_model.specs.declared.edit_types.Edit.{Edit}
+use Rattle.otio_model.specs.declared.edit_types.Edit.TheVariants as A
+use Rattle.otio_model.specs.declared.edit_types.FillMode.{FillMode}
+use Rattle.otio_model.specs.declared.edit_types.FillMode.TheVariants as M
+use Rattle.otio_model.specs.declared.edit_types.RemoveMode.{RemoveMode}
+use Rattle.otio_model.specs.declared.edit_types.RemoveMode.TheVariants as R
 use Rattle.otio_model.specs.Trees.{is_transition}
 use Rattle.coord.specs.Sights.{overlap_of}
 use Rattle.edits.specs.Children.{Child, Old, ticks}

@@ -7,7 +7,7 @@ use Rattle.tick_time.proofs.Units.{unit_positive}
 use Rattle.otio_model.specs.declared.compositions.ItemOf.{ItemOf}
 use Rattle.otio_model.specs.declared.compositions.Listed.{Listed}
 use Rattle.otio_model.specs.declared.timelines.Timeline.{Timeline}
-use Rattle.otio_model.specs.declared.editing.Edit.{Edit}
+use Rattle.otio_model.specs.declared.edit_types.Edit.{Edit}
 use Rattle.coord.specs.Looks.{list_shows}
 use Rattle.coord.specs.Sights.{View, looks}
 use Rattle.edits.specs.Children.{all_made}

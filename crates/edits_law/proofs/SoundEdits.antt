@@ -9,7 +9,7 @@ use Rattle.otio_model.specs.declared.compositions.ItemOf.{ItemOf}
 use Rattle.otio_model.specs.declared.compositions.ItemOf.TheVariants.{Track}
 use Rattle.otio_model.specs.declared.compositions.Listed.{Listed}
 use Rattle.otio_model.specs.declared.timelines.Timeline.{Timeline}
-use Rattle.otio_model.specs.declared.editing.Edit.{Edit}
+use Rattle.otio_model.specs.declared.edit_types.Edit.{Edit}
 use Rattle.otio_model.specs.Edits.{deeper, list_at, with_at}
 use Rattle.otio_model.specs.Misplaced.{has_misplaced, side_by_side}
 use Rattle.otio_model.specs.Trees.{below, is_transition, item_at, items_of, listed}

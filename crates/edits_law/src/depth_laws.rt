@@ -1,7 +1,7 @@
 //! Laws of edits at any depth. Their functions do nothing.
 
 ghost use Rattle.std.specs.Prelude.{◌≡◌, ◌≢◌, ℕ, ℤ, Some, None, true, slice_get};
-ghost use Rattle.otio_model.specs.declared.editing.Edit.{Edit};
+ghost use Rattle.otio_model.specs.declared.edit_types.Edit.{Edit};
 ghost use Rattle.otio_model.specs.declared.timelines.Timeline.{Timeline};
 ghost use Rattle.coord.specs.Agreement.{Agree};
 ghost use Rattle.coord.specs.Looks.{FrameRate};

@@ -3,7 +3,7 @@
 ghost use Rattle.std.specs.Prelude.{◌≡◌, ℤ, List, None, Some};
 ghost use Rattle.otio_model.specs.declared.compositions.ItemOf.{ItemOf};
 ghost use Rattle.otio_model.specs.declared.compositions.Listed.{Listed};
-ghost use Rattle.otio_model.specs.declared.editing.Edit.{Edit};
+ghost use Rattle.otio_model.specs.declared.edit_types.Edit.{Edit};
 ghost use Rattle.otio_model.specs.declared.timelines.Timeline.{Timeline};
 ghost use Rattle.coord.specs.Looks.{list_shows};
 ghost use Rattle.coord.specs.Sights.{View, looks};

@@ -3,7 +3,7 @@
 ghost use Rattle.std.specs.Prelude.{◌≡◌, ℤ, List, pos, true, ◌+ℤ◌, ◌≤ℤ◌};
 ghost use Rattle.otio_model.specs.declared.compositions.ItemOf.{ItemOf};
 ghost use Rattle.otio_model.specs.declared.compositions.Listed.{Listed};
-ghost use Rattle.otio_model.specs.declared.editing.RemoveMode.{RemoveMode};
+ghost use Rattle.otio_model.specs.declared.edit_types.RemoveMode.{RemoveMode};
 ghost use Rattle.coord.specs.Looks.{list_shows};
 ghost use Rattle.coord.specs.Sights.{View};
 ghost use Rattle.edits.specs.Children.{Child, Old, child_looks, child_ticks};

@@ -3,7 +3,7 @@
 ghost use Rattle.std.specs.Prelude.{◌≡◌, ◌++◌, ◌∷◌, ℕ, List, None, Some, slice_get};
 ghost use Rattle.otio_model.specs.declared.compositions.ItemOf.{ItemOf};
 ghost use Rattle.otio_model.specs.declared.compositions.Listed.{Listed};
-ghost use Rattle.otio_model.specs.declared.editing.Edit.{Edit};
+ghost use Rattle.otio_model.specs.declared.edit_types.Edit.{Edit};
 ghost use Rattle.otio_model.specs.declared.timelines.Timeline.{Timeline};
 ghost use Rattle.coord.specs.Soundness.{IsSound, fault_of};
 ghost use Rattle.coord.specs.declared.faults.ItemFault.{ItemFault};

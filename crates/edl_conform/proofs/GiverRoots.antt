@@ -16,8 +16,8 @@ use Rattle.edl_frames.specs.Jobs.{Job}
 use Rattle.edl_frames.specs.Channels.{is_track_of}
 use Rattle.edl_frames.specs.Carried.{count_of_kind, channel_of}
 use Rattle.edl_frames.specs.Homes.{Homed, homed_track, homed_root, homed_all, homed_on}
-use Rattle.edl_conform.specs.declared.tracks.Taken.{Taken}
-use Rattle.edl_conform.specs.declared.giving.Givers.{Givers}
+use Rattle.edl_conform.specs.declared.events_from_tracks.Taken.{Taken}
+use Rattle.edl_conform.specs.declared.event_homes.Givers.{Givers}
 use Rattle.edl_conform.specs.Walk.{channel_behind, taken_after}
 use Rattle.edl_conform.specs.Givers.{AreCounted, PutsRoot, homes_in, places, spots_on}
 use Rattle.edl_conform.proofs.ChannelEvents.{count_behind}

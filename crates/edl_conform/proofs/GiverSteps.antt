@@ -21,11 +21,11 @@ use Rattle.edl_frames.specs.Jobs.{Job}
 use Rattle.edl_frames.specs.Seats.{Past, Seat, length_in, past_by, seats, head}
 use Rattle.edl_frames.specs.ChildEvents.{event_of, track_events, events_on}
 use Rattle.edl_frames.specs.Homes.{Homed, homed_seats, homed_track, homed_on}
-use Rattle.edl_conform.specs.declared.giving.Spot.{Spot}
-use Rattle.edl_conform.specs.declared.giving.Givers.{Givers}
+use Rattle.edl_conform.specs.declared.event_homes.Spot.{Spot}
+use Rattle.edl_conform.specs.declared.event_homes.Givers.{Givers}
 use Rattle.edl_conform.specs.Givers.{homes_in, one_home, places, spots_on}
-use Rattle.edl_conform.specs.declared.seat.Past.{Past as PastRow}
-use Rattle.edl_conform.specs.declared.seat.Seat.{Seat as SeatRow}
+use Rattle.edl_conform.specs.declared.child_context.Past.{Past as PastRow}
+use Rattle.edl_conform.specs.declared.child_context.Seat.{Seat as SeatRow}
 use Rattle.edl_conform.specs.Seated.{IsSeatAt, IsSeated}
 use Rattle.edl_conform.specs.Stated.{stated_past, stated_seat}
 use Rattle.edl_conform.proofs.SeatSteps.{here, kept}

@@ -21,9 +21,9 @@ use Rattle.edl_frames.specs.Jobs.{Job, job_of}
 use Rattle.edl_frames.specs.ChildEvents.{events_on, unnumbered}
 use Rattle.edl_frames.specs.Carried.{count_of_kind, channel_of}
 use Rattle.edl_frames.specs.Homes.{Homed, HasList, AreHomes, paired, homed_track, homed_root, homed_all, homed_on}
-use Rattle.edl_conform.specs.declared.giving.Spot.{Spot}
-use Rattle.edl_conform.specs.declared.giving.Givers.{Givers}
-use Rattle.edl_conform.specs.declared.giving.Given.{Given}
+use Rattle.edl_conform.specs.declared.event_homes.Spot.{Spot}
+use Rattle.edl_conform.specs.declared.event_homes.Givers.{Givers}
+use Rattle.edl_conform.specs.declared.event_homes.Given.{Given}
 use Rattle.edl_conform.specs.Givers.{homes_in, home_at, places, spots_on, given_on, given_behind}
 use Rattle.edl_conform.proofs.ChannelEvents.{all_channels, on-unnumbered, count_behind, track_is_unlined, on_by}
 use Rattle.edl_conform.proofs.GiverSteps.{events_in, events_of_track}

@@ -3,7 +3,7 @@ use Rattle.std.proofs.Common.{◌≡◌, refl, sym, ap, subst, ◌∙◌, ℕ, �
 use Rattle.tick_time.specs.declared.rates.Rate.{Rate}
 use Rattle.tick_time.specs.declared.spans.Span.{Span}
 use Rattle.json_value.specs.declared.Json.{Json}
-use Rattle.otio_model.specs.declared.sources.Media.TheVariants.{External}
+use Rattle.otio_model.specs.declared.media.Media.TheVariants.{External}
 use Rattle.otio_model.specs.declared.compositions.ItemOf.{ItemOf}
 use Rattle.otio_model.specs.declared.compositions.Listed.{Listed}
 use Rattle.edl_list.specs.declared.list.Channel.{Channel}

@@ -14,8 +14,8 @@ use Rattle.edl_frames.specs.Sides.{clip_row, speed_in}
 use Rattle.edl_frames.specs.ChildReasons as C
 use Rattle.edl_frames.specs.declared.reasons.Why.{Why}
 use Rattle.edl_frames.specs.declared.reasons.Why.TheVariants as W
-use Rattle.edl_conform.specs.declared.seat.Seat.{Seat}
-use Rattle.edl_conform.specs.declared.parts.Tested.{Tested}
+use Rattle.edl_conform.specs.declared.child_context.Seat.{Seat}
+use Rattle.edl_conform.specs.declared.clip_sides.Tested.{Tested}
 use Rattle.edl_conform.specs.Ranges.{IsNear}
 use Rattle.edl_conform.specs.Seated.{IsSeated}
 use Rattle.edl_conform.specs.Drafts.{IsTested, event_part_at, or_record_day, source_reason_by}

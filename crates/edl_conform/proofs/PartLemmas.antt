@@ -13,11 +13,11 @@ use Rattle.edl_frames.specs.Jobs.{frames_in, is_in_day, ticks_of}
 use Rattle.edl_frames.specs.Sides.{source_at, speed_in}
 use Rattle.edl_frames.specs.Seats as T
 use Rattle.edl_frames.specs.ChildReasons as C
-use Rattle.edl_conform.specs.declared.parts.Part.{Part}
-use Rattle.edl_conform.specs.declared.shots.Shot.{Shot}
+use Rattle.edl_conform.specs.declared.clip_sides.Part.{Part}
+use Rattle.edl_conform.specs.declared.visible_clips.Shot.{Shot}
 use Rattle.std.proofs.lemmas.List.Folds.{list_any-append}
 use Rattle.otio_model.specs.declared.compositions.Clip.{Clip as ClipRow}
-use Rattle.edl_conform.specs.declared.parts.Tested.{Tested}
+use Rattle.edl_conform.specs.declared.clip_sides.Tested.{Tested}
 use Rattle.edl_conform.specs.Drafts.{IsTested, event_part_at, going_side, tested_either}
 use Rattle.edl_conform.specs.Shots.{IsShot, clip_of, stated_part}
 

@@ -21,7 +21,7 @@ use Rattle.edl_frames.specs.Channels.{channel_track}
 use Rattle.edl_frames.specs.Jobs.{Job}
 use Rattle.edl_frames.specs.ChildEvents.{events_on}
 use Rattle.edl_frames.specs.Carried.{Examined, count_of_kind, channel_of, examine_track, examine, examine_all, first_said}
-use Rattle.edl_conform.specs.declared.tracks.Taken.{Taken}
+use Rattle.edl_conform.specs.declared.events_from_tracks.Taken.{Taken}
 use Rattle.edl_conform.specs.Walk.{AreRising, AreTaken, AreGathered, AddsTrack, AddsRoot, HasCome, IsSaid, channel_behind, taken_after}
 use Rattle.edl_conform.proofs.FirstSaid.{said_behind, said_before}
 use Rattle.edl_conform.proofs.ChannelEvents.{track_is_unlined, on_by, count_behind, none_there, comes_next, stays}

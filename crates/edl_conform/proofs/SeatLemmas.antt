@@ -9,8 +9,8 @@ use Rattle.edl_frames.specs.Jobs as D
 use Rattle.edl_frames.specs.Seats as T
 use Rattle.edl_frames.specs.ChildEvents as E
 use Rattle.edl_frames.specs.ChildReasons as C
-use Rattle.edl_conform.specs.declared.seat.Past.{Past}
-use Rattle.edl_conform.specs.declared.seat.Seat.{Seat}
+use Rattle.edl_conform.specs.declared.child_context.Past.{Past}
+use Rattle.edl_conform.specs.declared.child_context.Seat.{Seat}
 use Rattle.edl_conform.specs.Stated.{stated_past, stated_seat}
 use Rattle.edl_conform.specs.Seated.{IsSeatAt, seat_with}
 

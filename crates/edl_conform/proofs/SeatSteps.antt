@@ -17,9 +17,9 @@ use Rattle.media_rows.specs.Rows.{MediaRows}
 use Rattle.edl_frames.specs.Jobs.{mode_in}
 use Rattle.edl_frames.specs.Seats.{length_in, past_by, is_there}
 use Rattle.edl_frames.specs.ChildEvents.{event_of}
-use Rattle.edl_conform.specs.declared.job.Job.{Job}
-use Rattle.edl_conform.specs.declared.seat.Past.{Past}
-use Rattle.edl_conform.specs.declared.seat.Seat.{Seat}
+use Rattle.edl_conform.specs.declared.list_settings.Job.{Job}
+use Rattle.edl_conform.specs.declared.child_context.Past.{Past}
+use Rattle.edl_conform.specs.declared.child_context.Seat.{Seat}
 use Rattle.edl_conform.specs.Seated.{IsCarried, IsSeatAt, IsSeated}
 use Rattle.edl_conform.specs.Stated.{IsJobOf, stated_job, stated_past, stated_seat}
 use Rattle.edl_conform.specs.Walk.{IsUnderWay}

@@ -13,12 +13,12 @@ use Rattle.edl_frames.specs.Seats as T
 use Rattle.edl_frames.specs.ChildEvents as E
 use Rattle.edl_frames.specs.ChildReasons as C
 use Rattle.edl_frames.specs.declared.reasons.Why.TheVariants as W
-use Rattle.edl_conform.specs.declared.job.Job.{Job}
-use Rattle.edl_conform.specs.declared.seat.Lap.{Lap}
-use Rattle.edl_conform.specs.declared.drafts.Draft.{Draft}
+use Rattle.edl_conform.specs.declared.list_settings.Job.{Job}
+use Rattle.edl_conform.specs.declared.child_context.Lap.{Lap}
+use Rattle.edl_conform.specs.declared.draft_events.Draft.{Draft}
 use Rattle.edl_conform.specs.declared.overlaps.Overlap.{Overlap as OverlapRow}
 use Rattle.edl_conform.specs.Shots.{stated_overlap}
-use Rattle.edl_conform.specs.declared.seat.Seat.{Seat}
+use Rattle.edl_conform.specs.declared.child_context.Seat.{Seat}
 use Rattle.edl_conform.specs.Stated.{stated_job, stated_seat}
 use Rattle.edl_conform.specs.Seated.{IsCarried, IsPast, IsShort, IsShortSeat}
 

@@ -18,9 +18,9 @@ use Rattle.edl_frames.specs.ChildReasons as C
 use Rattle.edl_frames.specs.declared.reasons.Why.{Why}
 use Rattle.edl_frames.specs.declared.reasons.Why.TheVariants as W
 use Rattle.std.specs.Ordering.{int_eq}
-use Rattle.edl_conform.specs.declared.parts.Tested.{Tested}
-use Rattle.edl_conform.specs.declared.drafts.Draft.{Draft}
-use Rattle.edl_conform.specs.declared.drafts.Shown.{Shown}
+use Rattle.edl_conform.specs.declared.clip_sides.Tested.{Tested}
+use Rattle.edl_conform.specs.declared.draft_events.Draft.{Draft}
+use Rattle.edl_conform.specs.declared.draft_events.Shown.{Shown}
 use Rattle.edl_conform.specs.Ranges.{IsNear}
 use Rattle.edl_conform.specs.Seated.{IsOpen}
 use Rattle.edl_conform.specs.Shots.{IsShot, clip_of}

@@ -8,10 +8,10 @@ use Rattle.edl_list.specs.declared.list.Event.{Event}
 use Rattle.edl_frames.specs.Jobs.{Job}
 use Rattle.edl_frames.specs.Carried.{count_of_kind}
 use Rattle.edl_frames.specs.Homes.{Homed, homed_on, homed_root}
-use Rattle.edl_conform.specs.declared.tracks.Taken.{Taken}
-use Rattle.edl_conform.specs.declared.giving.Spot.{Spot}
-use Rattle.edl_conform.specs.declared.giving.Givers.{Givers}
-use Rattle.edl_conform.specs.declared.giving.Given.{Given}
+use Rattle.edl_conform.specs.declared.events_from_tracks.Taken.{Taken}
+use Rattle.edl_conform.specs.declared.event_homes.Spot.{Spot}
+use Rattle.edl_conform.specs.declared.event_homes.Givers.{Givers}
+use Rattle.edl_conform.specs.declared.event_homes.Given.{Given}
 
 -- the place of a child
 abbrev pub place_of : Spot → List ℕ

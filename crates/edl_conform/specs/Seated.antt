@@ -14,11 +14,11 @@ use Rattle.edl_list.specs.declared.list.Channel.{Channel}
 use Rattle.edl_frames.specs.Seats.{length_in}
 use Rattle.edl_frames.specs.Seats as T
 use Rattle.edl_frames.specs.ChildReasons as C
-use Rattle.edl_conform.specs.declared.job.Job.{Job}
-use Rattle.edl_conform.specs.declared.seat.Lap.{Lap}
-use Rattle.edl_conform.specs.declared.seat.ItemAt.{ItemAt}
-use Rattle.edl_conform.specs.declared.seat.Past.{Past}
-use Rattle.edl_conform.specs.declared.seat.Seat.{Seat}
+use Rattle.edl_conform.specs.declared.list_settings.Job.{Job}
+use Rattle.edl_conform.specs.declared.child_context.Lap.{Lap}
+use Rattle.edl_conform.specs.declared.child_context.ItemAt.{ItemAt}
+use Rattle.edl_conform.specs.declared.child_context.Past.{Past}
+use Rattle.edl_conform.specs.declared.child_context.Seat.{Seat}
 use Rattle.edl_conform.specs.Stated.{stated_job, stated_seat}
 use Rattle.edl_conform.specs.Ranges.{IsNear}
 

@@ -10,8 +10,8 @@ use Rattle.coord.specs.Images as I
 use Rattle.edl_frames.specs.Sides.{speed_in}
 use Rattle.edl_frames.specs.ChildReasons as C
 use Rattle.edl_conform.specs.declared.overlaps.Overlap.{Overlap}
-use Rattle.edl_conform.specs.declared.shots.Shot.{Shot}
-use Rattle.edl_conform.specs.declared.parts.Part.{Part}
+use Rattle.edl_conform.specs.declared.visible_clips.Shot.{Shot}
+use Rattle.edl_conform.specs.declared.clip_sides.Part.{Part}
 use Rattle.edl_conform.specs.declared.clips.LapKind.{LapKind}
 use Rattle.edl_conform.specs.declared.clips.LapKind.TheVariants as K
 use Rattle.edl_conform.specs.Ranges.{IsNear}

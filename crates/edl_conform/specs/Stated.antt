@@ -8,11 +8,11 @@ use Rattle.media_rows.specs.Rows.{MediaRows}
 use Rattle.edl_frames.specs.Jobs as D
 use Rattle.edl_frames.specs.Jobs.{mode_in}
 use Rattle.edl_frames.specs.Seats as T
-use Rattle.edl_conform.specs.declared.job.Job.{Job}
-use Rattle.edl_conform.specs.declared.seat.Lap.{Lap}
-use Rattle.edl_conform.specs.declared.seat.ItemAt.{ItemAt}
-use Rattle.edl_conform.specs.declared.seat.Past.{Past}
-use Rattle.edl_conform.specs.declared.seat.Seat.{Seat}
+use Rattle.edl_conform.specs.declared.list_settings.Job.{Job}
+use Rattle.edl_conform.specs.declared.child_context.Lap.{Lap}
+use Rattle.edl_conform.specs.declared.child_context.ItemAt.{ItemAt}
+use Rattle.edl_conform.specs.declared.child_context.Past.{Past}
+use Rattle.edl_conform.specs.declared.child_context.Seat.{Seat}
 
 abbrev pub stated_job : Job → D.Job
 stated_job j = record {

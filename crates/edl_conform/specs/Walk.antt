@@ -19,7 +19,7 @@ use Rattle.edl_frames.specs.Seats.{Past, seats, head}
 use Rattle.edl_frames.specs.ChildEvents.{event_of, track_events, events_on, unnumbered}
 use Rattle.edl_frames.specs.Carried.{count_of_kind, examine_seats, examine_track, examine, examine_all, first_said}
 use Rattle.edl_conform.specs.declared.children.Stop.{Stop}
-use Rattle.edl_conform.specs.declared.tracks.Taken.{Taken}
+use Rattle.edl_conform.specs.declared.events_from_tracks.Taken.{Taken}
 
 -- no event begins before one that stands before it
 abbrev pub AreRising : List Event → Type 0

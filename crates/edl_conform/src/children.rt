@@ -12,10 +12,10 @@ ghost use Rattle.edl_conform.specs.Seated.{IsCarried, IsPast, IsSeated};
 ghost use Rattle.edl_conform.specs.Stated.{stated_job, stated_seat};
 ghost use Rattle.edl_conform.specs.Walk.{IsWalked};
 
-use crate::job::Job;
-use crate::judging::reason_of;
-use crate::seat::{Past, Seat};
-use crate::writing::event_of;
+use crate::child_context::{Past, Seat};
+use crate::child_reasons::reason_of;
+use crate::event_of_child::event_of;
+use crate::list_settings::Job;
 use edl_frames::Why;
 use edl_list::{Channel, Event};
 use otio_model::Children;

@@ -15,8 +15,8 @@ ghost use Rattle.edl_conform.specs.Shots.{stated_kind};
 ghost use Rattle.edl_conform.specs.Drafts.{fits_name};
 ghost use Rattle.otio_model.specs.Lengths.{active_media};
 
-use crate::choices::{any_of, both};
-use crate::job::Job;
+use crate::bools::{any_of, both};
+use crate::list_settings::Job;
 use coord::{media_rate, own_reel, wipe_code};
 use edl_list::Layout;
 use media_rows::MediaRow;

@@ -9,9 +9,9 @@ ghost use Rattle.edl_frames.specs.Counted.{item_count};
 ghost use Rattle.edl_frames.specs.Faults.{IsConformFault};
 ghost use Rattle.edl_frames.specs.Refused.{IsAccepted};
 
-use crate::counts::is_large;
-use crate::refusals::first_fault;
-use crate::timelines::{first_record, timeline_of};
+use crate::item_counts::is_large;
+use crate::media_faults::first_fault;
+use crate::timeline_from_list::{first_record, timeline_of};
 use edl_frames::ConformFault;
 use edl_list::EventList;
 use media_list::MediaList;

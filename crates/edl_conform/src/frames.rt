@@ -6,8 +6,8 @@ ghost use Rattle.edl_frames.specs.Jobs as jobs;
 ghost use Rattle.edl_conform.specs.Stated.{stated_job};
 ghost use Rattle.edl_conform.specs.Ranges.{IsNear};
 
-use crate::choices::both;
-use crate::job::Job;
+use crate::bools::both;
+use crate::list_settings::Job;
 
 /// Whole record frames in so many ticks.
 pub(crate) fn frames_in(job: &Job<'_>, ticks: i128) -> i128

@@ -7,8 +7,8 @@ ghost use Rattle.edl_list.specs.declared.list.Channel.{Channel};
 ghost use Rattle.edl_frames.specs.Jobs.{Job};
 ghost use Rattle.edl_frames.specs.ChildEvents.{event_of};
 ghost use Rattle.edl_frames.specs.ChildReasons.{reason_of};
-ghost use Rattle.edl_conform.specs.declared.seat.Past.{Past};
-ghost use Rattle.edl_conform.specs.declared.seat.Seat.{Seat};
+ghost use Rattle.edl_conform.specs.declared.child_context.Past.{Past};
+ghost use Rattle.edl_conform.specs.declared.child_context.Seat.{Seat};
 ghost use Rattle.edl_conform.specs.Stated.{stated_past, stated_seat};
 ghost use Rattle.edl_conform.specs.Seated.{IsSeatAt, seat_with};
 

@@ -9,7 +9,7 @@ ghost use Rattle.edl_conform.specs.Ranges.{IsNear};
 ghost use Rattle.edl_conform.specs.Seated.{IsOpen, IsOpenPast, IsSeated};
 ghost use Rattle.edl_conform.specs.Shots.{IsOverlap, stated_overlap};
 
-use crate::seat::{Lap, Seat};
+use crate::child_context::{Lap, Seat};
 use otio_model::{Item, ItemOf, offset_ticks};
 use sequences::Text;
 

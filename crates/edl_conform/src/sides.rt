@@ -9,10 +9,10 @@ ghost use Rattle.edl_conform.specs.Shots.{IsShot, clip_of};
 ghost use Rattle.edl_conform.specs.Drafts.{IsShown};
 
 use crate::clips::{reel_of, row_of};
-use crate::drafts::Shown;
-use crate::job::Job;
-use crate::shots::{Shot, gone, source_at};
-use crate::tenths::tenths_of;
+use crate::draft_events::Shown;
+use crate::list_settings::Job;
+use crate::m2_speeds::tenths_of;
+use crate::visible_clips::{Shot, gone, source_at};
 use edl_list::{Reel, Side};
 use otio_model::Clip;
 use sequences::Text;

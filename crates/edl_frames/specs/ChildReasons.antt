@@ -2,7 +2,7 @@
 use Rattle.std.specs.Prelude.{ℤ, pos, ◌+ℤ◌, ◌-ℤ◌, ◌*ℤ◌, int_lt, int_le, Bool, true, false, not, ◌&&◌, ◌||◌, cond, List, [], ◌∷◌, ◌++◌, Option, Some, None}
 use Rattle.std.specs.Int.{int_div_euclid, int_rem_euclid}
 use Rattle.std.specs.List.{list_any}
-use Rattle.otio_model.specs.declared.warps.Effect.{Effect}
+use Rattle.otio_model.specs.declared.effect_types.Effect.{Effect}
 use Rattle.otio_model.specs.declared.compositions.Clip.{Clip as ClipRow}
 use Rattle.otio_model.specs.declared.compositions.ItemOf.{ItemOf}
 use Rattle.otio_model.specs.declared.compositions.ItemOf.TheVariants.{Clip}
@@ -22,7 +22,7 @@ use Rattle.edl_frames.specs.Jobs.{Job, ticks_of, frames_in, is_on_frame, mode_in
 use Rattle.edl_frames.specs.Seats.{Lap, Seat, lap_at, length_in, lap_behind, begin_of, end_of, clip_in, is_item, is_there}
 use Rattle.edl_frames.specs.Sides.{clip_row, clip_reel, speed_in, source_at}
 use Rattle.edl_frames.specs.ChildEvents.{event_of}
-use Rattle.otio_model.specs.declared.warps.Effect.TheVariants as E
+use Rattle.otio_model.specs.declared.effect_types.Effect.TheVariants as E
 use Rattle.edl_frames.specs.declared.reasons.Why.TheVariants as W
 
 -- the first of the tests that holds

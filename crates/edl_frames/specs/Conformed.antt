@@ -9,10 +9,10 @@ use Rattle.tick_time.specs.declared.times.Time.{Time}
 use Rattle.tick_time.specs.Frames.{IsFrames}
 use Rattle.json_value.specs.declared.Json.{Json, out-Json}
 use Rattle.json_value.specs.declared.Json.TheOpen.{Json-F}
-use Rattle.otio_model.specs.declared.sources.Media.{Media}
-use Rattle.otio_model.specs.declared.sources.Media.TheVariants.{External, Missing}
-use Rattle.otio_model.specs.declared.warps.Effect.{Effect}
-use Rattle.otio_model.specs.declared.warps.Effect.TheVariants.{Warp, Freeze}
+use Rattle.otio_model.specs.declared.media.Media.{Media}
+use Rattle.otio_model.specs.declared.media.Media.TheVariants.{External, Missing}
+use Rattle.otio_model.specs.declared.effect_types.Effect.{Effect}
+use Rattle.otio_model.specs.declared.effect_types.Effect.TheVariants.{Warp, Freeze}
 use Rattle.otio_model.specs.declared.compositions.Clip.{Clip as ClipRow}
 use Rattle.otio_model.specs.declared.compositions.Gap.{Gap as GapRow}
 use Rattle.otio_model.specs.declared.compositions.Transition.{Transition as TransitionRow}

@@ -1,7 +1,7 @@
 -- The sides of the events of a track.
 use Rattle.std.specs.Prelude.{ℕ, ℤ, pos, ◌+ℤ◌, ◌-ℤ◌, ◌*ℤ◌, nat_le, unsigned_abs, false, ◌&&◌, cond, List, [], ◌∷◌, Option, Some, None, length, option_and_then}
 use Rattle.std.specs.Int.{int_div_euclid}
-use Rattle.otio_model.specs.declared.sources.Media.{Media as Reference}
+use Rattle.otio_model.specs.declared.media.Media.{Media as Reference}
 use Rattle.otio_model.specs.declared.compositions.Clip.{Clip as ClipRow}
 use Rattle.otio_model.specs.declared.compositions.ItemOf.TheVariants.{Clip}
 use Rattle.otio_model.specs.declared.compositions.Listed.{Listed}
@@ -21,7 +21,7 @@ use Rattle.edl_list.specs.declared.layout.Layout.{Layout}
 use Rattle.text_lines.specs.ReelNames.{is_reel_name}
 use Rattle.edl_frames.specs.Jobs.{Job, frames_in, mode_in, count_in, tenths_of}
 use Rattle.edl_frames.specs.Seats.{Lap, ItemAt, Past, clip_in}
-use Rattle.otio_model.specs.declared.sources.Media.TheVariants as M
+use Rattle.otio_model.specs.declared.media.Media.TheVariants as M
 
 -- the URL of external media
 abbrev pub url_in : Option Reference → Option (List ℕ)

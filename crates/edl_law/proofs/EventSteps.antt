@@ -4,7 +4,7 @@ use Rattle.std.proofs.lemmas.Int.{ints}
 use Rattle.tick_time.specs.declared.rates.Rate.{Rate}
 use Rattle.edl_text.specs.Statements as said
 use Rattle.edl_text.specs.Statements.{Statement, EventLine, Speed}
-use Rattle.edl_text.specs.declared.statement.Kind.TheVariants as kinds
+use Rattle.edl_text.specs.declared.statement_types.Kind.TheVariants as kinds
 use Rattle.edl_list.specs.declared.list.Channel.{Channel}
 use Rattle.edl_list.specs.declared.list.Side.{Side}
 use Rattle.edl_list.specs.declared.list.Cross.{Cross}

@@ -11,7 +11,7 @@ use Rattle.tick_time.specs.declared.rates.Rate.{Rate}
 use Rattle.tick_time.specs.declared.spans.Span.{Span}
 use Rattle.tick_time.specs.declared.times.Time.{Time}
 use Rattle.tick_time.specs.Rates.{frame, unit}
-use Rattle.otio_model.specs.declared.sources.Media.{Media as Reference}
+use Rattle.otio_model.specs.declared.media.Media.{Media as Reference}
 use Rattle.otio_model.specs.declared.compositions.Clip.{Clip as ClipRow}
 use Rattle.otio_model.specs.declared.compositions.ItemOf.{ItemOf}
 use Rattle.otio_model.specs.declared.compositions.ItemOf.TheVariants.{Clip}

@@ -9,7 +9,7 @@ use Rattle.tick_time.specs.declared.times.Time.{Time}
 use Rattle.tick_time.proofs.SameValues.{same_time}
 use Rattle.json_value.specs.declared.Json.{Json, out-Json, roll-Json, roll-out-Json}
 use Rattle.json_value.specs.declared.Json.TheOpen.{Json-F}
-use Rattle.otio_model.specs.declared.sources.Media.{Media}
+use Rattle.otio_model.specs.declared.media.Media.{Media}
 use Rattle.otio_model.specs.declared.compositions.ItemOf.{ItemOf}
 use Rattle.otio_model.specs.declared.compositions.ItemOf.TheVariants.{Clip, Gap, Transition, Track}
 use Rattle.otio_model.specs.declared.compositions.Listed.{Listed}

@@ -12,8 +12,8 @@ use Rattle.otio_model.specs.declared.timelines.Timeline.{Timeline}
 use Rattle.coord.specs.Programs.{record_rate, start_frame}
 use Rattle.tick_time.specs.Rates.{unit}
 use Rattle.tick_time.proofs.Wholes.{rem_zero, units_of}
-use Rattle.otio_model.specs.declared.sources.Media.{Media as Reference}
-use Rattle.otio_model.specs.declared.sources.Media.TheVariants as M
+use Rattle.otio_model.specs.declared.media.Media.{Media as Reference}
+use Rattle.otio_model.specs.declared.media.Media.TheVariants as M
 use Rattle.otio_model.specs.declared.compositions.Clip.{Clip as ClipRow}
 use Rattle.otio_model.specs.declared.compositions.ItemOf.TheVariants.{Clip}
 use Rattle.otio_model.specs.declared.compositions.Listed.{Listed}

@@ -2,9 +2,9 @@
 use Rattle.std.proofs.Common.{ℕ, true, false, List}
 use Rattle.edl_text.specs.Statements as said
 use Rattle.edl_text.specs.EventForms.{channels}
-use Rattle.edl_text.specs.declared.statement.Channels.{Channels}
-use Rattle.edl_text.specs.declared.statement.Kind.{Kind}
-use Rattle.edl_text.specs.declared.statement.Kind.TheVariants as kinds
+use Rattle.edl_text.specs.declared.statement_types.Channels.{Channels}
+use Rattle.edl_text.specs.declared.statement_types.Kind.{Kind}
+use Rattle.edl_text.specs.declared.statement_types.Kind.TheVariants as kinds
 use Rattle.edl_list.specs.declared.list.Reel.{Reel}
 use Rattle.edl_list.specs.declared.list.Reel.TheVariants.{Black, Named}
 use Rattle.edl_list.specs.declared.list.Channel.{Channel}

@@ -5,7 +5,7 @@ use Rattle.std.proofs.lemmas.Bool.{or_parts}
 use Rattle.std.proofs.lemmas.List.Elements.{All-head, All-tail}
 use Rattle.tick_time.specs.declared.rates.Rate.{Rate}
 use Rattle.tick_time.specs.Times.{IsSpeed}
-use Rattle.otio_model.specs.declared.sources.Media.{Media}
+use Rattle.otio_model.specs.declared.media.Media.{Media}
 use Rattle.otio_model.specs.declared.compositions.ItemOf.{ItemOf}
 use Rattle.otio_model.specs.declared.compositions.ItemOf.TheVariants.{Transition}
 use Rattle.otio_model.specs.declared.compositions.Listed.{Listed}

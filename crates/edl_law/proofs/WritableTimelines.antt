@@ -10,9 +10,9 @@ use Rattle.otio_model.specs.declared.compositions.ItemOf.{ItemOf}
 use Rattle.otio_model.specs.declared.compositions.ItemOf.TheVariants.{Track}
 use Rattle.otio_model.specs.declared.compositions.Listed.{Listed}
 use Rattle.otio_model.specs.declared.timelines.Timeline.{Timeline}
-use Rattle.otio_model.specs.declared.roots.Object.{Timeline as ObjectOfTimeline, out-Object}
-use Rattle.otio_model.specs.declared.roots.Object.TheOpen.{Object-F}
-use Rattle.otio_model.specs.declared.roots.Object.TheViews.{roll-Object}
+use Rattle.otio_model.specs.declared.objects.Object.{Timeline as ObjectOfTimeline, out-Object}
+use Rattle.otio_model.specs.declared.objects.Object.TheOpen.{Object-F}
+use Rattle.otio_model.specs.declared.objects.Object.TheViews.{roll-Object}
 use Rattle.otio_model.specs.Trees.{items_of, below}
 use Rattle.otio_model.specs.Misplaced.{has_misplaced}
 use Rattle.schema_rows.specs.declared.schemas.Schema.TheVariants as S

@@ -5,7 +5,7 @@ use Rattle.tick_time.specs.declared.rates.Rate.{Rate}
 use Rattle.tick_time.specs.declared.spans.Span.{Span}
 use Rattle.tick_time.specs.declared.times.Time.{Time}
 use Rattle.tick_time.proofs.SameValues.{RateFacts, built_rate, TimeFacts, built_time}
-use Rattle.otio_model.specs.declared.warps.Effect.{Effect}
+use Rattle.otio_model.specs.declared.effect_types.Effect.{Effect}
 use Rattle.otio_model.specs.declared.compositions.ItemOf.{ItemOf}
 use Rattle.otio_model.specs.declared.compositions.ItemOf.TheVariants.{Clip, Gap, Transition, Stack, Track}
 use Rattle.otio_model.specs.declared.compositions.Listed.{Listed}

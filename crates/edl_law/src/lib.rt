@@ -14,7 +14,7 @@ ghost use Rattle.edl_list.specs.Formed.{IsWellFormed};
 ghost use Rattle.media_rows.specs.Rows.{MediaRows};
 ghost use Rattle.edl_frames.specs.Conformed.{IsTimelineOf};
 ghost use Rattle.otio_model.specs.declared.timelines.Timeline.{Timeline};
-ghost use Rattle.otio_model.specs.declared.roots.Object.{Timeline as ObjectOfTimeline};
+ghost use Rattle.otio_model.specs.declared.objects.Object.{Timeline as ObjectOfTimeline};
 ghost use Rattle.schema_rows.specs.Stands.{Stands};
 ghost use Rattle.schema_write.specs.Objects.{json_of};
 ghost use Rattle.object_law.specs.Writable.{IsObject};

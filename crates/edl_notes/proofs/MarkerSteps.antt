@@ -8,7 +8,7 @@ use Rattle.tick_time.specs.declared.rates.Rate.{Rate}
 use Rattle.tick_time.specs.Rates.{frame}
 use Rattle.tick_time.specs.Times.{IsInRange}
 use Rattle.tick_time.proofs.BoolLemmas.{both}
-use Rattle.otio_model.specs.declared.marks.Marker.{Marker}
+use Rattle.otio_model.specs.declared.markers.Marker.{Marker}
 use Rattle.edl_list.specs.declared.list.Event.{Event}
 use Rattle.edl_list.specs.Formed.{IsEvent}
 use Rattle.edl_list.specs.Speeds.{day_of, count_of}

@@ -5,17 +5,17 @@ use Rattle.std.proofs.lemmas.Bool.Decides.{nat_tests}
 use Rattle.tick_time.specs.declared.rates.Rate.{Rate}
 use Rattle.edl_text.specs.Statements.{Statement, EventLine, Event}
 use Rattle.edl_text.specs.Views.{event_said}
-use Rattle.edl_text.specs.declared.statement.EventLine as lines
-use Rattle.edl_text.specs.declared.statement.Channels.{Channels}
-use Rattle.edl_text.specs.declared.statement.Kind.{Kind}
-use Rattle.edl_text.specs.declared.statement.Kind.TheVariants as kinds
+use Rattle.edl_text.specs.declared.statement_types.EventLine as lines
+use Rattle.edl_text.specs.declared.statement_types.Channels.{Channels}
+use Rattle.edl_text.specs.declared.statement_types.Kind.{Kind}
+use Rattle.edl_text.specs.declared.statement_types.Kind.TheVariants as kinds
 use Rattle.edl_list.specs.declared.list.Event as listed
 use Rattle.edl_list.specs.declared.list.Side.{Side}
 use Rattle.edl_text.specs.declared.faults.EdlFault.{EdlFault}
 use Rattle.edl_text.specs.declared.faults.EdlFault.TheVariants.{Form, Timecode, Order}
-use Rattle.edl_text.specs.declared.frames.Frames.{Frames}
-use Rattle.edl_text.specs.declared.pending.Pending.{Pending}
-use Rattle.edl_text.specs.declared.said.Said.{Said}
+use Rattle.edl_text.specs.declared.event_frames.Frames.{Frames}
+use Rattle.edl_text.specs.declared.open_event.Pending.{Pending}
+use Rattle.edl_text.specs.declared.list_so_far.Said.{Said}
 use Rattle.smpte_tc.specs.Frames.{label_frame}
 use Rattle.edl_text.specs.Past.{Block, line_behind, mode_in, first_mode_in, block_behind, blocks_in}
 use Rattle.edl_text.specs.Sides.{duration, is_cut, has_labels, source_in, source_out, record_in, record_out, speeds_of, latest, outgoing_speed, reel_at, is_pair, incoming, outgoing, from_side, begun, is_one_reel}

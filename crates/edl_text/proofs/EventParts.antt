@@ -7,9 +7,9 @@ use Rattle.edl_text.specs.Statements.{EventLine, Reel, labels_of}
 use Rattle.edl_text.specs.Numbers.{IsNumber, IsReel, number_digits, duration_digits, code_digits}
 use Rattle.edl_text.specs.EventForms.{AreChannels, IsLasting, IsWipeCode, IsWipe, IsKind, IsEvent}
 use Rattle.edl_text.specs.Saying.{first_of}
-use Rattle.edl_text.specs.declared.statement.Channels.{Channels}
-use Rattle.edl_text.specs.declared.statement.Kind.{Kind}
-use Rattle.edl_text.specs.declared.statement.Kind.TheVariants.{Cut, Dissolve, Wipe}
+use Rattle.edl_text.specs.declared.statement_types.Channels.{Channels}
+use Rattle.edl_text.specs.declared.statement_types.Kind.{Kind}
+use Rattle.edl_text.specs.declared.statement_types.Kind.TheVariants.{Cut, Dissolve, Wipe}
 use Rattle.edl_text.proofs.Figures.{number_unique, reel_unique}
 use Rattle.edl_text.proofs.Heads.{lead}
 

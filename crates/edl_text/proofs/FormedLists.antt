@@ -25,8 +25,8 @@ use Rattle.edl_text.specs.Statements as said
 use Rattle.edl_text.specs.Statements.{Statement, EventLine, SpeedLine, Nothing, Title, Mode as ModeLine, Event, Speed, FromName, ToName}
 use Rattle.edl_text.specs.EventForms as events
 use Rattle.edl_text.specs.Speeds as speeds
-use Rattle.edl_text.specs.declared.statement.Kind.{Kind}
-use Rattle.edl_text.specs.declared.statement.Kind.TheVariants as kinds
+use Rattle.edl_text.specs.declared.statement_types.Kind.{Kind}
+use Rattle.edl_text.specs.declared.statement_types.Kind.TheVariants as kinds
 use Rattle.edl_list.specs.Formed.{IsReel, IsSpeed, IsFrame, IsSide, AreFrames, IsCross, IsEvent, AreInOrder, AreApart, IsWellFormed}
 use Rattle.edl_list.specs.Speeds.{day_of}
 use Rattle.edl_list.specs.declared.list.Event as listed

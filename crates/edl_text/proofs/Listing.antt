@@ -11,7 +11,7 @@ use Rattle.edl_list.specs.Formed.{AreApart}
 use Rattle.edl_list.specs.declared.list.Event.{Event}
 use Rattle.edl_list.specs.declared.list.EventList.{EventList}
 use Rattle.edl_text.specs.Overlaps.{AreRead, WasReadBefore}
-use Rattle.edl_text.specs.declared.said.Said.{Said}
+use Rattle.edl_text.specs.declared.list_so_far.Said.{Said}
 use Rattle.edl_text.specs.Past.{blocks_in}
 use Rattle.edl_text.specs.Lists.{events_in, IsSaid}
 use Rattle.edl_text.specs.Order.{StandsBefore}

@@ -5,7 +5,7 @@ use Rattle.edl_text.specs.Statements.{Statement, Nothing, Title, Mode, FromName,
 use Rattle.edl_list.specs.declared.list.Event.{Event}
 use Rattle.edl_list.specs.declared.list.Reel.{Reel}
 use Rattle.edl_list.specs.declared.list.Side.{Side}
-use Rattle.edl_text.specs.declared.pending.Pending.{Pending}
+use Rattle.edl_text.specs.declared.open_event.Pending.{Pending}
 use Rattle.edl_text.specs.Past.{Block, noted}
 use Rattle.edl_text.specs.Sides.{duration, from_name, to_name, speeds_of, reel_at, incoming, outgoing, from_side}
 use Rattle.edl_text.specs.StateSaid.{IsPending, Hold, with_name, named_by, named_from, named_to}

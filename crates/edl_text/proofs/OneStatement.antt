@@ -9,8 +9,8 @@ use Rattle.edl_text.specs.EventForms.{IsEvent}
 use Rattle.edl_text.specs.Speeds.{IsSpeed}
 use Rattle.edl_text.specs.Notes.{IsName}
 use Rattle.edl_text.specs.Saying.{first_of, fourth_of, IsTitle, IsMode, IsKey, IsSplit, IsIgnored, SaysTight, Says, FaultTight, HasFault}
-use Rattle.edl_text.specs.declared.statement.LineFault.{LineFault}
-use Rattle.edl_text.specs.declared.statement.LineFault.TheVariants.{Key, Split, Form}
+use Rattle.edl_text.specs.declared.statement_types.LineFault.{LineFault}
+use Rattle.edl_text.specs.declared.statement_types.LineFault.TheVariants.{Key, Split, Form}
 use Rattle.edl_text.proofs.Heads.{lead, IsDigit, title_lead, mode_lead, event_lead, speed_first, m2_lead, note_lead, split_lead, digit_lead, remark_lead}
 use Rattle.edl_text.proofs.NoteTexts.{one_side, name_unique}
 use Rattle.edl_text.proofs.EventParts.{event_unique, kind_lead}

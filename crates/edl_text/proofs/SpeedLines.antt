@@ -5,8 +5,8 @@ use Rattle.edl_text.specs.Statements.{Statement, SpeedLine, Speed}
 use Rattle.edl_list.specs.declared.list.Event.{Event}
 use Rattle.edl_text.specs.declared.faults.EdlFault.{EdlFault}
 use Rattle.edl_text.specs.declared.faults.EdlFault.TheVariants.{Form, Timecode, Reverse}
-use Rattle.edl_text.specs.declared.pending.Pending.{Pending}
-use Rattle.edl_text.specs.declared.said.Said.{Said}
+use Rattle.edl_text.specs.declared.open_event.Pending.{Pending}
+use Rattle.edl_text.specs.declared.list_so_far.Said.{Said}
 use Rattle.smpte_tc.specs.Frames.{label_frame}
 use Rattle.edl_text.specs.Past.{Block, line_behind, mode_in, blocks_in, noted}
 use Rattle.edl_text.specs.Sides.{reel_of}

@@ -8,7 +8,7 @@ use Rattle.edl_text.specs.Statements.{Statement, SpeedLine, Speed}
 use Rattle.edl_list.specs.declared.list.Reel.{Reel}
 use Rattle.edl_list.specs.declared.list.Reel.TheVariants.{Black, Named}
 use Rattle.edl_list.specs.declared.list.Side.{Side}
-use Rattle.edl_text.specs.declared.pending.Pending.{Pending}
+use Rattle.edl_text.specs.declared.open_event.Pending.{Pending}
 use Rattle.edl_text.specs.Past.{Block}
 use Rattle.edl_text.specs.Sides.{reel_of, reel_at, is_one_reel, duration, latest, outgoing_speed, speeds_of, incoming, outgoing, from_side}
 use Rattle.edl_text.specs.Lines.{one_if, has_side}

@@ -3,9 +3,9 @@ use Rattle.std.proofs.Common.{◌≡◌, ℕ, ◌+◌, ◌-◌, ◌^◌, ◌<◌
 use Rattle.tick_time.specs.declared.rates.Rate.{Rate}
 use Rattle.edl_text.specs.Statements.{Statement}
 use Rattle.edl_text.specs.Saying.{Says, HasFault}
-use Rattle.edl_text.specs.declared.statement.LineFault.{LineFault}
+use Rattle.edl_text.specs.declared.statement_types.LineFault.{LineFault}
 use Rattle.edl_text.specs.declared.faults.EdlFault.{EdlFault}
-use Rattle.edl_text.specs.declared.said.Said.{Said}
+use Rattle.edl_text.specs.declared.list_so_far.Said.{Said}
 use Rattle.edl_text.specs.Past.{line_behind}
 use Rattle.edl_text.specs.Lines.{named, IsFaulty, by_form, by_rule}
 use Rattle.edl_text.specs.StateSaid.{Stands, StandsAtNext, Takes, TakesLine}

@@ -7,8 +7,8 @@ use Rattle.tick_time.specs.declared.rates.Rate.{Rate}
 use Rattle.edl_text.specs.Statements.{Statement, Title, FromName, ToName}
 use Rattle.edl_list.specs.declared.list.Event.{Event}
 use Rattle.edl_text.specs.declared.faults.EdlFault.TheVariants.{Form}
-use Rattle.edl_text.specs.declared.pending.Pending.{Pending}
-use Rattle.edl_text.specs.declared.said.Said.{Said}
+use Rattle.edl_text.specs.declared.open_event.Pending.{Pending}
+use Rattle.edl_text.specs.declared.list_so_far.Said.{Said}
 use Rattle.edl_text.specs.Past.{Block, line_behind, mode_in, title_in, first_mode_in, blocks_in}
 use Rattle.edl_text.specs.Lines.{fault_behind, title_fault, note_fault}
 use Rattle.edl_text.specs.StateSaid.{Hold, Stands, StandsAtNext, named_from, named_to}

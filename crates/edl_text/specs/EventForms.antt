@@ -2,9 +2,9 @@
 use Rattle.std.specs.Prelude.{◌≡◌, ℕ, Bool, true, false, List, [], ◌∷◌, ◌++◌, Option, Some, None, codes, length, bytes_eq, if◌then◌else◌}
 use Rattle.edl_text.specs.Statements.{EventLine, labels_of}
 use Rattle.edl_text.specs.Numbers.{IsNumber, IsReel, number_digits, duration_digits, code_digits}
-use Rattle.edl_text.specs.declared.statement.Channels.{Channels}
-use Rattle.edl_text.specs.declared.statement.Kind.{Kind}
-use Rattle.edl_text.specs.declared.statement.Kind.TheVariants.{Cut, Dissolve, Wipe}
+use Rattle.edl_text.specs.declared.statement_types.Channels.{Channels}
+use Rattle.edl_text.specs.declared.statement_types.Kind.{Kind}
+use Rattle.edl_text.specs.declared.statement_types.Kind.TheVariants.{Cut, Dissolve, Wipe}
 
 -- the picture V, the first sound A and the second sound A2, each present or not
 abbrev pub channels : Bool → Bool → Bool → Channels

@@ -1,7 +1,7 @@
 -- The events that event lines give.
 use Rattle.std.specs.Prelude.{◌==◌, Bool, pos, List, [], ◌∷◌, ◌++◌, map, if◌then◌else◌}
 use Rattle.tick_time.specs.declared.rates.Rate.{Rate}
-use Rattle.edl_text.specs.declared.statement.Channels.{Channels}
+use Rattle.edl_text.specs.declared.statement_types.Channels.{Channels}
 use Rattle.edl_list.specs.declared.list.Channel.{Channel}
 use Rattle.edl_list.specs.declared.list.Channel.TheVariants.{V, A, A2}
 use Rattle.edl_list.specs.declared.list.Event.{Event}

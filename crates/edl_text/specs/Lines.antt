@@ -5,9 +5,9 @@ use Rattle.std.specs.Str.{is_utf8}
 use Rattle.tick_time.specs.declared.rates.Rate.{Rate}
 use Rattle.edl_text.specs.Statements.{Statement, SpeedLine, Nothing, Title, Mode, Event, Speed, FromName, ToName}
 use Rattle.edl_text.specs.Saying.{Says, HasFault}
-use Rattle.edl_text.specs.declared.statement.Channels.{Channels}
-use Rattle.edl_text.specs.declared.statement.LineFault.{LineFault}
-use Rattle.edl_text.specs.declared.statement.LineFault.TheVariants as line_faults
+use Rattle.edl_text.specs.declared.statement_types.Channels.{Channels}
+use Rattle.edl_text.specs.declared.statement_types.LineFault.{LineFault}
+use Rattle.edl_text.specs.declared.statement_types.LineFault.TheVariants as line_faults
 use Rattle.edl_text.specs.declared.faults.EdlFault.{EdlFault}
 use Rattle.edl_text.specs.declared.faults.EdlFault.TheVariants.{Form, Timecode, Order, Key, Split, Reverse}
 use Rattle.smpte_tc.specs.Frames.{label_frame}

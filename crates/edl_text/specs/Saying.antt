@@ -7,8 +7,8 @@ use Rattle.edl_text.specs.Statements.{Statement, Nothing, Title, Mode, Event, Sp
 use Rattle.edl_text.specs.EventForms.{IsEvent}
 use Rattle.edl_text.specs.Speeds.{IsSpeed}
 use Rattle.edl_text.specs.Notes.{IsNote, IsName}
-use Rattle.edl_text.specs.declared.statement.LineFault.{LineFault}
-use Rattle.edl_text.specs.declared.statement.LineFault.TheVariants.{Key, Split, Form}
+use Rattle.edl_text.specs.declared.statement_types.LineFault.{LineFault}
+use Rattle.edl_text.specs.declared.statement_types.LineFault.TheVariants.{Key, Split, Form}
 
 -- All words here but `Says` and `HasFault` speak of a line without the spaces and tabs at its ends.
 

@@ -7,8 +7,8 @@ use Rattle.std.specs.List.{list_all}
 use Rattle.tick_time.specs.declared.rates.Rate.{Rate}
 use Rattle.edl_text.specs.Statements as said
 use Rattle.edl_text.specs.Statements.{Statement, EventLine, Speed, FromName, ToName, labels_of}
-use Rattle.edl_text.specs.declared.statement.Kind.{Kind}
-use Rattle.edl_text.specs.declared.statement.Kind.TheVariants as kinds
+use Rattle.edl_text.specs.declared.statement_types.Kind.{Kind}
+use Rattle.edl_text.specs.declared.statement_types.Kind.TheVariants as kinds
 use Rattle.edl_list.specs.declared.list.Reel.{Reel}
 use Rattle.edl_list.specs.declared.list.Reel.TheVariants.{Black, Named}
 use Rattle.edl_list.specs.declared.list.Side.{Side}

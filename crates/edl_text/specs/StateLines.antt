@@ -4,7 +4,7 @@ use Rattle.std.specs.Prelude.{◌≡◌, ◌≢◌, ℕ, false, List, [], ◌∷
 use Rattle.std.specs.Borrow.{Bor}
 use Rattle.edl_text.specs.declared.fields.EventFields.{EventFields}
 use Rattle.edl_text.specs.declared.fields.SpeedFields.{SpeedFields}
-use Rattle.edl_text.specs.declared.statement.Labels.{Labels}
+use Rattle.edl_text.specs.declared.statement_types.Labels.{Labels}
 use Rattle.edl_text.specs.Saying.{begins_with_digit}
 
 -- the labels, in the order of the line

@@ -4,9 +4,9 @@ use Rattle.std.specs.Prelude.{◌≡◌, ◌⊎◌, ◌==◌, ◌||◌, ◌&&◌
 use Rattle.std.specs.List.{list_all}
 use Rattle.tick_time.specs.declared.rates.Rate.{Rate}
 use Rattle.edl_text.specs.Statements.{Statement, EventLine}
-use Rattle.edl_text.specs.declared.statement.Channels.{Channels}
-use Rattle.edl_text.specs.declared.statement.Kind.{Kind}
-use Rattle.edl_text.specs.declared.statement.Labels.{Labels}
+use Rattle.edl_text.specs.declared.statement_types.Channels.{Channels}
+use Rattle.edl_text.specs.declared.statement_types.Kind.{Kind}
+use Rattle.edl_text.specs.declared.statement_types.Labels.{Labels}
 use Rattle.edl_list.specs.declared.list.Channel.{Channel}
 use Rattle.edl_list.specs.declared.list.Event.{Event}
 use Rattle.edl_list.specs.Formed.{AreApart}
@@ -15,9 +15,9 @@ use Rattle.edl_list.specs.declared.list.Reel.{Reel}
 use Rattle.edl_list.specs.declared.list.Side.{Side}
 use Rattle.edl_text.specs.declared.faults.EdlFault.{EdlFault}
 use Rattle.edl_text.specs.declared.faults.EdlFault.TheVariants.{Memory}
-use Rattle.edl_text.specs.declared.frames.Frames.{Frames}
-use Rattle.edl_text.specs.declared.pending.Pending.{Pending}
-use Rattle.edl_text.specs.declared.said.Said.{Said}
+use Rattle.edl_text.specs.declared.event_frames.Frames.{Frames}
+use Rattle.edl_text.specs.declared.open_event.Pending.{Pending}
+use Rattle.edl_text.specs.declared.list_so_far.Said.{Said}
 use Rattle.smpte_tc.specs.Frames.{label_frame}
 use Rattle.edl_text.specs.Past.{Block, mode_in, title_in, blocks_in, first_mode_in}
 use Rattle.edl_text.specs.StateSides.{side_of}

@@ -2,7 +2,7 @@
 use Rattle.std.specs.Prelude.{pos, None}
 use Rattle.edl_list.specs.declared.list.Reel.{Reel}
 use Rattle.edl_list.specs.declared.list.Side.{Side}
-use Rattle.edl_text.specs.declared.frames.Frames.{Frames}
+use Rattle.edl_text.specs.declared.event_frames.Frames.{Frames}
 
 -- the side of an event line before any note on it
 abbrev pub side_of : Reel → Frames → Side

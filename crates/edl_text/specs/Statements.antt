@@ -1,8 +1,8 @@
 -- What one line of a CMX 3600 list says, as plain data: a text is its bytes, and labels stand as
 -- the line spells them.
 use Rattle.std.specs.Prelude.{ℕ, Bool, List, [], ◌∷◌}
-use Rattle.edl_text.specs.declared.statement.Channels.{Channels}
-use Rattle.edl_text.specs.declared.statement.Kind.{Kind}
+use Rattle.edl_text.specs.declared.statement_types.Channels.{Channels}
+use Rattle.edl_text.specs.declared.statement_types.Kind.{Kind}
 
 -- a reel: black, or the one of a name
 pub data Reel : Type 0 where

@@ -1,11 +1,11 @@
 -- The statement of the code as plain data.
 use Rattle.edl_text.specs.Statements as plain
-use Rattle.edl_text.specs.declared.statement.ReelName.{ReelName}
-use Rattle.edl_text.specs.declared.statement.ReelName.TheVariants as reels
-use Rattle.edl_text.specs.declared.statement.EventLine.{EventLine}
-use Rattle.edl_text.specs.declared.statement.SpeedLine.{SpeedLine}
-use Rattle.edl_text.specs.declared.statement.Statement.{Statement}
-use Rattle.edl_text.specs.declared.statement.Statement.TheVariants as lines
+use Rattle.edl_text.specs.declared.statement_types.ReelName.{ReelName}
+use Rattle.edl_text.specs.declared.statement_types.ReelName.TheVariants as reels
+use Rattle.edl_text.specs.declared.statement_types.EventLine.{EventLine}
+use Rattle.edl_text.specs.declared.statement_types.SpeedLine.{SpeedLine}
+use Rattle.edl_text.specs.declared.statement_types.Statement.{Statement}
+use Rattle.edl_text.specs.declared.statement_types.Statement.TheVariants as lines
 
 -- a reel, its name as bytes
 abbrev pub reel_said : ReelName → plain.Reel

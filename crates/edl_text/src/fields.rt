@@ -4,7 +4,7 @@ ghost use Rattle.text_lines.specs.Lines.{fields_of};
 ghost use Rattle.edl_text.specs.Saying.{first_of, fourth_of};
 ghost use Rattle.edl_text.specs.StateLines.{duration_in, labels_in};
 
-use crate::statement::Labels;
+use crate::statement_types::Labels;
 use text_lines::{is_text, split_field};
 
 // The first field of a line; empty where it has none.

@@ -2,7 +2,7 @@
 ghost use Rattle.std.specs.Prelude.{◌≡◌, List, ℕ};
 ghost use Rattle.edl_text.specs.Statements.{Statement as Said};
 ghost use Rattle.edl_text.specs.Saying.{Says, HasFault};
-ghost use Rattle.edl_text.specs.declared.statement.LineFault.{LineFault as Fault};
+ghost use Rattle.edl_text.specs.declared.statement_types.LineFault.{LineFault as Fault};
 
 /// Laws of the words `Says` and `HasFault`: a line says one statement at most, has one fault at
 /// most, and never both.

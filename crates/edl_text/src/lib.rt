@@ -22,44 +22,46 @@ ghost use Rattle.edl_list.specs.declared.list.EventList.{EventList};
 ghost use Rattle.edl_text.specs.Lists.{IsList, IsFault};
 ghost use Rattle.edl_text.specs.declared.faults.EdlFault.{EdlFault as Fault};
 
+mod channel_spans;
 mod columns;
-mod event;
+mod end_of_list_faults;
+mod event_frames;
 mod faults;
 mod fields;
-mod frames;
-mod labels;
-mod late;
 mod laws;
-mod line;
-mod note;
-mod notes;
-mod numbering;
-mod numbers;
+mod list_settings;
+mod list_so_far;
+mod open_event;
 mod order;
 mod overlap;
-mod pending;
+mod read_comments;
+mod read_events;
+mod read_numbers;
+mod read_speeds;
 mod reader;
-mod rows;
-mod said;
 mod sides;
 mod spans;
-mod speed;
-mod speeds;
-mod statement;
-mod turns;
+mod statement_types;
+mod statements;
 mod write;
+mod write_comments;
+mod write_rows;
+mod write_speeds;
+mod written_labels;
 
 pub use faults::EdlFault;
-pub use labels::{first_label_past_day, first_wide_reel, label_of};
 pub use laws::one_statement;
-pub use line::statement_of;
-pub use notes::{put_written, trim_written};
-pub use numbering::{Numbering, Style};
+pub use list_settings::{Numbering, Style};
 pub use order::in_record_order;
 pub use overlap::first_overlap;
 pub use reader::EdlReader;
-pub use statement::{Channels, EventLine, Kind, Labels, LineFault, ReelName, SpeedLine, Statement};
+pub use statement_types::{
+    Channels, EventLine, Kind, Labels, LineFault, ReelName, SpeedLine, Statement,
+};
+pub use statements::statement_of;
 pub use write::{put_event, put_head, write_event, write_head, write_list};
+pub use write_comments::{put_written, trim_written};
+pub use written_labels::{first_label_past_day, first_wide_reel, label_of};
 
 /// Law: at a rate bytes are one list at most, or have one fault at most, and never both. It does
 /// nothing.

@@ -4,8 +4,8 @@ ghost use Rattle.edl_list.specs.Formed.{AreApart};
 ghost use Rattle.edl_text.specs.StateSpans.{AreApartOn, FindsOn, lesser_of};
 ghost use Rattle.edl_text.specs.Overlaps.{AreRead, IsOverlap, IsFirstOverlap};
 
+use crate::channel_spans::{are_apart, is_on};
 use crate::spans::{keep, meets};
-use crate::turns::{are_apart, is_on};
 use edl_list::{Channel, Event};
 use std::alloc::{AllocError, Global};
 use std::collections::BTreeMap;

@@ -6,7 +6,7 @@ ghost use Rattle.text_lines.specs.First.{HasNone};
 ghost use Rattle.text_lines.specs.Lines.{ended_lines};
 
 use crate::faults::EdlFault;
-use crate::said::Said;
+use crate::list_so_far::Said;
 use edl_list::EventList;
 use limits::MOST_BYTES;
 use std::alloc::Global;

@@ -4,7 +4,7 @@ ghost use Rattle.std.specs.Prelude.{◌≡◌, IfOk};
 ghost use Rattle.edl_text.specs.Views.{reel_said};
 ghost use Rattle.edl_text.specs.Sides.{reel_of as reel_named, is_one_reel as one_reel};
 
-use crate::statement::ReelName;
+use crate::statement_types::ReelName;
 use edl_list::{Reel, Side};
 use sequences::Text;
 use std::alloc::{AllocError, Global};

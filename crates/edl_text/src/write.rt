@@ -10,10 +10,10 @@ ghost use Rattle.edl_text.specs.Rows.{event_lines, speed_lines};
 ghost use Rattle.edl_list.specs.Labelled.{outgoing, IsLabelled, IsBelowDay};
 ghost use Rattle.edl_text.specs.Spelling.{event_text, head_lines, lines_from, text_of, spelling, mode_line as mode_text};
 
-use crate::notes::{put_headed, put_name};
-use crate::numbering::{Numbering, Style};
-use crate::rows::{put_first, put_main};
-use crate::speeds::{has_speed, needs_line, put_speed_if};
+use crate::list_settings::{Numbering, Style};
+use crate::write_comments::{put_headed, put_name};
+use crate::write_rows::{put_first, put_main};
+use crate::write_speeds::{has_speed, needs_line, put_speed_if};
 use dev_io::{Out, OutBuffer, WriteFault};
 use edl_list::{Cross, Event, EventList, Layout, Side};
 use tick_time::Rate;

@@ -6,7 +6,7 @@ use Rattle.std.specs.Str.{bytes_eq}
 use Rattle.std.proofs.lemmas.Slice.Eq.{bytes_eq-Decides}
 use Rattle.std.proofs.lemmas.Int.{ints, by_lt_z}
 use Rattle.tick_time.specs.declared.spans.Span.{Span}
-use Rattle.otio_model.specs.declared.warps.Effect.{Effect}
+use Rattle.otio_model.specs.declared.effect_types.Effect.{Effect}
 use Rattle.otio_model.specs.declared.compositions.Clip.{Clip as ClipRow}
 use Rattle.otio_model.specs.declared.compositions.ItemOf.{ItemOf}
 use Rattle.otio_model.specs.declared.compositions.ItemOf.TheVariants.{Clip, Gap, Transition, Stack, Track}

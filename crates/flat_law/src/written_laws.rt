@@ -4,7 +4,7 @@ ghost use Rattle.std.specs.Prelude.{◌≡◌, ℕ, ℤ, Bool, true, List, filte
 ghost use Rattle.otio_model.specs.declared.compositions.ItemOf.{ItemOf};
 ghost use Rattle.otio_model.specs.declared.compositions.Listed.{Listed};
 ghost use Rattle.otio_model.specs.declared.timelines.Timeline.{Timeline};
-ghost use Rattle.otio_model.specs.declared.roots.Object.{Timeline as ObjectOfTimeline};
+ghost use Rattle.otio_model.specs.declared.objects.Object.{Timeline as ObjectOfTimeline};
 ghost use Rattle.otio_model.specs.Timelines.{bare};
 ghost use Rattle.coord.specs.Soundness.{IsCalm, IsSound};
 ghost use Rattle.schema_rows.specs.Stands.{Stands};

@@ -4,9 +4,9 @@ use Rattle.json_value.specs.declared.Json.{Json}
 use Rattle.json_law.specs.Written.{IsJson, null, truth, number, string, list, object, AreJson, no_values, more_values, AreMembers, no_members, more_members}
 use Rattle.json_law.proofs.Reading.{read_is_json}
 use Rattle.json_law.proofs.Numerals.{numeral_of_json}
-use Rattle.schema_rows.specs.declared.names.Form.{Form}
-use Rattle.schema_rows.specs.declared.names.Row.{Row}
-use Rattle.schema_rows.specs.declared.names.Row.TheVariants.{Object}
+use Rattle.schema_rows.specs.declared.old_names.Form.{Form}
+use Rattle.schema_rows.specs.declared.old_names.Row.{Row}
+use Rattle.schema_rows.specs.declared.old_names.Row.TheVariants.{Object}
 use Rattle.schema_rows.specs.Names.{schema_in}
 use Rattle.schema_rows.specs.UpgradeRows.{item_row, member_row}
 use Rattle.schema_rows.specs.Upgrades.{Pairs, upgraded_at, items_at, pairs_at, map_at}

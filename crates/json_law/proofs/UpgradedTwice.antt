@@ -11,10 +11,10 @@ use Rattle.sequences.proofs.PairLemmas.{apart, bytes_eq-sym}
 use Rattle.json_law.specs.Law.{UpgradedStays}
 use Rattle.json_law.proofs.Reading.{read_is_json}
 use Rattle.json_law.specs.Written.{IsJson, null, truth, number, string, list, object, AreJson, no_values, more_values, AreMembers, no_members, more_members}
-use Rattle.schema_rows.specs.declared.names.Form.{Form}
-use Rattle.schema_rows.specs.declared.names.Form.TheVariants as F
-use Rattle.schema_rows.specs.declared.names.Row.{Row}
-use Rattle.schema_rows.specs.declared.names.Row.TheVariants.{Kept, Object, Objects, Media}
+use Rattle.schema_rows.specs.declared.old_names.Form.{Form}
+use Rattle.schema_rows.specs.declared.old_names.Form.TheVariants as F
+use Rattle.schema_rows.specs.declared.old_names.Row.{Row}
+use Rattle.schema_rows.specs.declared.old_names.Row.TheVariants.{Kept, Object, Objects, Media}
 use Rattle.schema_rows.specs.Names.{is_point, schema_in, schema_text, schema_or_other, schema_named, versioned, version_in, string_in, text_at}
 use Rattle.schema_rows.specs.UpgradeRows.{row_of, where_holds, item_row}
 use Rattle.schema_rows.specs.Upgrades.{Pairs, upgraded, upgraded_at, items_at, pairs_at, map_at, renewed, with_name, without, named_anew, version_part, missing, medium_in, medium_of, media_of, clip_kept, second_clip, second_marker}

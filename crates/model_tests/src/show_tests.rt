@@ -1,7 +1,7 @@
 // Texts of some pictures.
 use dev_io::MemOut;
-use listings::{KeyRef, MixKind, Picture, print_show};
 use sequences::Text;
+use show_prog::{KeyRef, MixKind, Picture, print_show};
 use std::alloc::{AllocError, Global};
 use std::process::Abort;
 use std::test::Fail;

@@ -4,9 +4,9 @@ use Rattle.coord.proofs.Members.{same_some}
 use Rattle.json_value.specs.declared.Json.{Json, out-Json}
 use Rattle.json_value.specs.declared.Json.TheOpen.{Json-F}
 use Rattle.tick_time.specs.declared.rates.Rate.{Rate}
-use Rattle.otio_model.specs.declared.marks.Marker.{Marker}
-use Rattle.otio_model.specs.declared.marks.Marker.TheVariants.{Known, Kept}
-use Rattle.otio_model.specs.declared.marks.Mark.{Mark}
+use Rattle.otio_model.specs.declared.markers.Marker.{Marker}
+use Rattle.otio_model.specs.declared.markers.Marker.TheVariants.{Known, Kept}
+use Rattle.otio_model.specs.declared.markers.Mark.{Mark}
 use Rattle.otio_model.specs.declared.compositions.Clip.{Clip as ClipRow}
 use Rattle.otio_model.specs.declared.compositions.ItemOf.{ItemOf}
 use Rattle.otio_model.specs.declared.compositions.ItemOf.TheVariants.{Clip, Gap, Transition, Stack, Track}

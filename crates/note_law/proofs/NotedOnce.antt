@@ -12,8 +12,8 @@ use Rattle.tick_time.specs.Frames.{IsFrames, in_ticks}
 use Rattle.tick_time.specs.Rates.{frame}
 use Rattle.tick_time.proofs.SameValues.{same_time}
 use Rattle.tick_time.proofs.Wholes.{count-product}
-use Rattle.otio_model.specs.declared.marks.Marker.{Marker}
-use Rattle.otio_model.specs.declared.marks.Marker.TheVariants.{Known}
+use Rattle.otio_model.specs.declared.markers.Marker.{Marker}
+use Rattle.otio_model.specs.declared.markers.Marker.TheVariants.{Known}
 use Rattle.otio_model.specs.declared.compositions.ItemOf.{ItemOf}
 use Rattle.otio_model.specs.declared.compositions.ItemOf.TheVariants.{Clip, Gap, Transition, Stack, Track}
 use Rattle.otio_model.specs.declared.compositions.Listed.{Listed}

@@ -2,7 +2,7 @@
 use Rattle.std.proofs.Common.{◌≡◌, ◌&&◌, ◌||◌, ℕ, ℤ, Bool, false, List, [], ◌∷◌, ◌++◌, Option, Some, None, map, refl, sym, ap, ap₂, subst, ◌∙◌}
 use Rattle.std.specs.List.{list_any}
 use Rattle.tick_time.specs.declared.rates.Rate.{Rate}
-use Rattle.otio_model.specs.declared.marks.Marker.{Marker}
+use Rattle.otio_model.specs.declared.markers.Marker.{Marker}
 use Rattle.otio_model.specs.declared.compositions.Clip.{Clip as ClipRow}
 use Rattle.otio_model.specs.declared.compositions.Gap.{Gap as GapRow}
 use Rattle.otio_model.specs.declared.compositions.ItemOf.{ItemOf}
@@ -11,9 +11,9 @@ use Rattle.otio_model.specs.declared.compositions.Listed.{Listed}
 use Rattle.otio_model.specs.declared.compositions.StackOf.{StackOf}
 use Rattle.otio_model.specs.declared.compositions.TrackOf.{TrackOf}
 use Rattle.otio_model.specs.declared.timelines.Timeline.{Timeline}
-use Rattle.otio_model.specs.declared.roots.Object.{Timeline as ObjectOfTimeline, out-Object}
-use Rattle.otio_model.specs.declared.roots.Object.TheOpen.{Object-F}
-use Rattle.otio_model.specs.declared.roots.Object.TheViews.{roll-Object}
+use Rattle.otio_model.specs.declared.objects.Object.{Timeline as ObjectOfTimeline, out-Object}
+use Rattle.otio_model.specs.declared.objects.Object.TheOpen.{Object-F}
+use Rattle.otio_model.specs.declared.objects.Object.TheViews.{roll-Object}
 use Rattle.otio_model.specs.Misplaced.{side_by_side}
 use Rattle.otio_model.specs.Trees.{is_transition, items_of, listed}
 use Rattle.otio_model.proofs.Views.{items-listed}

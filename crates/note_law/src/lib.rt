@@ -25,7 +25,7 @@ ghost use Rattle.edl_frames.specs.Channels.{on, on_reels};
 ghost use Rattle.edl_frames.specs.Homes.{HasList};
 ghost use Rattle.note_text.specs.Found.{AreNotesOf};
 ghost use Rattle.object_law.specs.Writable.{IsObject};
-ghost use Rattle.otio_model.specs.declared.roots.Object.{Timeline as ObjectOfTimeline};
+ghost use Rattle.otio_model.specs.declared.objects.Object.{Timeline as ObjectOfTimeline};
 ghost use Rattle.note_text.specs.Belonging.{AreNotes, IsNoteOf};
 ghost use Rattle.note_text.specs.Noted.{IsNoted};
 ghost use Rattle.note_text.specs.declared.notes.Note.{Note};

@@ -7,9 +7,9 @@ use Rattle.json_value.specs.declared.Json.TheOpen.{Json-F}
 use Rattle.tick_time.specs.declared.rates.Rate.{Rate}
 use Rattle.tick_time.specs.Rates.{frame}
 use Rattle.tick_time.specs.Numerals.{IsNumeral}
-use Rattle.otio_model.specs.declared.marks.Marker.{Marker}
-use Rattle.otio_model.specs.declared.marks.Marker.TheVariants.{Known, Kept}
-use Rattle.otio_model.specs.declared.marks.Mark.{Mark}
+use Rattle.otio_model.specs.declared.markers.Marker.{Marker}
+use Rattle.otio_model.specs.declared.markers.Marker.TheVariants.{Known, Kept}
+use Rattle.otio_model.specs.declared.markers.Mark.{Mark}
 use Rattle.otio_model.specs.declared.compositions.Clip.{Clip as ClipRow}
 use Rattle.otio_model.specs.declared.compositions.ItemOf.{ItemOf}
 use Rattle.otio_model.specs.declared.compositions.ItemOf.TheVariants.{Clip, Gap, Transition, Stack, Track}

@@ -4,9 +4,9 @@ use Rattle.tick_time.specs.declared.rates.Rate.{Rate}
 use Rattle.tick_time.specs.Frames.{in_ticks}
 use Rattle.sequences.specs.Pairs.{put}
 use Rattle.json_value.specs.declared.Json.{Json, Num, Str, Map, List as JsonOfList}
-use Rattle.otio_model.specs.declared.marks.Marker.{Marker}
-use Rattle.otio_model.specs.declared.marks.Marker.TheVariants.{Known}
-use Rattle.otio_model.specs.declared.marks.Mark.{Mark}
+use Rattle.otio_model.specs.declared.markers.Marker.{Marker}
+use Rattle.otio_model.specs.declared.markers.Marker.TheVariants.{Known}
+use Rattle.otio_model.specs.declared.markers.Mark.{Mark}
 use Rattle.otio_model.specs.declared.compositions.ItemOf.{ItemOf}
 use Rattle.otio_model.specs.declared.compositions.ItemOf.TheVariants.{Clip, Gap, Transition, Stack, Track}
 use Rattle.otio_model.specs.declared.compositions.Listed.{Listed}

@@ -8,15 +8,15 @@ use Rattle.otio_model.specs.declared.compositions.Listed.{Listed}
 use Rattle.otio_model.specs.declared.compositions.ItemOf.{ItemOf}
 use Rattle.otio_model.specs.declared.compositions.ItemOf.TheVariants as I
 use Rattle.otio_model.specs.declared.compositions.StackOf.{StackOf}
-use Rattle.otio_model.specs.declared.roots.Object.{Object, out-Object}
-use Rattle.otio_model.specs.declared.roots.Object.TheOpen.{Object-F}
-use Rattle.otio_model.specs.declared.roots.Collection.{Collection, out-Collection}
-use Rattle.otio_model.specs.declared.warps.Effect.{Effect}
-use Rattle.otio_model.specs.declared.warps.Effect.TheVariants as E
-use Rattle.otio_model.specs.declared.marks.Marker.{Marker}
-use Rattle.otio_model.specs.declared.marks.Marker.TheVariants as K
-use Rattle.otio_model.specs.declared.sources.Media.{Media}
-use Rattle.otio_model.specs.declared.sources.Media.TheVariants as M
+use Rattle.otio_model.specs.declared.objects.Object.{Object, out-Object}
+use Rattle.otio_model.specs.declared.objects.Object.TheOpen.{Object-F}
+use Rattle.otio_model.specs.declared.objects.Collection.{Collection, out-Collection}
+use Rattle.otio_model.specs.declared.effect_types.Effect.{Effect}
+use Rattle.otio_model.specs.declared.effect_types.Effect.TheVariants as E
+use Rattle.otio_model.specs.declared.markers.Marker.{Marker}
+use Rattle.otio_model.specs.declared.markers.Marker.TheVariants as K
+use Rattle.otio_model.specs.declared.media.Media.{Media}
+use Rattle.otio_model.specs.declared.media.Media.TheVariants as M
 use Rattle.otio_model.specs.Trees.{listed, items_of, is_transition}
 use Rattle.schema_rows.specs.Rows as R
 use Rattle.schema_rows.specs.Rows.{Row, RowKind}
@@ -41,8 +41,8 @@ use Rattle.object_law.proofs.FoundMembers.{others_twice}
 use Rattle.object_law.proofs.HeldValues.{still_speed, no_children}
 use Rattle.std.proofs.lemmas.Bool.{false≢true}
 use Rattle.sequences.specs.Pairs.{value_of}
-use Rattle.schema_rows.specs.declared.names.Form.{Form}
-use Rattle.schema_rows.specs.declared.names.Row.TheVariants.{Object as ObjectRow, Objects, Media as MediaRow}
+use Rattle.schema_rows.specs.declared.old_names.Form.{Form}
+use Rattle.schema_rows.specs.declared.old_names.Row.TheVariants.{Object as ObjectRow, Objects, Media as MediaRow}
 use Rattle.schema_rows.specs.Names.{schema_in}
 use Rattle.schema_rows.specs.Upgrades.{upgraded_at, items_at, pairs_at, map_at}
 use Rattle.schema_rows.proofs.Levels.{upgraded_at-List, upgraded_at-Map}

@@ -7,7 +7,7 @@ use Rattle.schema_rows.specs.declared.schemas.Schema.{Schema}
 use Rattle.schema_rows.specs.declared.schemas.Schema.TheVariants as S
 use Rattle.schema_rows.specs.declared.values.Value.{Value}
 use Rattle.schema_rows.specs.declared.values.Value.TheVariants as V
-use Rattle.otio_model.specs.declared.roots.Object.{Object}
+use Rattle.otio_model.specs.declared.objects.Object.{Object}
 use Rattle.schema_rows.specs.Readings.{Reading}
 use Rattle.schema_rows.specs.Families.{breaks, stilled}
 use Rattle.object_law.proofs.SeenValues.{Folded, View, whole, these, seen, Glance, seen_reading}

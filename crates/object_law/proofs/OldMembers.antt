@@ -9,10 +9,10 @@ use Rattle.json_value.specs.declared.Json.TheVariants as J
 use Rattle.json_value.specs.declared.Json.TheOpen.{Json-F}
 use Rattle.sequences.specs.Pairs.{value_of, put}
 use Rattle.schema_rows.specs.Rows.{Row as TableRow}
-use Rattle.schema_rows.specs.declared.names.Form.{Form}
-use Rattle.schema_rows.specs.declared.names.Form.TheVariants as F
-use Rattle.schema_rows.specs.declared.names.Row.{Row}
-use Rattle.schema_rows.specs.declared.names.Row.TheVariants.{Kept, Object, Objects, Media}
+use Rattle.schema_rows.specs.declared.old_names.Form.{Form}
+use Rattle.schema_rows.specs.declared.old_names.Form.TheVariants as F
+use Rattle.schema_rows.specs.declared.old_names.Row.{Row}
+use Rattle.schema_rows.specs.declared.old_names.Row.TheVariants.{Kept, Object, Objects, Media}
 use Rattle.schema_rows.specs.Names.{schema_in, schema_or_other, schema_named, string_in}
 use Rattle.schema_rows.specs.UpgradeRows.{row_of, where_holds}
 use Rattle.schema_rows.specs.Upgrades.{Pairs, upgraded, upgraded_at, pair_at, pairs_at, map_at, renewed, renewed_at, without, named_anew}

@@ -20,25 +20,25 @@ use Rattle.otio_model.specs.declared.compositions.Transition.{Transition}
 use Rattle.otio_model.specs.declared.compositions.StackOf.{StackOf}
 use Rattle.otio_model.specs.declared.compositions.TrackOf.{TrackOf}
 use Rattle.otio_model.specs.declared.timelines.Timeline.{Timeline}
-use Rattle.otio_model.specs.declared.roots.Object.{Object, out-Object}
-use Rattle.otio_model.specs.declared.roots.Object.TheOpen.{Object-F}
-use Rattle.otio_model.specs.declared.roots.Object.TheViews.{roll-Object, roll-out-Object}
-use Rattle.otio_model.specs.declared.roots.Object.TheFolds.{fold-roll-Object}
-use Rattle.otio_model.specs.declared.roots.Collection.{Collection, out-Collection}
-use Rattle.otio_model.specs.declared.marks.Marker.{Marker}
-use Rattle.otio_model.specs.declared.marks.Marker.TheVariants as K
-use Rattle.otio_model.specs.declared.marks.Mark.{Mark}
-use Rattle.otio_model.specs.declared.sources.Media.{Media}
-use Rattle.otio_model.specs.declared.sources.Media.TheVariants as M
+use Rattle.otio_model.specs.declared.objects.Object.{Object, out-Object}
+use Rattle.otio_model.specs.declared.objects.Object.TheOpen.{Object-F}
+use Rattle.otio_model.specs.declared.objects.Object.TheViews.{roll-Object, roll-out-Object}
+use Rattle.otio_model.specs.declared.objects.Object.TheFolds.{fold-roll-Object}
+use Rattle.otio_model.specs.declared.objects.Collection.{Collection, out-Collection}
+use Rattle.otio_model.specs.declared.markers.Marker.{Marker}
+use Rattle.otio_model.specs.declared.markers.Marker.TheVariants as K
+use Rattle.otio_model.specs.declared.markers.Mark.{Mark}
+use Rattle.otio_model.specs.declared.media.Media.{Media}
+use Rattle.otio_model.specs.declared.media.Media.TheVariants as M
 use Rattle.otio_model.specs.Trees.{items_of, children_of, is_transition, below}
 use Rattle.schema_rows.specs.Rows as R
 use Rattle.schema_rows.specs.Rows.{Row}
 use Rattle.schema_rows.specs.declared.schemas.Schema.{Schema}
 use Rattle.schema_rows.specs.declared.schemas.Schema.TheVariants as S
 use Rattle.schema_rows.specs.declared.schemas.TheConstants as C
-use Rattle.schema_rows.specs.declared.names.Form.{Form}
-use Rattle.schema_rows.specs.declared.names.Form.TheVariants as F
-use Rattle.schema_rows.specs.declared.names.Row.TheVariants.{Kept, Object as ObjectRow, Objects}
+use Rattle.schema_rows.specs.declared.old_names.Form.{Form}
+use Rattle.schema_rows.specs.declared.old_names.Form.TheVariants as F
+use Rattle.schema_rows.specs.declared.old_names.Row.TheVariants.{Kept, Object as ObjectRow, Objects}
 use Rattle.schema_rows.specs.Names.{schema_in, schema_named}
 use Rattle.schema_rows.specs.UpgradeRows.{row_of}
 use Rattle.schema_rows.specs.Upgrades.{Pairs, upgraded, upgraded_at, items_at, pairs_at, renewed, without, named_anew, missing, medium_in, medium_of, media_of, second_marker, second_clip}

@@ -8,11 +8,11 @@ use Rattle.otio_model.specs.declared.compositions.Listed.{Listed}
 use Rattle.otio_model.specs.declared.timelines.Timeline.{Timeline}
 use Rattle.otio_model.specs.Timelines.{bare}
 use Rattle.otio_model.specs.Trees.{below}
-use Rattle.otio_model.specs.declared.roots.Object.{Object, out-Object, Timeline as ObjectOfTimeline}
-use Rattle.otio_model.specs.declared.roots.Object.TheOpen.{Object-F}
-use Rattle.otio_model.specs.declared.roots.Object.TheFolds.{fold-roll-Object, fold-roll-Collection}
-use Rattle.otio_model.specs.declared.roots.Object.TheViews.{roll-Object, roll-out-Object, roll-out-Collection}
-use Rattle.otio_model.specs.declared.roots.Collection.{Collection, Collection-F, fold-Collection, out-Collection}
+use Rattle.otio_model.specs.declared.objects.Object.{Object, out-Object, Timeline as ObjectOfTimeline}
+use Rattle.otio_model.specs.declared.objects.Object.TheOpen.{Object-F}
+use Rattle.otio_model.specs.declared.objects.Object.TheFolds.{fold-roll-Object, fold-roll-Collection}
+use Rattle.otio_model.specs.declared.objects.Object.TheViews.{roll-Object, roll-out-Object, roll-out-Collection}
+use Rattle.otio_model.specs.declared.objects.Collection.{Collection, Collection-F, fold-Collection, out-Collection}
 use Rattle.coord.specs.Soundness.{Precedes}
 use Rattle.coord.proofs.Order.{Compared, same, before, behind, compared}
 use Rattle.schema_rows.specs.Stands.{Stands}

@@ -12,10 +12,10 @@ use Rattle.schema_rows.specs.Rows as R
 use Rattle.schema_rows.specs.Rows.{Row, RowKind}
 use Rattle.schema_rows.specs.declared.schemas.Schema.{Schema}
 use Rattle.schema_rows.specs.declared.schemas.Schema.TheVariants as S
-use Rattle.schema_rows.specs.declared.names.Form.{Form}
-use Rattle.schema_rows.specs.declared.names.Form.TheVariants as F
-use Rattle.schema_rows.specs.declared.names.Row.{Row as Place}
-use Rattle.schema_rows.specs.declared.names.Row.TheVariants.{Kept, Object, Objects, Media}
+use Rattle.schema_rows.specs.declared.old_names.Form.{Form}
+use Rattle.schema_rows.specs.declared.old_names.Form.TheVariants as F
+use Rattle.schema_rows.specs.declared.old_names.Row.{Row as Place}
+use Rattle.schema_rows.specs.declared.old_names.Row.TheVariants.{Kept, Object, Objects, Media}
 use Rattle.schema_rows.specs.Names.{schema_in, schema_or_other, schema_named, string_in, text_at, named as form_named}
 use Rattle.schema_rows.specs.UpgradeRows.{row_of}
 use Rattle.schema_rows.specs.Upgrades.{Pairs, upgraded, upgraded_at, pairs_at, map_at, renewed, second_clip, clip_kept, media_of, medium_of}

@@ -1,8 +1,8 @@
 -- One object or one first fault.
 use Rattle.std.proofs.Common.{◌≡◌, refl, sym, ap, ◌∙◌, arith}
 use Rattle.json_value.specs.declared.Json.{Json}
-use Rattle.otio_model.specs.declared.roots.Object.{Object}
-use Rattle.otio_model.specs.declared.roots.Collection.{Collection}
+use Rattle.otio_model.specs.declared.objects.Object.{Object}
+use Rattle.otio_model.specs.declared.objects.Collection.{Collection}
 use Rattle.schema_rows.specs.declared.schemas.TheConstants as C
 use Rattle.schema_rows.specs.Readings.{known, object_fields}
 use Rattle.schema_rows.specs.Families.{child}

@@ -3,7 +3,7 @@ use Rattle.std.specs.Prelude.{◌≡◌, false, Some}
 use Rattle.json_value.specs.declared.Json.{Json}
 use Rattle.otio_model.specs.declared.compositions.Listed.{Listed}
 use Rattle.otio_model.specs.declared.patches.Patch.{Patch}
-use Rattle.otio_model.specs.declared.roots.Object.{Object}
+use Rattle.otio_model.specs.declared.objects.Object.{Object}
 use Rattle.otio_model.specs.declared.timelines.Timeline.{Timeline}
 use Rattle.otio_model.specs.Edits.{replaced}
 use Rattle.otio_model.specs.Patches.{target, IsFit, applied}

@@ -2,10 +2,10 @@
 use Rattle.std.specs.Prelude.{◌≡◌, ◌≤◌}
 use Rattle.json_value.specs.declared.Json.{Json}
 use Rattle.limits.specs.Limits.{most_items}
-use Rattle.otio_model.specs.declared.roots.Object.{Object, fold-Object}
-use Rattle.otio_model.specs.declared.roots.Object.TheOpen.{Object-F}
-use Rattle.otio_model.specs.declared.roots.Object.TheViews.{roll-Object, roll-Collection}
-use Rattle.otio_model.specs.declared.roots.Collection.{Collection, Collection-F}
+use Rattle.otio_model.specs.declared.objects.Object.{Object, fold-Object}
+use Rattle.otio_model.specs.declared.objects.Object.TheOpen.{Object-F}
+use Rattle.otio_model.specs.declared.objects.Object.TheViews.{roll-Object, roll-Collection}
+use Rattle.otio_model.specs.declared.objects.Collection.{Collection, Collection-F}
 use Rattle.otio_model.specs.Timelines.{bare}
 use Rattle.schema_rows.specs.declared.faults.SchemaFault.{SchemaFault}
 use Rattle.schema_rows.specs.Counts.{count_of}

@@ -15,15 +15,15 @@ use Rattle.otio_model.specs.declared.compositions.Transition.{Transition}
 use Rattle.otio_model.specs.declared.compositions.StackOf.{StackOf}
 use Rattle.otio_model.specs.declared.compositions.TrackOf.{TrackOf}
 use Rattle.otio_model.specs.declared.timelines.Timeline.{Timeline}
-use Rattle.otio_model.specs.declared.roots.Object.{Object, out-Object}
-use Rattle.otio_model.specs.declared.roots.Object.TheOpen.{Object-F}
-use Rattle.otio_model.specs.declared.roots.Collection.{Collection, out-Collection}
-use Rattle.otio_model.specs.declared.warps.Effect.{Effect}
-use Rattle.otio_model.specs.declared.warps.Effect.TheVariants as E
-use Rattle.otio_model.specs.declared.marks.Marker.{Marker}
-use Rattle.otio_model.specs.declared.marks.Marker.TheVariants as K
-use Rattle.otio_model.specs.declared.sources.Media.{Media}
-use Rattle.otio_model.specs.declared.sources.Media.TheVariants as M
+use Rattle.otio_model.specs.declared.objects.Object.{Object, out-Object}
+use Rattle.otio_model.specs.declared.objects.Object.TheOpen.{Object-F}
+use Rattle.otio_model.specs.declared.objects.Collection.{Collection, out-Collection}
+use Rattle.otio_model.specs.declared.effect_types.Effect.{Effect}
+use Rattle.otio_model.specs.declared.effect_types.Effect.TheVariants as E
+use Rattle.otio_model.specs.declared.markers.Marker.{Marker}
+use Rattle.otio_model.specs.declared.markers.Marker.TheVariants as K
+use Rattle.otio_model.specs.declared.media.Media.{Media}
+use Rattle.otio_model.specs.declared.media.Media.TheVariants as M
 use Rattle.otio_model.specs.Trees.{items_of, is_transition}
 use Rattle.schema_rows.specs.declared.schemas.Schema.{Schema}
 use Rattle.schema_rows.specs.declared.schemas.Schema.TheVariants as S

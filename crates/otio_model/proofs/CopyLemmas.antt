@@ -5,8 +5,8 @@ use Rattle.std.proofs.lemmas.List.{take_more}
 use Rattle.otio_model.specs.declared.lists.Piece.{Piece}
 use Rattle.otio_model.specs.Pieces.{all_items, AllPieces, AllFull, AreNumbered, ArePieces}
 use Rattle.otio_model.specs.Pieces.{start_past}
-use Rattle.otio_model.specs.declared.kept.Kept.{Kept}
-use Rattle.otio_model.specs.declared.numbers.PieceStart.{PieceStart}
+use Rattle.otio_model.specs.declared.piece_summary.Kept.{Kept}
+use Rattle.otio_model.specs.declared.piece_numbers.PieceStart.{PieceStart}
 use Rattle.otio_model.specs.Kept.{kept_of}
 use Rattle.otio_model.specs.Sums.{capped}
 

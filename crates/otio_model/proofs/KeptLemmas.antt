@@ -9,8 +9,8 @@ use Rattle.otio_model.specs.declared.compositions.ItemOf.TheVariants.{Clip, Gap,
 use Rattle.otio_model.specs.declared.compositions.ItemOf.TheVariants.{Track}
 use Rattle.otio_model.specs.declared.compositions.Listed.{Listed}
 use Rattle.otio_model.specs.declared.lists.Piece.{Piece}
-use Rattle.otio_model.specs.declared.totals.Totals.{Totals}
-use Rattle.otio_model.specs.declared.kept.Kept.{Kept}
+use Rattle.otio_model.specs.declared.length_sums.Totals.{Totals}
+use Rattle.otio_model.specs.declared.piece_summary.Kept.{Kept}
 use Rattle.otio_model.specs.Trees.{items_of, listed}
 use Rattle.otio_model.proofs.Views.{shown}
 use Rattle.otio_model.proofs.LengthLimits.{longest_enough, short_enough}

@@ -4,7 +4,7 @@ use Rattle.std.proofs.Common.{sym, ◌∙◌, length, take, get_or, arith, lengt
 use Rattle.std.specs.Prelude.{slice_set}
 use Rattle.std.proofs.lemmas.List.{take_more}
 use Rattle.otio_model.specs.declared.lists.Piece.{Piece}
-use Rattle.otio_model.specs.declared.numbers.PieceStart.{PieceStart}
+use Rattle.otio_model.specs.declared.piece_numbers.PieceStart.{PieceStart}
 use Rattle.otio_model.specs.Pieces.{all_items, AllFull, AllPieces, AreNumbered, ArePieces, front}
 use Rattle.otio_model.specs.Pieces.{IsBetween, IsSpot, numbered_to, start_past, start_past_all}
 use Rattle.otio_model.proofs.Cuts.{length_more, same_default}

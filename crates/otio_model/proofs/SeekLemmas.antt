@@ -12,11 +12,11 @@ use Rattle.otio_model.specs.declared.compositions.Listed.{Listed}
 use Rattle.otio_model.specs.declared.lists.Piece.{Piece}
 use Rattle.otio_model.specs.declared.seeks.Seat.{Seat}
 use Rattle.otio_model.specs.Seats.{IsSeat}
-use Rattle.otio_model.specs.declared.numbers.PieceStart.{PieceStart}
+use Rattle.otio_model.specs.declared.piece_numbers.PieceStart.{PieceStart}
 use Rattle.otio_model.specs.Seeks.{total, Holds, IsAround, IsRead, lens}
 use Rattle.otio_model.specs.Pieces.{all_items, AllPieces, AreNumbered, ArePieces, front, IsPiece}
 use Rattle.otio_model.specs.Pieces.{start_past, start_past_all}
-use Rattle.otio_model.specs.declared.kept.Kept.{Kept}
+use Rattle.otio_model.specs.declared.piece_summary.Kept.{Kept}
 use Rattle.otio_model.specs.Trees.{items_of}
 use Rattle.otio_model.specs.Sums.{capped}
 use Rattle.otio_model.specs.Lengths.{added, lengths, length_of, or_zero, start_of}

@@ -6,7 +6,7 @@ use Rattle.std.proofs.lemmas.Int.{ints, unsigned_abs-mul}
 use Rattle.std.proofs.lemmas.Nat.{mul-le}
 use Rattle.tick_time.specs.Times.{IsSpeed, is_speed}
 use Rattle.tick_time.proofs.BoolLemmas.{both}
-use Rattle.otio_model.specs.declared.warps.Effect.{Effect}
+use Rattle.otio_model.specs.declared.effect_types.Effect.{Effect}
 use Rattle.otio_model.specs.Speeds.{next_speed, combined, keeps_speed, kept_speed}
 
 at_most : (a b : ℤ) → int_le a b ≡ true → a ≤ℤ b

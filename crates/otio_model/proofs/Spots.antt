@@ -6,7 +6,7 @@ use Rattle.std.specs.Prelude.{slice_get, slice_set, IsSomeAnd}
 use Rattle.otio_model.specs.declared.compositions.ItemOf.{ItemOf}
 use Rattle.otio_model.specs.declared.compositions.Listed.{Listed}
 use Rattle.otio_model.specs.declared.lists.Piece.{Piece}
-use Rattle.otio_model.specs.declared.kept.Kept.{Kept}
+use Rattle.otio_model.specs.declared.piece_summary.Kept.{Kept}
 use Rattle.otio_model.specs.Pieces.{all_items, AreChildren, AllPieces, IsPiece, AllFull, ArePieces}
 use Rattle.otio_model.specs.Pieces.{IsNumbered, IsSpot}
 use Rattle.otio_model.specs.Kept.{kept_of}

@@ -6,8 +6,8 @@ use Rattle.otio_model.specs.declared.compositions.ItemOf.{ItemOf}
 use Rattle.otio_model.specs.declared.compositions.ItemOf.TheVariants.{Clip, Gap, Transition, Stack}
 use Rattle.otio_model.specs.declared.compositions.ItemOf.TheVariants.{Track}
 use Rattle.otio_model.specs.declared.compositions.Listed.{Listed}
-use Rattle.otio_model.specs.declared.totals.Totals.{Totals}
-use Rattle.otio_model.specs.declared.kept.Kept.{Kept}
+use Rattle.otio_model.specs.declared.length_sums.Totals.{Totals}
+use Rattle.otio_model.specs.declared.piece_summary.Kept.{Kept}
 use Rattle.otio_model.specs.Counts.{count, count_of, counts_by}
 use Rattle.otio_model.specs.Trees.{is_transition}
 use Rattle.otio_model.specs.Lengths.{length_of}

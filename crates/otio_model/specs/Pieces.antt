@@ -5,8 +5,8 @@ use Rattle.std.specs.Vec.{vec_capacity}
 use Rattle.otio_model.specs.declared.compositions.ItemOf.{ItemOf}
 use Rattle.otio_model.specs.declared.compositions.Listed.{Listed}
 use Rattle.otio_model.specs.declared.lists.Piece.{Piece}
-use Rattle.otio_model.specs.declared.kept.Kept.{Kept}
-use Rattle.otio_model.specs.declared.numbers.PieceStart.{PieceStart}
+use Rattle.otio_model.specs.declared.piece_summary.Kept.{Kept}
+use Rattle.otio_model.specs.declared.piece_numbers.PieceStart.{PieceStart}
 use Rattle.otio_model.specs.Kept.{kept_of}
 use Rattle.otio_model.specs.Sums.{capped}
 

@@ -1,7 +1,7 @@
 -- A spare as the numbers that it has room for.
 use Rattle.std.specs.Prelude.{◌≡◌, ◌-◌, ◌*◌, ◌≤◌, min, [], vec_len}
 use Rattle.std.specs.Vec.{vec_capacity}
-use Rattle.otio_model.specs.declared.spares.Spare.TheInside.{Inside}
+use Rattle.otio_model.specs.declared.reserve.Spare.TheInside.{Inside}
 use Rattle.otio_model.specs.Rooms.{Room}
 use Rattle.otio_model.specs.Pieces.{AllFresh}
 

@@ -4,8 +4,8 @@ ghost use Rattle.std.specs.Prelude.{◌≡◌, ◌++◌, ◌∷◌, [], pos, IfS
 ghost use Rattle.tick_time.specs.Times.{IsSpeed};
 ghost use Rattle.otio_model.specs.Speeds.{kept_speed};
 
+use crate::effect_types::Effect;
 use crate::speeds;
-use crate::warps::Effect;
 use sequences::Sequence;
 use std::alloc::{AllocError, Global};
 use std::marker::Model;
@@ -20,12 +20,12 @@ pub struct Effects {
 
 impl Model for Effects {
     ghost use Rattle.std.specs.Prelude.{List};
-    ghost use Rattle.otio_model.specs.declared.warps.Effect.{Effect};
+    ghost use Rattle.otio_model.specs.declared.effect_types.Effect.{Effect};
 
     ghost Value = { List Effect };
 
     ghost use Rattle.std.specs.Coded.{coded_list};
-    ghost use Rattle.otio_model.specs.contracts.warps.Effect as effect_row;
+    ghost use Rattle.otio_model.specs.contracts.effect_types.Effect as effect_row;
 
     ghost coded = { coded_list effect_row.the_row.coded };
 

@@ -11,7 +11,7 @@ ghost use Rattle.otio_model.specs.Sums.{capped};
 ghost use Rattle.otio_model.specs.Trees.{items_of};
 
 use crate::lists::{Children, Piece, item_ticks};
-use crate::steps::Steps;
+use crate::step_count::Steps;
 use std::marker::Brand;
 use std::sync::ledger::{Blank, Ledger};
 

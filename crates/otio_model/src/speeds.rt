@@ -4,7 +4,7 @@ ghost use Rattle.std.specs.Prelude.{◌≡◌, ℤ, pos, ◌-ℤ◌, ◌≤ℤ�
 ghost use Rattle.tick_time.specs.Times.{IsSpeed, is_speed};
 ghost use Rattle.otio_model.specs.Speeds as speeds;
 
-use crate::warps::Effect;
+use crate::effect_types::Effect;
 
 /// Whether a division by a million with this quotient and this rest is rounded down, half to even.
 fn is_rounded_down(quotient: i128, rest: i128) -> bool

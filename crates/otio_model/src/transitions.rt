@@ -13,9 +13,9 @@ ghost use Rattle.otio_model.specs.Seeks.{HasNone, IsNext, IsOver, NoneOver, lens
 
 use crate::compositions::ItemOf;
 use crate::lists::{Children, Item, Piece, item_ticks, transition_count};
-use crate::numbers::locate;
+use crate::piece_numbers::locate;
 use crate::seeks::{Seat, last_piece, read_piece, starting_at};
-use crate::steps::Steps;
+use crate::step_count::Steps;
 use std::marker::Brand;
 use std::sync::ledger::{Blank, Ledger};
 use tick_time::Time;

@@ -1,7 +1,7 @@
 -- Lemmas of the callers of the library.
 use Rattle.std.proofs.Common.{◌≡◌, sym, ap, subst, ◌∙◌, ◌⊎◌, inl, inr, ℕ, List}
 use Rattle.tick_time.specs.declared.rates.Rate.{Rate}
-use Rattle.otio_model.specs.declared.editing.Edit.{Edit}
+use Rattle.otio_model.specs.declared.edit_types.Edit.{Edit}
 use Rattle.otio_model.specs.declared.patches.Patch.{Patch}
 use Rattle.otio_model.specs.declared.timelines.Timeline.{Timeline}
 use Rattle.otio_model.specs.Patches.{applied}

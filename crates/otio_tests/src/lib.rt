@@ -24,6 +24,10 @@ mod list_tests;
 #[cfg(test)]
 mod log_tests;
 #[cfg(test)]
+mod note_tests;
+#[cfg(test)]
+mod note_texts;
+#[cfg(test)]
 mod object_tests;
 #[cfg(test)]
 mod pieces_tests;

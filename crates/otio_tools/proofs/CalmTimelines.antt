@@ -1,7 +1,7 @@
 -- Timelines that are read, and those that lists conform to: they are writable, and their
 -- transitions stand where they may.
 use Rattle.std.proofs.Common.{ℕ, List}
-use Rattle.otio_model.specs.declared.roots.Object.{Timeline as ObjectOfTimeline}
+use Rattle.otio_model.specs.declared.objects.Object.{Timeline as ObjectOfTimeline}
 use Rattle.otio_model.specs.declared.timelines.Timeline.{Timeline}
 use Rattle.coord.specs.Soundness.{IsCalm}
 use Rattle.object_law.specs.Writable as W

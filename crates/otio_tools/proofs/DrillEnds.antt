@@ -5,8 +5,8 @@ use Rattle.dev_io.specs.Known.{KnownFiles}
 use Rattle.dev_io.specs.Calls.{Tells}
 use Rattle.undo_log.specs.States.{IsKept, state_of}
 use Rattle.edit_script.specs.Keeping.{HoldsEdits}
-use Rattle.listings.specs.declared.listing.RowFault.{RowFault}
-use Rattle.listings.specs.declared.listing.RowFault.TheVariants.{Sink, Memory as NoMemory}
+use Rattle.show_prog.specs.declared.frame_range.RowFault.{RowFault}
+use Rattle.show_prog.specs.declared.frame_range.RowFault.TheVariants.{Sink, Memory as NoMemory}
 use Rattle.command_words.specs.Asked.{Ask, OtherNames}
 use Rattle.command_words.specs.Drills.{AsksDrill}
 use Rattle.command_words.specs.Tasks.{IsTask}

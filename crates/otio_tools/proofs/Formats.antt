@@ -4,11 +4,11 @@ use Rattle.json_text.proofs.OneText.{text_once, fault_once as json_fault_once, f
 use Rattle.json_value.specs.declared.Json.{Json}
 use Rattle.tick_time.specs.declared.rates.Rate.{Rate}
 use Rattle.edl_text.proofs.OneFault.{one_fault, list_or_fault}
-use Rattle.otio_model.specs.declared.roots.Object.{Object, Timeline as ObjectOfTimeline, out-Object}
-use Rattle.otio_model.specs.declared.roots.Object.TheOpen.{Object-F}
-use Rattle.otio_model.specs.declared.roots.Object.TheViews.{roll-Object, roll-out-Object}
-use Rattle.otio_model.specs.declared.roots.Object.TheFolds.{fold-roll-Object}
-use Rattle.otio_model.specs.declared.roots.Collection.{Collection}
+use Rattle.otio_model.specs.declared.objects.Object.{Object, Timeline as ObjectOfTimeline, out-Object}
+use Rattle.otio_model.specs.declared.objects.Object.TheOpen.{Object-F}
+use Rattle.otio_model.specs.declared.objects.Object.TheViews.{roll-Object, roll-out-Object}
+use Rattle.otio_model.specs.declared.objects.Object.TheFolds.{fold-roll-Object}
+use Rattle.otio_model.specs.declared.objects.Collection.{Collection}
 use Rattle.otio_model.specs.declared.timelines.Timeline.{Timeline}
 use Rattle.otio_model.specs.Timelines.{bare}
 use Rattle.schema_rows.specs.Upgrades.{upgraded}
@@ -27,10 +27,10 @@ use Rattle.edit_script.specs.Scripts.{IsScript}
 use Rattle.edit_script.specs.declared.commands.Command.{Command}
 use Rattle.edit_script.proofs.Once.{fault_once as script_fault_once, never_both as script_or_fault}
 use Rattle.source_files.specs.Formats.{IsJson, IsObject, IsTimeline, IsNoTimeline, Holds, Refuses, RefusesJson, RefusesObject, RefusesTimeline, RefusesList, RefusesMedia, RefusesLog, RefusesScript}
-use Rattle.source_files.specs.declared.kinds.Kind.{Kind}
-use Rattle.source_files.specs.declared.kinds.Kind.TheVariants as kinds
-use Rattle.source_files.specs.declared.kinds.Content.{Content}
-use Rattle.source_files.specs.declared.kinds.Content.TheVariants.{Value, Root, Film, Events, Noted, Rows, Commands}
+use Rattle.source_files.specs.declared.file_kinds.Kind.{Kind}
+use Rattle.source_files.specs.declared.file_kinds.Kind.TheVariants as kinds
+use Rattle.source_files.specs.declared.file_kinds.Content.{Content}
+use Rattle.source_files.specs.declared.file_kinds.Content.TheVariants.{Value, Root, Film, Events, Noted, Rows, Commands}
 
 json_reason_once : (bytes v w : List ℕ) → RefusesJson bytes v → RefusesJson bytes w → v ≡ w
 json_reason_once bytes v w p q =
@@ -127,7 +127,7 @@ old_json_once bytes a b p q =
 
 timeline_json : (style : Style) (t : Timeline) → object_in style (ObjectOfTimeline t)
     ≡ object_step style (Object-F.Timeline (bare t))
-unfolding Rattle.otio_model.specs.declared.roots.Object.TheViews.roll-Object
+unfolding Rattle.otio_model.specs.declared.objects.Object.TheViews.roll-Object
     denote.Hole.Carrier.roll
 timeline_json style t =
     fold-roll-Object (in_json style).A (in_json style).B (in_json style).object

@@ -7,7 +7,7 @@ use Rattle.tick_time.specs.declared.rates.Rate.{Rate}
 use Rattle.edl_list.specs.declared.list.EventList.{EventList}
 use Rattle.edl_text.specs.Lists.{IsList}
 use Rattle.note_text.specs.declared.notes.Note.{Note}
-use Rattle.otio_model.specs.declared.roots.Object.{Object}
+use Rattle.otio_model.specs.declared.objects.Object.{Object}
 use Rattle.otio_model.specs.declared.timelines.Timeline.{Timeline}
 use Rattle.media_rows.specs.declared.row.MediaRow.{MediaRow}
 use Rattle.media_rows.specs.Rows.{AreRows}
@@ -19,9 +19,9 @@ use Rattle.ale_text.proofs.PlainRows.{log_plain}
 use Rattle.edit_script.specs.declared.commands.Command as script
 use Rattle.edit_script.specs.Scripts.{IsScript}
 use Rattle.source_files.specs.Formats.{IsJson, IsObject, IsTimeline, IsNotedList, Holds}
-use Rattle.source_files.specs.declared.kinds.Kind.TheVariants as kinds
-use Rattle.source_files.specs.declared.kinds.Content.{Content}
-use Rattle.source_files.specs.declared.kinds.Content.TheVariants.{Value, Root, Film, Events, Noted, Rows, Commands}
+use Rattle.source_files.specs.declared.file_kinds.Kind.TheVariants as kinds
+use Rattle.source_files.specs.declared.file_kinds.Content.{Content}
+use Rattle.source_files.specs.declared.file_kinds.Content.TheVariants.{Value, Root, Film, Events, Noted, Rows, Commands}
 use Rattle.otio_tools.specs.Kept.{AreRowsAs}
 
 pub gone_or_there : (bytes : List ℕ) (o : Option (List ℕ)) → o ≡ None → o ≡ Some bytes → ⊥

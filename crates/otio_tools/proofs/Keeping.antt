@@ -8,9 +8,9 @@ use Rattle.edl_law.specs.Premises.{AreListed}
 use Rattle.source_files.specs.Order.{FirstIsNot}
 use Rattle.source_files.specs.Formats.{IsTimeline}
 use Rattle.source_files.specs.Reading.{Held, Source, IsRead, AreRead}
-use Rattle.source_files.specs.declared.kinds.Content.{Content}
-use Rattle.source_files.specs.declared.kinds.Content.TheVariants.{Film}
-use Rattle.source_files.specs.declared.kinds.Kind.TheVariants as kinds
+use Rattle.source_files.specs.declared.file_kinds.Content.{Content}
+use Rattle.source_files.specs.declared.file_kinds.Content.TheVariants.{Film}
+use Rattle.source_files.specs.declared.file_kinds.Kind.TheVariants as kinds
 use Rattle.command_words.specs.Asked.{Ask, OtherNames}
 use Rattle.command_words.proofs.Drilling.{not_both as never_drill}
 use Rattle.command_words.specs.declared.requests.Command.TheVariants.{TimelineToList}

@@ -17,21 +17,21 @@ use Rattle.otio_model.specs.declared.timelines.Timeline.{Timeline}
 use Rattle.otio_model.specs.Timelines.{bare}
 use Rattle.schema_write.specs.Objects.{json_of, old_json_of}
 use Rattle.schema_rows.specs.Upgrades.{upgraded}
-use Rattle.otio_model.specs.declared.roots.Object.{Object, Timeline as ObjectOfTimeline}
+use Rattle.otio_model.specs.declared.objects.Object.{Object, Timeline as ObjectOfTimeline}
 use Rattle.object_law.proofs.OneOldFault.{SamePlaces, one_old_fault, no_old_fault, same_places, bare_places}
 use Rattle.source_files.specs.Faults.{family_fault_text}
 use Rattle.otio_tools.specs.Objects.{AnswersObject, NoForm, Older}
 use Rattle.coord.proofs.OneFault.{same_fault, no_fault_of}
 use Rattle.coord.proofs.SpareLemmas.{faultless_bare, fault_bare}
 use Rattle.source_files.specs.Faults.{coord_fault_text, conform_fault_text}
-use Rattle.listings.specs.Rows.{listing_of, listing_text}
-use Rattle.listings.specs.declared.listing.Listing.{Listing}
-use Rattle.listings.proofs.SpareLemmas.{listing_bare, text_bare}
+use Rattle.show_prog.specs.Rows.{listing_of, listing_text}
+use Rattle.show_prog.specs.declared.frame_range.Listing.{Listing}
+use Rattle.show_prog.proofs.SpareLemmas.{listing_bare, text_bare}
 use Rattle.source_files.specs.Formats.{Holds, Refuses}
 use Rattle.source_files.specs.Reading.{Held, Source, IsRead, AreRead}
-use Rattle.source_files.specs.declared.kinds.Kind.TheVariants as kinds
-use Rattle.source_files.specs.declared.kinds.Content.{Content}
-use Rattle.source_files.specs.declared.kinds.Content.TheVariants.{Film, Events, Rows, Commands}
+use Rattle.source_files.specs.declared.file_kinds.Kind.TheVariants as kinds
+use Rattle.source_files.specs.declared.file_kinds.Content.{Content}
+use Rattle.source_files.specs.declared.file_kinds.Content.TheVariants.{Film, Events, Rows, Commands}
 use Rattle.source_files.proofs.Order.{first_once, each_or_first}
 use Rattle.command_words.specs.declared.requests.Command.{Command}
 use Rattle.command_words.specs.declared.requests.Command.TheVariants.{ListToList, ListToObjects, TimelineToList, ToObjects, ToJson, Frames, ListFrames, Edit, ListEdit}

@@ -14,10 +14,10 @@ use Rattle.source_files.specs.Faults.{coord_fault_text, conform_fault_text}
 use Rattle.source_files.specs.Formats.{Holds}
 use Rattle.source_files.specs.Order.{EachIs, FirstIsNot}
 use Rattle.source_files.specs.Reading.{Held, Source, IsRead, AreRead}
-use Rattle.source_files.specs.declared.kinds.Kind.{Kind}
-use Rattle.source_files.specs.declared.kinds.Kind.TheVariants as kinds
-use Rattle.source_files.specs.declared.kinds.Content.{Content}
-use Rattle.source_files.specs.declared.kinds.Content.TheVariants as content
+use Rattle.source_files.specs.declared.file_kinds.Kind.{Kind}
+use Rattle.source_files.specs.declared.file_kinds.Kind.TheVariants as kinds
+use Rattle.source_files.specs.declared.file_kinds.Content.{Content}
+use Rattle.source_files.specs.declared.file_kinds.Content.TheVariants as content
 use Rattle.command_words.specs.declared.tools.ToolAsked.{ToolAsked}
 use Rattle.otio_tools.specs.Forms.{Answer, done, refused}
 use Rattle.otio_tools.specs.Opened.{AnswersOpened, AnswersUnopened, Input, IsConformedTo, IsOpened, IsOpenedInput, IsUnconformed, IsUnopened, IsUnsound, Opened, Unopened, inputs_in, media_behind, names_in}
@@ -29,9 +29,9 @@ use Rattle.otio_tools.proofs.OneText.{same_listings, same_text}
 use Rattle.media_rows.specs.declared.row.MediaRow.{MediaRow}
 use Rattle.media_list.proofs.OneOutcome.{list_once as media_list_once}
 use Rattle.ale_text.proofs.OneOutcome.{log_once}
-use Rattle.flat_timelines.specs.declared.step_faults.ToolFault.{ToolFault}
-use Rattle.flat_timelines.proofs.OneGathered.{concat_sure}
-use Rattle.flat_timelines.proofs.OneOutcome.{one_result, never_both, one_fault}
+use Rattle.flat_stack.specs.declared.step_faults.ToolFault.{ToolFault}
+use Rattle.flat_stack.proofs.OneGathered.{concat_sure}
+use Rattle.flat_stack.proofs.OneOutcome.{one_result, never_both, one_fault}
 
 -- ---- why there is no timeline of what a file holds, in one way
 

@@ -1,11 +1,11 @@
 -- What is written of a timeline doesn't depend on its spare memory.
 use Rattle.std.proofs.Common.{◌≡◌, ap}
 use Rattle.json_text.specs.Layout.{layout}
-use Rattle.otio_model.specs.declared.roots.Object.{Object}
+use Rattle.otio_model.specs.declared.objects.Object.{Object}
 use Rattle.otio_model.specs.declared.timelines.Timeline.{Timeline}
 use Rattle.otio_model.specs.Timelines.{bare}
 use Rattle.schema_write.specs.Objects.{json_of, old_json_of}
-use Rattle.listings.specs.declared.asked.Listings.{Listings}
+use Rattle.show_prog.specs.declared.frame_options.Listings.{Listings}
 use Rattle.otio_tools.specs.Written.{listings_text, object_json, old_object_json, timeline_text}
 use Rattle.otio_tools.proofs.Formats.{bare_json}
 

@@ -4,8 +4,8 @@ use Rattle.std.specs.Global.{Vec}
 use Rattle.media_rows.specs.declared.row.MediaRow.{MediaRow}
 use Rattle.edit_script.specs.declared.commands.Command as script
 use Rattle.media_rows.specs.Rows.{MediaRows}
-use Rattle.source_files.specs.declared.kinds.Content.{Content}
-use Rattle.source_files.specs.declared.kinds.Content.TheVariants as content
+use Rattle.source_files.specs.declared.file_kinds.Content.{Content}
+use Rattle.source_files.specs.declared.file_kinds.Content.TheVariants as content
 use Rattle.otio_tools.specs.Plan.{AreEditContents, media_content}
 
 -- something to edit and a script

@@ -3,7 +3,7 @@ use Rattle.std.proofs.Common.{◌≡◌, ◌≢◌, ◌≤◌, ◌<◌, ◌^◌,
 use Rattle.std.specs.declared.option.Option.{Option}
 use Rattle.dev_io.specs.Known.{KnownFiles}
 use Rattle.dev_io.specs.Calls.{Tells}
-use Rattle.otio_model.specs.declared.roots.Object.{Object, Timeline as ObjectOfTimeline}
+use Rattle.otio_model.specs.declared.objects.Object.{Object, Timeline as ObjectOfTimeline}
 use Rattle.schema_write.specs.Objects.{newer, json_of, old_json_of, timeline_json}
 use Rattle.schema_write.proofs.Trees.{object_in-Timeline}
 use Rattle.source_files.specs.Reasons.{reason_text}
@@ -11,14 +11,14 @@ use Rattle.tick_time.specs.declared.rates.Rate.{Rate}
 use Rattle.source_files.specs.Order.{EachIs, FirstIsNot}
 use Rattle.source_files.specs.Formats.{Suits}
 use Rattle.source_files.specs.Reading.{Source, IsRead, IsUnread, IsRefused, StopsAt, HaveRead, HasStopped}
-use Rattle.source_files.specs.declared.kinds.Kind.TheVariants as kinds
-use Rattle.source_files.specs.declared.kinds.Content.{Content}
-use Rattle.source_files.specs.declared.kinds.Content.TheVariants as content
-use Rattle.source_files.specs.declared.file_faults.Refusal.{Refusal}
-use Rattle.source_files.specs.declared.file_faults.Refusal.TheVariants.{Broken, Memory}
-use Rattle.source_files.specs.declared.file_faults.ReadFault.{ReadFault}
-use Rattle.source_files.specs.declared.file_faults.ReadFault.TheVariants.{Absent, Failed, Refused}
-use Rattle.source_files.specs.declared.file_faults.SourceFault.{SourceFault}
+use Rattle.source_files.specs.declared.file_kinds.Kind.TheVariants as kinds
+use Rattle.source_files.specs.declared.file_kinds.Content.{Content}
+use Rattle.source_files.specs.declared.file_kinds.Content.TheVariants as content
+use Rattle.source_files.specs.declared.read_faults.Refusal.{Refusal}
+use Rattle.source_files.specs.declared.read_faults.Refusal.TheVariants.{Broken, Memory}
+use Rattle.source_files.specs.declared.read_faults.ReadFault.{ReadFault}
+use Rattle.source_files.specs.declared.read_faults.ReadFault.TheVariants.{Absent, Failed, Refused}
+use Rattle.source_files.specs.declared.read_faults.SourceFault.{SourceFault}
 use Rattle.source_files.proofs.Handing.{refused_by}
 use Rattle.source_files.proofs.Order.{first_for}
 use Rattle.command_words.specs.declared.requests.Command.{Command}
@@ -62,7 +62,7 @@ use Rattle.otio_tools.specs.Plan.{HasFormedList, HasNotedList, Suffices, IsRefus
 use Rattle.edl_list.specs.declared.list.EventList.{EventList}
 use Rattle.otio_model.specs.declared.timelines.Timeline.{Timeline}
 use Rattle.otio_tools.specs.Conformed.{media_in, AnswersConformed, Conformed, NotConformed}
-use Rattle.otio_tools.specs.declared.planned.Planned.{Planned}
+use Rattle.otio_tools.specs.declared.planning.Planned.{Planned}
 
 refused_held : (asked : Asked) (called : List ℕ) (contents : List Content) (fault : ReadFault)
     (old new : KnownFiles) → HaveRead asked.files contents old new

@@ -9,8 +9,8 @@ use Rattle.source_files.specs.Faults.{coord_fault_text, pull_frames_text}
 use Rattle.source_files.specs.Reading.{IsRefused}
 use Rattle.source_files.specs.Reasons.{reason_text}
 use Rattle.source_files.specs.declared.reasons.Reason.{Reason}
-use Rattle.source_files.specs.declared.file_faults.Refusal.{Refusal}
-use Rattle.source_files.specs.declared.file_faults.Refusal.TheVariants.{Broken, Memory}
+use Rattle.source_files.specs.declared.read_faults.Refusal.{Refusal}
+use Rattle.source_files.specs.declared.read_faults.Refusal.TheVariants.{Broken, Memory}
 use Rattle.pull_list.specs.Lines.{stretches_text}
 use Rattle.pull_list.specs.Pulled.{IsPullList, Stretch}
 use Rattle.pull_list.specs.Record.{HasTooMany}
@@ -19,7 +19,7 @@ use Rattle.pull_list.specs.declared.spans.PullFault.TheVariants as pull
 use Rattle.otio_tools.specs.Forms.{done, refused}
 use Rattle.otio_tools.specs.Plan.{Suffices}
 use Rattle.otio_tools.specs.Pulled.{AnswersPull, Unsound, Many, Told}
-use Rattle.otio_tools.specs.declared.planned.Planned.TheVariants.{Text}
+use Rattle.otio_tools.specs.declared.planning.Planned.TheVariants.{Text}
 
 -- how a timeline is refused that isn't sound
 pub unsound_pull : (handles : ℕ) (name : List ℕ) (timeline : Timeline) (fault : CoordFault)

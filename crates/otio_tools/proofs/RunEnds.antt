@@ -3,13 +3,13 @@ use Rattle.std.proofs.Common.{◌≡◌, ◌≢◌, ℕ, List, [], Some, None, R
 use Rattle.std.specs.declared.option.Option.{Option}
 use Rattle.dev_io.specs.Known.{KnownFiles, KnownOut}
 use Rattle.dev_io.specs.Calls.{Tells, Adds, AddsPrefix, SendsAll, Aims}
-use Rattle.listings.specs.declared.listing.RowFault.{RowFault}
-use Rattle.listings.specs.declared.listing.RowFault.TheVariants.{Sink, Memory as NoMemory}
+use Rattle.show_prog.specs.declared.frame_range.RowFault.{RowFault}
+use Rattle.show_prog.specs.declared.frame_range.RowFault.TheVariants.{Sink, Memory as NoMemory}
 use Rattle.source_files.specs.Reading.{Held, RaisedAt, RaisedBy, EndsWith}
-use Rattle.source_files.specs.declared.file_faults.Refusal.TheVariants.{Broken, Memory as WantOfMemory}
-use Rattle.source_files.specs.declared.file_faults.ReadFault.{ReadFault}
-use Rattle.source_files.specs.declared.file_faults.ReadFault.TheVariants as fault
-use Rattle.source_files.specs.declared.file_faults.SourceFault.{SourceFault}
+use Rattle.source_files.specs.declared.read_faults.Refusal.TheVariants.{Broken, Memory as WantOfMemory}
+use Rattle.source_files.specs.declared.read_faults.ReadFault.{ReadFault}
+use Rattle.source_files.specs.declared.read_faults.ReadFault.TheVariants as fault
+use Rattle.source_files.specs.declared.read_faults.SourceFault.{SourceFault}
 use Rattle.command_words.specs.Asked.{Ask, AskNothing, NoRequest, OtherNames}
 use Rattle.command_words.specs.declared.faults.WordsFault.{WordsFault}
 use Rattle.command_words.specs.declared.requests.Command.{Command}
@@ -21,7 +21,7 @@ use Rattle.otio_tools.specs.Run.{Streams, Ends, Gives, Sends, SendsNothing, Dire
 use Rattle.otio_tools.specs.Plan.{Plans, IsStop, AreRows, IsFor, Carries, Complains, Writes, IsSendCause, WritesTo, text_planned, status_unsent, message_unsent}
 use Rattle.otio_tools.specs.declared.Status.{Status}
 use Rattle.otio_tools.specs.declared.Status.TheVariants.{Done, Usage, Refused, Input, Output, Memory}
-use Rattle.otio_tools.specs.declared.planned.Planned.{Planned}
+use Rattle.otio_tools.specs.declared.planning.Planned.{Planned}
 
 -- sending nothing sends no bytes
 pub nothing_added : (a b : Option KnownOut) → Tells SendsNothing a b → Tells (Directs None []) a b

@@ -4,9 +4,9 @@ use Rattle.media_rows.specs.declared.row.MediaRow.{MediaRow}
 use Rattle.source_files.specs.Order.{FirstIsNot}
 use Rattle.source_files.specs.Formats.{Holds}
 use Rattle.source_files.specs.Reading.{Held, Source, IsRead, AreRead}
-use Rattle.source_files.specs.declared.kinds.Kind.TheVariants as kinds
-use Rattle.source_files.specs.declared.kinds.Content.{Content}
-use Rattle.source_files.specs.declared.kinds.Content.TheVariants.{Value, Root, Film, Events, Noted, Rows, Commands}
+use Rattle.source_files.specs.declared.file_kinds.Kind.TheVariants as kinds
+use Rattle.source_files.specs.declared.file_kinds.Content.{Content}
+use Rattle.source_files.specs.declared.file_kinds.Content.TheVariants.{Value, Root, Film, Events, Noted, Rows, Commands}
 use Rattle.source_files.proofs.Order.{each_more}
 use Rattle.command_words.specs.Asked.{OtherNames}
 use Rattle.command_words.proofs.Drilling.{not_both as never_drill}

@@ -12,16 +12,16 @@ use Rattle.source_files.specs.Reasons.{reason_text}
 use Rattle.source_files.specs.Order.{EachIs, FirstIsNot}
 use Rattle.source_files.specs.Formats.{Suits}
 use Rattle.source_files.specs.Reading.{Source, HasStopped, HaveRead, IsRefused, RaisedBy, source_of}
-use Rattle.source_files.specs.declared.kinds.Source as code
-use Rattle.source_files.specs.declared.kinds.Kind.{Kind}
-use Rattle.source_files.specs.declared.kinds.Kind.TheVariants as kinds
-use Rattle.source_files.specs.declared.kinds.Content.{Content}
-use Rattle.source_files.specs.declared.kinds.Content.TheVariants as content
-use Rattle.source_files.specs.declared.file_faults.Refusal.{Refusal}
-use Rattle.source_files.specs.declared.file_faults.Refusal.TheVariants.{Broken, Memory}
-use Rattle.source_files.specs.declared.file_faults.ReadFault.{ReadFault}
-use Rattle.source_files.specs.declared.file_faults.ReadFault.TheVariants.{Absent, Failed, Refused}
-use Rattle.source_files.specs.declared.file_faults.SourceFault.{SourceFault}
+use Rattle.source_files.specs.declared.file_kinds.Source as code
+use Rattle.source_files.specs.declared.file_kinds.Kind.{Kind}
+use Rattle.source_files.specs.declared.file_kinds.Kind.TheVariants as kinds
+use Rattle.source_files.specs.declared.file_kinds.Content.{Content}
+use Rattle.source_files.specs.declared.file_kinds.Content.TheVariants as content
+use Rattle.source_files.specs.declared.read_faults.Refusal.{Refusal}
+use Rattle.source_files.specs.declared.read_faults.Refusal.TheVariants.{Broken, Memory}
+use Rattle.source_files.specs.declared.read_faults.ReadFault.{ReadFault}
+use Rattle.source_files.specs.declared.read_faults.ReadFault.TheVariants.{Absent, Failed, Refused}
+use Rattle.source_files.specs.declared.read_faults.SourceFault.{SourceFault}
 use Rattle.source_files.proofs.Order.{each_more, first_behind, first_for}
 use Rattle.command_words.specs.Asked.{OtherNames}
 use Rattle.command_words.specs.Names.{IsListName}
@@ -35,17 +35,17 @@ use Rattle.otio_tools.specs.Opened.{AnswersOpened, AnswersUnopened, Input, IsOpe
 use Rattle.otio_tools.specs.Plan.{IsDesk, IsEditable, IsRefusedAs, LeavesWork, Plans, PlansAs, PlansHeld, media_content, text_planned}
 use Rattle.otio_tools.specs.Several.{AnswersTimelines, AreInputs, HasJoining, IsOpening, IsRefusedAt, StopsOpening, named_inputs, names_now}
 use Rattle.otio_tools.specs.Tools.{AnswersJoined, AnswersTool, Joined, NotJoined, NotWorked, Worked, name_told, tool_fault_text, tool_text}
-use Rattle.flat_timelines.specs.Chains.{Told}
-use Rattle.flat_timelines.specs.Gathered.{IsConcat, IsConcatFault}
-use Rattle.flat_timelines.specs.Ready.{IsReady}
-use Rattle.flat_timelines.specs.Tooled.{IsTooled, IsToolFault}
-use Rattle.flat_timelines.specs.declared.step_faults.ToolFault.{ToolFault}
-use Rattle.flat_timelines.specs.declared.step_faults.ToolFault.TheVariants as tool
-use Rattle.otio_model.specs.declared.roots.Object.{Timeline as ObjectOfTimeline}
+use Rattle.flat_stack.specs.Chains.{Told}
+use Rattle.flat_stack.specs.Gathered.{IsConcat, IsConcatFault}
+use Rattle.flat_stack.specs.Ready.{IsReady}
+use Rattle.flat_stack.specs.Tooled.{IsTooled, IsToolFault}
+use Rattle.flat_stack.specs.declared.step_faults.ToolFault.{ToolFault}
+use Rattle.flat_stack.specs.declared.step_faults.ToolFault.TheVariants as tool
+use Rattle.otio_model.specs.declared.objects.Object.{Timeline as ObjectOfTimeline}
 use Rattle.command_words.specs.declared.tools.ToolAsked.{ToolAsked}
 use Rattle.otio_tools.proofs.Planning.{held_planned, media_suits, stop_planned}
-use Rattle.otio_tools.specs.declared.planned.Planned.{Planned}
-use Rattle.otio_tools.specs.declared.planned.Planned.TheVariants.{Events, Noted, Value, Root, OldRoot, Rows, Edited, Listed, Text, Media}
+use Rattle.otio_tools.specs.declared.planning.Planned.{Planned}
+use Rattle.otio_tools.specs.declared.planning.Planned.TheVariants.{Events, Noted, Value, Root, OldRoot, Rows, Edited, Listed, Text, Media}
 
 -- ---- the names of lists
 

@@ -11,8 +11,8 @@ use Rattle.edit_script.specs.declared.faults.CommandFault.{CommandFault}
 use Rattle.media_rows.specs.Rows.{MediaRows}
 use Rattle.edit_script.specs.declared.faults.CommandFault.TheVariants as command
 use Rattle.source_files.specs.Reading.{IsRefused}
-use Rattle.source_files.specs.declared.file_faults.Refusal.{Refusal}
-use Rattle.source_files.specs.declared.file_faults.Refusal.TheVariants.{Broken, Memory}
+use Rattle.source_files.specs.declared.read_faults.Refusal.{Refusal}
+use Rattle.source_files.specs.declared.read_faults.Refusal.TheVariants.{Broken, Memory}
 use Rattle.script_law.specs.Shown.{opened}
 use Rattle.script_law.proofs.Starting.{start_holds, start_state}
 use Rattle.script_law.proofs.Steps.{commands_follow}

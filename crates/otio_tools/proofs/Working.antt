@@ -4,10 +4,10 @@ use Rattle.std.specs.declared.option.Option.{Option}
 use Rattle.dev_io.specs.Known.{KnownFiles}
 use Rattle.dev_io.specs.Calls.{Tells}
 use Rattle.source_files.specs.Reading.{Held}
-use Rattle.source_files.specs.declared.file_faults.Refusal.TheVariants.{Broken, Memory as WantOfMemory}
-use Rattle.source_files.specs.declared.file_faults.ReadFault.{ReadFault}
-use Rattle.source_files.specs.declared.file_faults.ReadFault.TheVariants as fault
-use Rattle.source_files.specs.declared.file_faults.SourceFault.{SourceFault}
+use Rattle.source_files.specs.declared.read_faults.Refusal.TheVariants.{Broken, Memory as WantOfMemory}
+use Rattle.source_files.specs.declared.read_faults.ReadFault.{ReadFault}
+use Rattle.source_files.specs.declared.read_faults.ReadFault.TheVariants as fault
+use Rattle.source_files.specs.declared.read_faults.SourceFault.{SourceFault}
 use Rattle.command_words.specs.Asked.{Ask, IsRequest, OtherNames}
 use Rattle.command_words.specs.Given.{Given}
 use Rattle.command_words.specs.declared.names.Verb.{Verb}
@@ -22,8 +22,8 @@ use Rattle.otio_tools.specs.Plan.{Carries, Complains, IsDeskFor, LeavesWorkOf, P
 use Rattle.otio_tools.specs.Run.{Streams}
 use Rattle.otio_tools.specs.Worked.{AskNoEdit, IsWorkOf, LeavesDesk, WorksOn}
 use Rattle.otio_tools.specs.declared.Desk.{Desk}
-use Rattle.otio_tools.specs.declared.planned.Planned.{Planned}
-use Rattle.otio_tools.specs.declared.planned.Planned.TheVariants.{Events, Noted, Value, Root, OldRoot, Rows, Edited, Listed, Text, Media}
+use Rattle.otio_tools.specs.declared.planning.Planned.{Planned}
+use Rattle.otio_tools.specs.declared.planning.Planned.TheVariants.{Events, Noted, Value, Root, OldRoot, Rows, Edited, Listed, Text, Media}
 use Rattle.otio_tools.specs.declared.Status.{Status}
 use Rattle.otio_tools.specs.declared.Status.TheVariants.{Done, Usage, Refused, Input, Output, Memory}
 

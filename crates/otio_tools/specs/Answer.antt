@@ -4,8 +4,8 @@ use Rattle.std.specs.declared.option.Option.{Option}
 use Rattle.json_text.specs.Layout.{layout}
 use Rattle.source_files.specs.Order.{FirstIsNot}
 use Rattle.source_files.specs.Reading.{Held, Source, IsRead, AreRead, IsRefusedIn}
-use Rattle.source_files.specs.declared.kinds.Content.{Content}
-use Rattle.source_files.specs.declared.kinds.Content.TheVariants.{Value, Root, Film, Events, Noted, Rows, Commands}
+use Rattle.source_files.specs.declared.file_kinds.Content.{Content}
+use Rattle.source_files.specs.declared.file_kinds.Content.TheVariants.{Value, Root, Film, Events, Noted, Rows, Commands}
 use Rattle.command_words.specs.Asked.{AskNothing}
 use Rattle.command_words.specs.Drills.{AsksDrill}
 use Rattle.command_words.specs.declared.requests.Command.{Command}
@@ -23,7 +23,7 @@ use Rattle.otio_tools.specs.Events.{AnswersEvents}
 use Rattle.otio_tools.specs.Frames.{AnswersTimeline}
 use Rattle.otio_tools.specs.Carried.{AnswersCarried}
 use Rattle.otio_tools.specs.Conformed.{media_in, AnswersConformed}
-use Rattle.otio_model.specs.declared.roots.Object.{Timeline as ObjectOfTimeline}
+use Rattle.otio_model.specs.declared.objects.Object.{Timeline as ObjectOfTimeline}
 use Rattle.otio_tools.specs.Objects.{AnswersObject}
 use Rattle.edl_text.specs.Spelling.{spelling}
 use Rattle.note_text.specs.Belonging.{below_day}

@@ -3,8 +3,8 @@ use Rattle.std.specs.Prelude.{◌≡◌, ◌||◌, ℕ, Bool, true, false, cond,
 use Rattle.std.specs.declared.option.Option.{Option}
 use Rattle.tick_time.specs.declared.rates.Rate.{Rate}
 use Rattle.source_files.specs.Reading.{Source}
-use Rattle.source_files.specs.declared.kinds.Kind.{Kind}
-use Rattle.source_files.specs.declared.kinds.Kind.TheVariants as kinds
+use Rattle.source_files.specs.declared.file_kinds.Kind.{Kind}
+use Rattle.source_files.specs.declared.file_kinds.Kind.TheVariants as kinds
 use Rattle.command_words.specs.Asked.{Ask, OtherNames}
 use Rattle.command_words.specs.declared.requests.Command.{Command}
 use Rattle.command_words.specs.declared.requests.Command.TheVariants.{ListToList, ListToObjects, TimelineToList, ToObjects, ToJson, Frames, ListFrames, Edit, ListEdit}

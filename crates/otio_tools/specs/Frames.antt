@@ -8,8 +8,8 @@ use Rattle.coord.specs.Soundness.{IsFaultless, IsFaultOf}
 use Rattle.coord.specs.declared.faults.CoordFault.{CoordFault}
 use Rattle.coord.specs.declared.faults.CoordFault.TheVariants.{Memory}
 use Rattle.source_files.specs.Faults.{coord_fault_text, range_text}
-use Rattle.listings.specs.Rows.{listing_of, listing_text}
-use Rattle.listings.specs.declared.listing.Listing.{Listing}
+use Rattle.show_prog.specs.Rows.{listing_of, listing_text}
+use Rattle.show_prog.specs.declared.frame_range.Listing.{Listing}
 use Rattle.otio_tools.specs.Forms.{Answer, done, refused}
 
 -- The first fault of a timeline that isn't sound, told of the file of that name; then a start that

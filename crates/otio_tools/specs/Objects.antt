@@ -2,7 +2,7 @@
 use Rattle.std.specs.Prelude.{◌≡◌, ◌≢◌, ℕ, Bool, true, false, List}
 use Rattle.std.specs.declared.option.Option.{Option}
 use Rattle.json_text.specs.Layout.{layout}
-use Rattle.otio_model.specs.declared.roots.Object.{Object}
+use Rattle.otio_model.specs.declared.objects.Object.{Object}
 use Rattle.schema_write.specs.OldForms.{HasOldForm, IsOldFault}
 use Rattle.schema_write.specs.declared.old_faults.FamilyFault.{FamilyFault}
 use Rattle.schema_write.specs.declared.old_faults.FamilyFault.TheVariants.{Memory}

@@ -16,8 +16,8 @@ use Rattle.edl_frames.specs.declared.faults.ConformFault.TheVariants as conform
 use Rattle.source_files.specs.Faults.{coord_fault_text, conform_fault_text}
 use Rattle.source_files.specs.Order.{EachIs, FirstIsNot}
 use Rattle.source_files.specs.Reading.{Source}
-use Rattle.source_files.specs.declared.kinds.Content.{Content}
-use Rattle.source_files.specs.declared.kinds.Content.TheVariants as content
+use Rattle.source_files.specs.declared.file_kinds.Content.{Content}
+use Rattle.source_files.specs.declared.file_kinds.Content.TheVariants as content
 use Rattle.otio_tools.specs.Forms.{Answer, refused}
 
 -- the timeline of a list, which is accepted and makes few items

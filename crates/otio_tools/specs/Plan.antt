@@ -18,19 +18,19 @@ use Rattle.edit_script.specs.Runs.{Halts}
 use Rattle.edit_script.specs.declared.faults.CommandFault.{CommandFault}
 use Rattle.edit_script.specs.declared.commands.Command as script
 use Rattle.source_files.specs.Formats.{IsOfTables, Suits, SuitsNotes}
-use Rattle.listings.specs.Rows.{listing_text}
-use Rattle.listings.specs.declared.listing.RowFault.{RowFault}
-use Rattle.listings.specs.declared.listing.RowFault.TheVariants.{Sink, Memory as NoMemory}
+use Rattle.show_prog.specs.Rows.{listing_text}
+use Rattle.show_prog.specs.declared.frame_range.RowFault.{RowFault}
+use Rattle.show_prog.specs.declared.frame_range.RowFault.TheVariants.{Sink, Memory as NoMemory}
 use Rattle.source_files.specs.Reasons.{reason_text}
 use Rattle.source_files.specs.Order.{FirstIsNot}
 use Rattle.source_files.specs.Reading.{Held, Source, IsRead, AreRead, IsRefused, EndsWith}
-use Rattle.source_files.specs.declared.kinds.Content.{Content}
-use Rattle.source_files.specs.declared.kinds.Content.TheVariants as content
-use Rattle.source_files.specs.declared.file_faults.Refusal.{Refusal}
-use Rattle.source_files.specs.declared.file_faults.Refusal.TheVariants.{Broken, Memory}
-use Rattle.source_files.specs.declared.file_faults.ReadFault.{ReadFault}
-use Rattle.source_files.specs.declared.file_faults.ReadFault.TheVariants.{Absent, Failed, Refused}
-use Rattle.source_files.specs.declared.file_faults.SourceFault.{SourceFault}
+use Rattle.source_files.specs.declared.file_kinds.Content.{Content}
+use Rattle.source_files.specs.declared.file_kinds.Content.TheVariants as content
+use Rattle.source_files.specs.declared.read_faults.Refusal.{Refusal}
+use Rattle.source_files.specs.declared.read_faults.Refusal.TheVariants.{Broken, Memory}
+use Rattle.source_files.specs.declared.read_faults.ReadFault.{ReadFault}
+use Rattle.source_files.specs.declared.read_faults.ReadFault.TheVariants.{Absent, Failed, Refused}
+use Rattle.source_files.specs.declared.read_faults.SourceFault.{SourceFault}
 use Rattle.command_words.specs.declared.requests.Command.{Command}
 use Rattle.command_words.specs.declared.requests.Command.TheVariants.{Edit, ListEdit}
 use Rattle.dev_io.specs.Known.{KnownFiles, KnownOut}
@@ -52,8 +52,8 @@ use Rattle.otio_tools.specs.declared.Desk.{Desk}
 use Rattle.otio_tools.specs.Run.{Streams, Sends, Directs, DirectsFront, DirectsPrefix, FailsUnder, Message, OutFailed, SendsNothing, no_memory, output_failed}
 use Rattle.otio_tools.specs.declared.Status.{Status}
 use Rattle.otio_tools.specs.declared.Status.TheVariants as status
-use Rattle.otio_tools.specs.declared.planned.Planned.{Planned}
-use Rattle.otio_tools.specs.declared.planned.Planned.TheVariants.{Events, Noted, Value, Root, OldRoot, Rows, Edited, Listed, Text, Media}
+use Rattle.otio_tools.specs.declared.planning.Planned.{Planned}
+use Rattle.otio_tools.specs.declared.planning.Planned.TheVariants.{Events, Noted, Value, Root, OldRoot, Rows, Edited, Listed, Text, Media}
 
 -- the text of what is to be sent
 abbrev pub text_planned : Planned → List ℕ

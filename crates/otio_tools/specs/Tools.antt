@@ -6,11 +6,11 @@ use Rattle.coord.specs.Soundness.{IsFaultless, IsFaultOf}
 use Rattle.coord.specs.declared.faults.CoordFault.{CoordFault}
 use Rattle.coord.specs.declared.faults.CoordFault.TheVariants as coord
 use Rattle.command_words.specs.declared.tools.ToolAsked.{ToolAsked}
-use Rattle.listings.specs.declared.asked.Listings.{Listings}
-use Rattle.flat_timelines.specs.Gathered.{IsConcat, IsConcatFault}
-use Rattle.flat_timelines.specs.Tooled.{IsTooled, IsToolFault}
-use Rattle.flat_timelines.specs.declared.step_faults.ToolFault.{ToolFault}
-use Rattle.flat_timelines.specs.declared.step_faults.ToolFault.TheVariants as tool
+use Rattle.show_prog.specs.declared.frame_options.Listings.{Listings}
+use Rattle.flat_stack.specs.Gathered.{IsConcat, IsConcatFault}
+use Rattle.flat_stack.specs.Tooled.{IsTooled, IsToolFault}
+use Rattle.flat_stack.specs.declared.step_faults.ToolFault.{ToolFault}
+use Rattle.flat_stack.specs.declared.step_faults.ToolFault.TheVariants as tool
 use Rattle.source_files.specs.Faults.{coord_fault_text, flat_fault_text, items_text}
 use Rattle.otio_tools.specs.Forms.{Answer, done, refused}
 use Rattle.otio_tools.specs.Written.{listings_text, timeline_text}

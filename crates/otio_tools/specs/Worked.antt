@@ -3,7 +3,7 @@ use Rattle.std.specs.Prelude.{◌≡◌, ℕ, List, Some}
 use Rattle.std.specs.declared.option.Option.{Option}
 use Rattle.dev_io.specs.Known.{KnownFiles}
 use Rattle.source_files.specs.Reading.{Held, AreRead}
-use Rattle.source_files.specs.declared.kinds.Content.{Content}
+use Rattle.source_files.specs.declared.file_kinds.Content.{Content}
 use Rattle.command_words.specs.Asked.{Ask, OtherNames}
 use Rattle.command_words.specs.Drills.{AskNoDrill}
 use Rattle.command_words.specs.declared.requests.Command.{Command}

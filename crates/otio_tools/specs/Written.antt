@@ -3,14 +3,14 @@ use Rattle.std.specs.Prelude.{◌≡◌, ℕ, List}
 use Rattle.std.specs.declared.option.Option.{Option}
 use Rattle.json_value.specs.declared.Json.{Json}
 use Rattle.json_text.specs.Layout.{layout}
-use Rattle.otio_model.specs.declared.roots.Object.{Object, Timeline as ObjectOfTimeline}
+use Rattle.otio_model.specs.declared.objects.Object.{Object, Timeline as ObjectOfTimeline}
 use Rattle.otio_model.specs.declared.timelines.Timeline.{Timeline}
 use Rattle.schema_write.specs.Objects.{json_of, old_json_of}
 use Rattle.edl_list.specs.declared.list.EventList.{EventList}
 use Rattle.note_text.specs.Noted.{IsNoted}
 use Rattle.note_text.specs.declared.notes.Note.{Note}
-use Rattle.listings.specs.ListingTexts.{listed_text}
-use Rattle.listings.specs.declared.asked.Listings.{Listings}
+use Rattle.show_prog.specs.ListingTexts.{listed_text}
+use Rattle.show_prog.specs.declared.frame_options.Listings.{Listings}
 use Rattle.otio_tools.specs.Forms.{Answer, done}
 
 -- the JSON of an object that is written, in the current schemas and the written order

@@ -10,8 +10,8 @@ ghost use Rattle.edits.specs.Cuts as cuts;
 ghost use Rattle.edits.specs.Children.{is_far};
 ghost use Rattle.pieces.specs.Short.{IsCuttable};
 
-use crate::measures::{start_ticks, ticks_of};
-use crate::ranges::{RangedFault, ranged};
+use crate::item_lengths::{start_ticks, ticks_of};
+use crate::new_ranges::{RangedFault, ranged};
 use coord::{media_ticks, speed};
 use otio_model::Item;
 use std::alloc::Global;

@@ -4,18 +4,18 @@
 //! has the rate of the old one, or the record rate where there is none.
 #![tactic(auto)]
 
-mod backs;
+mod cut_checks;
 mod cutting;
-mod fronts;
-mod measures;
-mod ranges;
-mod strips;
-mod wholes;
+mod item_lengths;
+mod list_backs;
+mod list_fronts;
+mod new_ranges;
+mod stripping;
 
-pub use backs::back_items;
+pub use cut_checks::{back, cuts_whole, front};
 pub use cutting::{CutFault, cut, is_whole, is_whole_at};
-pub use fronts::{front_items, new_gap};
-pub use measures::{known_ticks, member, sound_ticks, start_ticks, ticks_of};
-pub use ranges::{RangedFault, ranged};
-pub use strips::{is_stripped, strip};
-pub use wholes::{back, cuts_whole, front};
+pub use item_lengths::{known_ticks, member, sound_ticks, start_ticks, ticks_of};
+pub use list_backs::back_items;
+pub use list_fronts::{front_items, new_gap};
+pub use new_ranges::{RangedFault, ranged};
+pub use stripping::{is_stripped, strip};

@@ -12,8 +12,8 @@ use Rattle.coord.specs.Images.{frame_number}
 use Rattle.coord.specs.Keys.{key_of, media_rate}
 use Rattle.coord.specs.Sights.{exact, framed}
 use Rattle.coord.specs.Looks.{Show, Blank, Frame, Mix, Weight, is_blank, mixed, weight}
-use Rattle.listings.specs.Spots.{Spot, below_index, spots, spots_from, spots_of}
-use Rattle.listings.proofs.SpotLemmas.{spots_are}
+use Rattle.show_prog.specs.Spots.{Spot, below_index, spots, spots_from, spots_of}
+use Rattle.show_prog.proofs.SpotLemmas.{spots_are}
 use Rattle.pull_list.specs.Found.{Collects, HasClip, IsShown, IsTaken, Takes, TakesFrame, clips_in, clips_of_item}
 use Rattle.pull_list.specs.Labels.{HasNumber, IsNumber}
 use Rattle.pull_list.specs.Runs.{Adds, Each, Has, IsRun}

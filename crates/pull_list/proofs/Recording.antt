@@ -19,8 +19,8 @@ use Rattle.coord.specs.Looks.{FrameRate, Show}
 use Rattle.coord.specs.Programs.{child_shows, frame_ticks, instant, record_rate, shown_by, start_frame}
 use Rattle.coord.proofs.Members.{next, none_left}
 use Rattle.coord.proofs.SightLemmas.{lengths-items}
-use Rattle.listings.proofs.Roots.{child_before, child_behind, program_of}
-use Rattle.listings.proofs.SoundnessFacts.{added_more}
+use Rattle.show_prog.proofs.Roots.{child_before, child_behind, program_of}
+use Rattle.show_prog.proofs.SoundnessFacts.{added_more}
 use Rattle.pull_list.specs.Found.{AddsChild, AddsShown, AddsUsed, Collects, HasClip, IsShown, IsShownIn, IsUsedBy, clips_of_item, frame_shown}
 use Rattle.pull_list.specs.Record.{frames_in}
 use Rattle.pull_list.specs.Runs.{Each, Has, IsRun, IsWithin, far}

@@ -13,8 +13,8 @@ use Rattle.otio_model.specs.declared.compositions.Listed.{Listed}
 use Rattle.otio_model.specs.Trees.{items_of}
 use Rattle.tick_time.specs.declared.spans.Span.{Span}
 use Rattle.coord.specs.Keys.{media_rate}
-use Rattle.listings.specs.Spots.{below_index, spots, spots_from, spots_of}
-use Rattle.listings.proofs.SpotLemmas.{spots_are}
+use Rattle.show_prog.specs.Spots.{below_index, spots, spots_from, spots_of}
+use Rattle.show_prog.proofs.SpotLemmas.{spots_are}
 use Rattle.pull_list.specs.Found.{AddsFrames, AddsGroup, AreGroups, HasClip, IsHad, IsStock, clips_in, clips_of_item}
 use Rattle.pull_list.specs.Labels.{HasNumber}
 use Rattle.pull_list.specs.Pulled.{StandsFirst}

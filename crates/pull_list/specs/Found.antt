@@ -7,8 +7,8 @@ use Rattle.otio_model.specs.declared.compositions.Listed.{Listed}
 use Rattle.coord.specs.Keys.{frame_rate, media_rate}
 use Rattle.coord.specs.Looks.{FrameRate, Show, is_blank}
 use Rattle.coord.specs.Programs.{child_shows}
-use Rattle.listings.specs.Pictures.{key_of}
-use Rattle.listings.specs.Spots.{Spot, spots, spots_of}
+use Rattle.show_prog.specs.Pictures.{key_of}
+use Rattle.show_prog.specs.Spots.{Spot, spots, spots_of}
 use Rattle.otio_model.specs.declared.timelines.Timeline.{Timeline}
 use Rattle.pull_list.specs.Used.{Group, IsSeen, IsUsed}
 use Rattle.pull_list.specs.Wanted.{HasAvailable, IsOf, clips_of}

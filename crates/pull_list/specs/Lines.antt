@@ -2,8 +2,8 @@
 use Rattle.std.specs.Prelude.{ℕ, List, ◌++◌, codes}
 use Rattle.std.specs.Fmt.{signed_decimal}
 use Rattle.std.specs.List.{flat_map}
-use Rattle.listings.specs.ListingTexts.{rate_text}
-use Rattle.listings.specs.Texts.{key_text}
+use Rattle.show_prog.specs.ListingTexts.{rate_text}
+use Rattle.show_prog.specs.Texts.{key_text}
 use Rattle.pull_list.specs.Pulled.{Stretch}
 
 -- the key as listings have it, the rate as in JSON, the number of the first frame, and how many

@@ -4,7 +4,7 @@ use Rattle.std.specs.Prelude.{◌≡◌, ◌⊎◌, ◌++◌, ◌∷◌, [], ℕ
 use Rattle.otio_model.specs.declared.compositions.Clip.{Clip as ClipRow}
 use Rattle.otio_model.specs.declared.timelines.Timeline.{Timeline}
 use Rattle.coord.specs.Keys.{frame_rate}
-use Rattle.listings.specs.Pictures.{key_of}
+use Rattle.show_prog.specs.Pictures.{key_of}
 use Rattle.pull_list.specs.Used.{Group}
 use Rattle.pull_list.specs.Wanted.{IsOf, IsWanted, clips_of}
 use Rattle.pull_list.specs.declared.spans.PullSpan.{PullSpan}

@@ -10,7 +10,7 @@ use Rattle.otio_model.specs.declared.timelines.Timeline.{Timeline}
 use Rattle.coord.specs.Looks.{FrameRate}
 use Rattle.coord.specs.Keys.{key_of, media_rate}
 use Rattle.coord.specs.Images.{frame_number}
-use Rattle.listings.specs.Spots.{Spot, spots}
+use Rattle.show_prog.specs.Spots.{Spot, spots}
 use Rattle.pull_list.specs.Used.{Group, IsUsed}
 
 -- the clips of a timeline at all levels, in document order, disabled ones too

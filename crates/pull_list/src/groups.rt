@@ -2,13 +2,13 @@
 //! first clips.
 
 ghost use Rattle.std.specs.Prelude.{◌≡◌, ◌⊎◌, ◌↔◌, ◌∷◌, ◌++◌, ◌<◌, [], Some, Contains, IfOk, IsTrue, MatchOption, OnOk, OnErr, length, option_map, slice_get};
-ghost use Rattle.listings.specs.Pictures as pictures;
+ghost use Rattle.show_prog.specs.Pictures as pictures;
 ghost use Rattle.pull_list.specs.Found.{AddsGroup, IsGroupOf, group_in};
 ghost use Rattle.pull_list.specs.Labels.{HasNumber, IsLabel, IsNumber};
 
 use coord::media_rate;
-use listings::{KeyRef, key_of};
 use otio_model::Clip;
+use show_prog::{KeyRef, key_of};
 use std::alloc::{AllocError, Global};
 use std::cmp::Ordering;
 use std::collections::BTreeMap;

@@ -24,7 +24,7 @@ use std::alloc::{AllocError, Global};
 /// available range of a clip of the same key and media rate. A clip whose media have no available
 /// range has all frames. Clips of one key and one media rate are a group; the groups stand in the
 /// order of their first clips in the document, disabled clips among them, and the spans of a group
-/// ascend and don't touch. What is shown is what [`listings::show`] shows.
+/// ascend and don't touch. What is shown is what [`show_prog::show`] shows.
 ///
 /// # Errors
 /// [`PullFault::Frames`] exactly where the root children take more than 10 000 000 record frames

@@ -14,8 +14,8 @@ ghost use Rattle.pull_list.specs.Runs.{Each, IsRun};
 use crate::shown::add_item;
 use crate::used::Used;
 use coord::record_rate;
-use listings::root_kind;
 use otio_model::{Item, Timeline};
+use show_prog::root_kind;
 use std::alloc::AllocError;
 
 // How many record frames are looked at, at most.

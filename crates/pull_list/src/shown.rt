@@ -12,14 +12,14 @@ ghost use Rattle.coord.specs.Programs.{frame_ticks};
 ghost use Rattle.coord.specs.Sights as sights;
 ghost use Rattle.coord.specs.Sights.{exact, framed, looks, shows_inside, sight};
 ghost use Rattle.coord.specs.Soundness.{AreFaultless, IsFaultlessItem};
-ghost use Rattle.listings.specs.Walk.{IsActive, side};
+ghost use Rattle.show_prog.specs.Walk.{IsActive, side};
 ghost use Rattle.pull_list.specs.Found.{Collects, clips_in, clips_of_item};
 ghost use Rattle.pull_list.specs.Runs.{Each, IsRun, far};
 
 use crate::groups::group_of;
 use crate::used::Used;
-use listings::{ActiveTransition, holder, media_at, overlap_at};
 use otio_model::{Children, Clip, Item, ItemOf};
+use show_prog::{ActiveTransition, holder, media_at, overlap_at};
 use std::alloc::AllocError;
 use tick_time::Rate;
 

@@ -2,7 +2,7 @@
 
 ghost use Rattle.std.specs.Prelude.{◌≡◌};
 
-use listings::KeyRef;
+use show_prog::KeyRef;
 use std::alloc::{AllocError, AllocFailed};
 use thiserror::Error;
 use tick_time::Rate;

@@ -5,9 +5,9 @@ use Rattle.json_value.specs.declared.Json.TheOpen.{Json-F}
 use Rattle.json_value.specs.declared.Json.TheFolds.{fold-roll-Json, ind-Json, map-Json}
 use Rattle.json_value.specs.declared.Json.TheViews.{roll-Json}
 use Rattle.sequences.specs.Pairs.{names_of}
-use Rattle.schema_rows.specs.declared.names.Form.{Form}
-use Rattle.schema_rows.specs.declared.names.Row.{Row}
-use Rattle.schema_rows.specs.declared.names.Row.TheVariants.{Kept}
+use Rattle.schema_rows.specs.declared.old_names.Form.{Form}
+use Rattle.schema_rows.specs.declared.old_names.Row.{Row}
+use Rattle.schema_rows.specs.declared.old_names.Row.TheVariants.{Kept}
 use Rattle.schema_rows.specs.Names.{schema_in}
 use Rattle.schema_rows.specs.UpgradeRows.{item_row, member_row}
 use Rattle.schema_rows.specs.Upgrades.{Pairs, upgraded_at, upgrade_step, items_at, pairs_at, map_at, renewed_at, members_at, schema_among}

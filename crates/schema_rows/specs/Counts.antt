@@ -1,9 +1,9 @@
 -- How many items an object has at all levels: each clip, gap, transition, stack and track, but not
 -- the root stack of a timeline.
 use Rattle.std.specs.Prelude.{ℕ, ◌+◌, List, [], ◌∷◌}
-use Rattle.otio_model.specs.declared.roots.Object.{Object, fold-Object}
-use Rattle.otio_model.specs.declared.roots.Object.TheOpen.{Object-F}
-use Rattle.otio_model.specs.declared.roots.Collection.{Collection-F}
+use Rattle.otio_model.specs.declared.objects.Object.{Object, fold-Object}
+use Rattle.otio_model.specs.declared.objects.Object.TheOpen.{Object-F}
+use Rattle.otio_model.specs.declared.objects.Collection.{Collection-F}
 use Rattle.otio_model.specs.Counts.{count, count_of as count_of_item}
 
 -- the sum of numbers

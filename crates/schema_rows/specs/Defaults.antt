@@ -3,7 +3,7 @@ use Rattle.std.specs.Prelude.{true, cond, [], Option, Some, None, codes}
 use Rattle.tick_time.specs.Times.{is_speed}
 use Rattle.otio_model.specs.declared.compositions.Listed.{Listed}
 use Rattle.otio_model.specs.declared.compositions.StackOf.{StackOf}
-use Rattle.otio_model.specs.declared.sources.Missing.{Missing}
+use Rattle.otio_model.specs.declared.media.Missing.{Missing}
 use Rattle.otio_model.specs.Trees.{listed}
 use Rattle.schema_rows.specs.Rows as R
 use Rattle.schema_rows.specs.declared.values.Value.{Value}

@@ -12,7 +12,7 @@ use Rattle.tick_time.specs.Decimals.{IsTooFast}
 use Rattle.tick_time.specs.Rates.{GivesRate}
 use Rattle.tick_time.specs.Sums.{IsBeyond}
 use Rattle.limits.specs.Limits.{most_items}
-use Rattle.otio_model.specs.declared.roots.Object.{Object}
+use Rattle.otio_model.specs.declared.objects.Object.{Object}
 use Rattle.schema_rows.specs.declared.faults.SchemaFault.{SchemaFault}
 use Rattle.schema_rows.specs.declared.faults.SchemaFault.TheVariants as F
 use Rattle.schema_rows.specs.Rows as R

@@ -9,8 +9,8 @@ use Rattle.std.specs.Str.Parse.{digits_value}
 use Rattle.json_value.specs.declared.Json.{Json, out-Json}
 use Rattle.json_value.specs.declared.Json.TheOpen.{Json-F}
 use Rattle.sequences.specs.Pairs.{value_of}
-use Rattle.schema_rows.specs.declared.names.Form.{Form}
-use Rattle.schema_rows.specs.declared.names.Form.TheVariants.{Timeline, Collection, OldCollection, Stack, Track, Sequence, FirstClip, Clip, Gap, Filler, FirstMarker, Other}
+use Rattle.schema_rows.specs.declared.old_names.Form.{Form}
+use Rattle.schema_rows.specs.declared.old_names.Form.TheVariants.{Timeline, Collection, OldCollection, Stack, Track, Sequence, FirstClip, Clip, Gap, Filler, FirstMarker, Other}
 
 -- whether a byte is the point
 abbrev pub is_point : ℕ → Bool

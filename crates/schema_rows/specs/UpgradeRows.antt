@@ -2,10 +2,10 @@
 -- is, an object, a list of objects, or media, which are objects under names.
 use Rattle.std.specs.Prelude.{ℕ, Bool, true, false, List, if◌then◌else◌, codes}
 use Rattle.std.specs.Str.{bytes_eq}
-use Rattle.schema_rows.specs.declared.names.Form.{Form}
-use Rattle.schema_rows.specs.declared.names.Form.TheVariants.{Timeline, Collection, OldCollection, Stack, Track, Sequence, FirstClip, Clip, Gap, Filler, FirstMarker, Other}
-use Rattle.schema_rows.specs.declared.names.Row.{Row}
-use Rattle.schema_rows.specs.declared.names.Row.TheVariants.{Kept, Object, Objects, Media}
+use Rattle.schema_rows.specs.declared.old_names.Form.{Form}
+use Rattle.schema_rows.specs.declared.old_names.Form.TheVariants.{Timeline, Collection, OldCollection, Stack, Track, Sequence, FirstClip, Clip, Gap, Filler, FirstMarker, Other}
+use Rattle.schema_rows.specs.declared.old_names.Row.{Row}
+use Rattle.schema_rows.specs.declared.old_names.Row.TheVariants.{Kept, Object, Objects, Media}
 
 abbrev pub where_holds : Bool → Row → Row
 where_holds true row = row

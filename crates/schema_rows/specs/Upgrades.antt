@@ -5,10 +5,10 @@ use Rattle.std.specs.Str.{bytes_eq}
 use Rattle.json_value.specs.declared.Json.{Json, Null, Bool as JsonOfBool, Num, Str, List as JsonOfList, Map, fold-Json, out-Json}
 use Rattle.json_value.specs.declared.Json.TheOpen.{Json-F}
 use Rattle.sequences.specs.Pairs.{value_of, put}
-use Rattle.schema_rows.specs.declared.names.Form.{Form}
-use Rattle.schema_rows.specs.declared.names.Form.TheVariants.{Timeline, Collection, OldCollection, Stack, Track, Sequence, FirstClip, Clip, Gap, Filler, FirstMarker, Other}
-use Rattle.schema_rows.specs.declared.names.Row.{Row}
-use Rattle.schema_rows.specs.declared.names.Row.TheVariants.{Kept, Object, Objects, Media}
+use Rattle.schema_rows.specs.declared.old_names.Form.{Form}
+use Rattle.schema_rows.specs.declared.old_names.Form.TheVariants.{Timeline, Collection, OldCollection, Stack, Track, Sequence, FirstClip, Clip, Gap, Filler, FirstMarker, Other}
+use Rattle.schema_rows.specs.declared.old_names.Row.{Row}
+use Rattle.schema_rows.specs.declared.old_names.Row.TheVariants.{Kept, Object, Objects, Media}
 use Rattle.schema_rows.specs.Names.{is_point, schema_text, schema_in}
 use Rattle.schema_rows.specs.UpgradeRows.{item_row, member_row}
 

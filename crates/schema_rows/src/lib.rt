@@ -11,17 +11,17 @@
 
 mod faults;
 mod laws;
-mod names;
-mod renew;
-mod rewrite;
+mod old_names;
 mod rows;
 mod schemas;
 mod tables;
+mod upgraded_objects;
+mod upgrading;
 mod values;
 
 pub use faults::SchemaFault;
 pub use laws::names_are_distinct;
-pub use rewrite::upgrade;
 pub use rows::{Field, Kind};
 pub use schemas::{EFFECTS, ITEMS, MARKERS, MEDIA, RANGES, ROOTS, STACKS, Schema, TIMES, named};
+pub use upgrading::upgrade;
 pub use values::{Fields, Matched, RowResult, Value, Values};

@@ -4,10 +4,10 @@ use Rattle.json_value.specs.declared.Json.{Json}
 use Rattle.json_value.specs.declared.Json.TheVariants as J
 use Rattle.otio_model.specs.declared.compositions.Listed.{Listed}
 use Rattle.otio_model.specs.declared.compositions.ItemOf.{ItemOf}
-use Rattle.otio_model.specs.declared.roots.Object.{Object}
-use Rattle.otio_model.specs.declared.warps.Effect.{Effect}
-use Rattle.otio_model.specs.declared.marks.Marker.{Marker}
-use Rattle.otio_model.specs.declared.sources.Media.{Media}
+use Rattle.otio_model.specs.declared.objects.Object.{Object}
+use Rattle.otio_model.specs.declared.effect_types.Effect.{Effect}
+use Rattle.otio_model.specs.declared.markers.Marker.{Marker}
+use Rattle.otio_model.specs.declared.media.Media.{Media}
 use Rattle.schema_rows.specs.declared.faults.SchemaFault.{SchemaFault}
 use Rattle.schema_rows.specs.declared.faults.SchemaFault.TheVariants as F
 use Rattle.schema_rows.specs.declared.schemas.Schema.{Schema}

@@ -4,9 +4,9 @@ use Rattle.otio_model.specs.declared.compositions.Listed.{Listed}
 use Rattle.otio_model.specs.declared.compositions.ItemOf.{ItemOf}
 use Rattle.otio_model.specs.declared.compositions.ItemOf.TheVariants as I
 use Rattle.otio_model.specs.declared.timelines.Timeline.{Timeline as TimelineRow}
-use Rattle.otio_model.specs.declared.roots.Object.{Object, Timeline, Item}
-use Rattle.otio_model.specs.declared.roots.Object.TheOpen.{Object-F}
-use Rattle.otio_model.specs.declared.roots.Object.TheFolds.{fold-roll-Object}
+use Rattle.otio_model.specs.declared.objects.Object.{Object, Timeline, Item}
+use Rattle.otio_model.specs.declared.objects.Object.TheOpen.{Object-F}
+use Rattle.otio_model.specs.declared.objects.Object.TheFolds.{fold-roll-Object}
 use Rattle.otio_model.specs.Counts.{count, count_of as count_of_item}
 use Rattle.otio_model.specs.Trees.{children_of}
 use Rattle.schema_rows.specs.Counts.{count_of, count_object, count_collection}
@@ -38,9 +38,9 @@ objects_more (y ∷ xs) (suc i) x h e =
 
 -- a timeline has the items of its root stack
 pub count-Timeline : (t : TimelineRow) → count_of (Timeline t) ≡ count t.tracks.children
-unfolding Rattle.otio_model.specs.declared.roots.Object.TheViews.roll-Object denote.Hole.Carrier.roll
+unfolding Rattle.otio_model.specs.declared.objects.Object.TheViews.roll-Object denote.Hole.Carrier.roll
 count-Timeline t = fold-roll-Object ℕ ℕ count_object count_collection (Object-F.Timeline t)
 
 pub count-Item : (x : ItemOf Listed) → count_of (Item x) ≡ count_of_item x
-unfolding Rattle.otio_model.specs.declared.roots.Object.TheViews.roll-Object denote.Hole.Carrier.roll
+unfolding Rattle.otio_model.specs.declared.objects.Object.TheViews.roll-Object denote.Hole.Carrier.roll
 count-Item x = fold-roll-Object ℕ ℕ count_object count_collection (Object-F.Item x)

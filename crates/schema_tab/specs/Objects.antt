@@ -1,8 +1,8 @@
 -- Objects in a list: their items, and how deep collections stand in one another.
 use Rattle.std.specs.Prelude.{ℕ, suc, List, map}
-use Rattle.otio_model.specs.declared.roots.Object.{Object, fold-Object}
-use Rattle.otio_model.specs.declared.roots.Object.TheOpen.{Object-F}
-use Rattle.otio_model.specs.declared.roots.Collection.{Collection-F}
+use Rattle.otio_model.specs.declared.objects.Object.{Object, fold-Object}
+use Rattle.otio_model.specs.declared.objects.Object.TheOpen.{Object-F}
+use Rattle.otio_model.specs.declared.objects.Collection.{Collection-F}
 use Rattle.schema_rows.specs.Counts.{added, count_of}
 use Rattle.schema_tab.specs.Depths.{deepest}
 

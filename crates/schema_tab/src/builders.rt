@@ -5,7 +5,7 @@ ghost use Rattle.schema_rows.specs.Readings as readings;
 ghost use Rattle.schema_rows.specs.Rows as rows;
 ghost use Rattle.schema_tab.specs.Shapes.{HaveKinds};
 
-use crate::taking::{
+use crate::next_value::{
     next_effects, next_flag, next_items, next_markers, next_media, next_meta, next_number,
     next_objects, next_span, next_stack, next_text, next_time,
 };

@@ -6,18 +6,18 @@
 //! values of their rows.
 #![tactic(auto)]
 
-mod absent;
-mod asked;
 mod builders;
 mod counts;
+mod defaults;
 mod faults;
-mod finding;
-mod leaves;
+mod next_value;
 mod reader;
-mod roots;
+mod required_values;
+mod root_objects;
 mod rules;
+mod scalars;
+mod schema_names;
 mod tables;
-mod taking;
 
 pub use reader::read_fields;
-pub use roots::object_of;
+pub use root_objects::object_of;

@@ -13,11 +13,11 @@ ghost use Rattle.schema_rows.specs.Stands.{Gives, Gives_row, Gives_rows, Gives_f
 ghost use Rattle.schema_rows.specs.Faults.{Refuses, Refuses_row, Refuses_rows, Refuses_fields, Refuses_any};
 ghost use Rattle.schema_tab.specs.Kinds.{IsListed};
 
-use crate::absent::absent;
-use crate::asked::{effect_of, item_of, marker_of, medium_of, root_of, tracks_of};
+use crate::defaults::absent;
 use crate::faults::{child_place, field_fault, newer_fault};
-use crate::finding::{found_object, given};
-use crate::leaves::{flag_of, meta_of, number_of, numeral_of, rate_of, span_of, text_of, time_of};
+use crate::required_values::{effect_of, item_of, marker_of, medium_of, root_of, tracks_of};
+use crate::scalars::{flag_of, meta_of, number_of, numeral_of, rate_of, span_of, text_of, time_of};
+use crate::schema_names::{found_object, given};
 use crate::tables::finished;
 use json_value::{Json, JsonList, Members};
 use otio_model::{Effects, Place};

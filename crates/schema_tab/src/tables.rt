@@ -7,8 +7,8 @@ ghost use Rattle.schema_rows.specs.Schemas.{rows_of};
 ghost use Rattle.schema_rows.specs.Families as families;
 
 use crate::faults::transitions_fault;
-use crate::finding::others;
 use crate::rules::{breaks, still};
+use crate::schema_names::others;
 use json_value::Members;
 use otio_model::Place;
 use schema_rows::{Fields, Matched, Schema, SchemaFault, Value};

@@ -1,7 +1,7 @@
 -- The layout of an object of a schema, row by row.
 use Rattle.std.proofs.Common.{◌≡◌, ◌<◌, ℕ, suc, ◌+◌, ◌||◌, Bool, true, false, not, filter, List, [], ◌∷◌, ◌++◌, length, get_or, map, drop, drop-cons, add-one, codes, if◌then◌else◌, refl, sym, ap, subst, ◌∙◌, append_assoc}
 use Rattle.std.specs.Str.{bytes_eq}
-use Rattle.otio_model.specs.declared.warps.Plain.{Plain}
+use Rattle.otio_model.specs.declared.effect_types.Plain.{Plain}
 use Rattle.schema_rows.specs.Rows.{Row}
 use Rattle.schema_rows.specs.Readings.{plain_schema}
 use Rattle.schema_write.specs.Objects.{plain_json}

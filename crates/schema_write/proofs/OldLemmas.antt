@@ -9,12 +9,12 @@ use Rattle.otio_model.specs.declared.compositions.ItemOf.TheVariants as I
 use Rattle.otio_model.specs.declared.compositions.Listed.{Listed}
 use Rattle.otio_model.specs.declared.compositions.StackOf.{StackOf}
 use Rattle.otio_model.specs.declared.timelines.Timeline.{Timeline}
-use Rattle.otio_model.specs.declared.roots.Object.{Object, out-Object, Timeline as ObjectOfTimeline, Item as ObjectOfItem, Collection as ObjectOfCollection}
-use Rattle.otio_model.specs.declared.roots.Object.TheViews.{roll-Object, out-roll-Object}
-use Rattle.otio_model.specs.declared.roots.Object.TheOpen.{Object-F}
-use Rattle.otio_model.specs.declared.roots.Collection.{Collection, out-Collection}
+use Rattle.otio_model.specs.declared.objects.Object.{Object, out-Object, Timeline as ObjectOfTimeline, Item as ObjectOfItem, Collection as ObjectOfCollection}
+use Rattle.otio_model.specs.declared.objects.Object.TheViews.{roll-Object, out-roll-Object}
+use Rattle.otio_model.specs.declared.objects.Object.TheOpen.{Object-F}
+use Rattle.otio_model.specs.declared.objects.Collection.{Collection, out-Collection}
 use Rattle.otio_model.specs.Trees.{items_of, children_of, below}
-use Rattle.otio_model.specs.declared.sources.Media.{Media}
+use Rattle.otio_model.specs.declared.media.Media.{Media}
 use Rattle.json_value.specs.declared.Json.{Null}
 use Rattle.schema_write.specs.Objects.{medium_json, reference_json}
 use Rattle.coord.specs.Soundness.{Precedes}

@@ -10,18 +10,18 @@ use Rattle.otio_model.specs.declared.compositions.ItemOf.{ItemOf}
 use Rattle.otio_model.specs.declared.compositions.ItemOf.TheVariants.{Clip, Gap, Transition, Stack, Track}
 use Rattle.otio_model.specs.declared.compositions.StackOf.{StackOf}
 use Rattle.otio_model.specs.declared.compositions.TrackOf.{TrackOf}
-use Rattle.otio_model.specs.declared.roots.Object.{Object, out-Object}
-use Rattle.otio_model.specs.declared.roots.Object.TheOpen.{Object-F}
-use Rattle.otio_model.specs.declared.roots.Object.TheViews.{roll-Object, roll-out-Object}
-use Rattle.otio_model.specs.declared.roots.Object.TheFolds.{fold-roll-Object}
-use Rattle.otio_model.specs.declared.roots.Collection.{Collection}
-use Rattle.otio_model.specs.declared.warps.Effect.{Effect}
-use Rattle.otio_model.specs.declared.warps.Effect.TheVariants as E
-use Rattle.otio_model.specs.declared.warps.Plain.{Plain}
-use Rattle.otio_model.specs.declared.marks.Marker.{Marker}
-use Rattle.otio_model.specs.declared.marks.Marker.TheVariants as K
-use Rattle.otio_model.specs.declared.sources.Media.{Media}
-use Rattle.otio_model.specs.declared.sources.Media.TheVariants as M
+use Rattle.otio_model.specs.declared.objects.Object.{Object, out-Object}
+use Rattle.otio_model.specs.declared.objects.Object.TheOpen.{Object-F}
+use Rattle.otio_model.specs.declared.objects.Object.TheViews.{roll-Object, roll-out-Object}
+use Rattle.otio_model.specs.declared.objects.Object.TheFolds.{fold-roll-Object}
+use Rattle.otio_model.specs.declared.objects.Collection.{Collection}
+use Rattle.otio_model.specs.declared.effect_types.Effect.{Effect}
+use Rattle.otio_model.specs.declared.effect_types.Effect.TheVariants as E
+use Rattle.otio_model.specs.declared.effect_types.Plain.{Plain}
+use Rattle.otio_model.specs.declared.markers.Marker.{Marker}
+use Rattle.otio_model.specs.declared.markers.Marker.TheVariants as K
+use Rattle.otio_model.specs.declared.media.Media.{Media}
+use Rattle.otio_model.specs.declared.media.Media.TheVariants as M
 use Rattle.schema_rows.specs.declared.schemas.Schema.TheVariants as S
 use Rattle.schema_rows.specs.Readings.{stack_fields, track_fields, item_fields, object_fields, object_layer, plain_fields, effect_reading, marker_reading, medium_reading}
 use Rattle.schema_write.specs.Texts.{decimal_text}

@@ -9,12 +9,12 @@ use Rattle.otio_model.specs.declared.compositions.Listed.{Listed}
 use Rattle.otio_model.specs.declared.compositions.Listed.TheFolds.{fold-roll-Listed, map-Listed}
 use Rattle.otio_model.specs.declared.compositions.Listed.TheViews.{roll-out-Listed}
 use Rattle.otio_model.specs.declared.timelines.Timeline.{Timeline}
-use Rattle.otio_model.specs.declared.roots.Object.{Object, Timeline as ObjectOfTimeline, Item as ObjectOfItem, Collection as ObjectOfCollection}
-use Rattle.otio_model.specs.declared.roots.Object.TheOpen.{Object-F}
-use Rattle.otio_model.specs.declared.roots.Object.TheFolds.{fold-roll-Object}
-use Rattle.otio_model.specs.declared.roots.Collection.{Collection, fold-Collection, out-Collection}
-use Rattle.otio_model.specs.declared.roots.Object.TheFolds.{fold-roll-Collection}
-use Rattle.otio_model.specs.declared.roots.Object.TheViews.{roll-out-Collection}
+use Rattle.otio_model.specs.declared.objects.Object.{Object, Timeline as ObjectOfTimeline, Item as ObjectOfItem, Collection as ObjectOfCollection}
+use Rattle.otio_model.specs.declared.objects.Object.TheOpen.{Object-F}
+use Rattle.otio_model.specs.declared.objects.Object.TheFolds.{fold-roll-Object}
+use Rattle.otio_model.specs.declared.objects.Collection.{Collection, fold-Collection, out-Collection}
+use Rattle.otio_model.specs.declared.objects.Object.TheFolds.{fold-roll-Collection}
+use Rattle.otio_model.specs.declared.objects.Object.TheViews.{roll-out-Collection}
 use Rattle.otio_model.specs.Trees.{items_of}
 use Rattle.schema_write.specs.Objects.{Style, children_in, children_step, item_by, item_in, track_by, object_in, timeline_in, collection_in, object_step, collection_step}
 
@@ -65,11 +65,11 @@ track_as style r t values x e is h =
 
 -- an object, one level at a time
 pub object_in-Timeline : (style : Style) (t : Timeline) → object_in style (ObjectOfTimeline t) ≡ timeline_in style t
-unfolding Rattle.otio_model.specs.declared.roots.Object.TheViews.roll-Object denote.Hole.Carrier.roll
+unfolding Rattle.otio_model.specs.declared.objects.Object.TheViews.roll-Object denote.Hole.Carrier.roll
 object_in-Timeline style t = fold-roll-Object Json Json (object_step style) collection_step (Object-F.Timeline t)
 
 pub object_in-Item : (style : Style) (i : ItemOf Listed) → object_in style (ObjectOfItem i) ≡ item_in style i
-unfolding Rattle.otio_model.specs.declared.roots.Object.TheViews.roll-Object denote.Hole.Carrier.roll
+unfolding Rattle.otio_model.specs.declared.objects.Object.TheViews.roll-Object denote.Hole.Carrier.roll
 object_in-Item style i = fold-roll-Object Json Json (object_step style) collection_step (Object-F.Item i)
 
 -- a collection, one level at a time
@@ -78,7 +78,7 @@ collection_is style c =
     ap (fold-Collection Json Json (object_step style) collection_step) (sym (roll-out-Collection c)) ∙ fold-roll-Collection Json Json (object_step style) collection_step (out-Collection c)
 
 pub object_in-Collection : (style : Style) (c : Collection) → object_in style (ObjectOfCollection c) ≡ collection_in style c
-unfolding Rattle.otio_model.specs.declared.roots.Object.TheViews.roll-Object denote.Hole.Carrier.roll
+unfolding Rattle.otio_model.specs.declared.objects.Object.TheViews.roll-Object denote.Hole.Carrier.roll
 object_in-Collection style c = fold-roll-Object Json Json (object_step style) collection_step (Object-F.Collection c) ∙ collection_is style c
 
 -- the JSON of an object that is another

@@ -1,7 +1,7 @@
 -- Values in the written order, each known.
 use Rattle.std.proofs.Common.{◌≡◌, ℕ, List, [], ◌∷◌, ◌++◌, ◌∙◌, map, IfOk, IsOkAnd, Result, Ok, Err, refl, ap, ap₂, subst, Bool}
 use Rattle.json_value.specs.declared.Json.{Json}
-use Rattle.otio_model.specs.declared.sources.Media.{Media}
+use Rattle.otio_model.specs.declared.media.Media.{Media}
 use Rattle.sequences.specs.Pairs.{names_of}
 use Rattle.schema_rows.specs.declared.schemas.Schema.{Schema}
 use Rattle.schema_write.specs.Written.{written, written_old}

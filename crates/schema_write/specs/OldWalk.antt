@@ -3,7 +3,7 @@
 use Rattle.std.specs.Prelude.{◌≡◌, ◌<◌, ℕ, List, [], ◌∷◌, Option, Some, None, slice_get, option_and_then}
 use Rattle.otio_model.specs.declared.compositions.ItemOf.{ItemOf}
 use Rattle.otio_model.specs.declared.compositions.Listed.{Listed}
-use Rattle.otio_model.specs.declared.roots.Object.{Object}
+use Rattle.otio_model.specs.declared.objects.Object.{Object}
 use Rattle.otio_model.specs.Trees.{below, items_of}
 use Rattle.coord.specs.Soundness.{Precedes}
 use Rattle.schema_write.specs.declared.old_faults.OldFault.{OldFault}

@@ -5,7 +5,7 @@ ghost use Rattle.schema_write.specs.Objects as objects;
 ghost use Rattle.schema_write.specs.Styles.{style_of};
 
 use crate::families::Family;
-use crate::leaves::{clip_in, gap_json, shown, transition_json};
+use crate::scalars::{clip_in, gap_json, shown, transition_json};
 use crate::writing::{add, string, written};
 use json_value::{Json, JsonList};
 use otio_model::{Children, Item, ItemOf, Stack, Track};

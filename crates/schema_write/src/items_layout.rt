@@ -9,11 +9,11 @@ ghost use Rattle.schema_write.specs.Styles.{style_of};
 
 use crate::effects_layout::put_effects_row;
 use crate::families::Family;
-use crate::leaves_layout::{put_clip_in, put_gap, put_transition};
-use crate::marks_layout::put_markers_row;
+use crate::markers_layout::put_markers_row;
 use crate::rows::{
     put_end, put_flag_row, put_head, put_object_row, put_others, put_row_name, put_text_row,
 };
+use crate::scalars_layout::{put_clip_in, put_gap, put_transition};
 use crate::times_layout::put_span_row;
 use dev_io::{Out, OutBuffer};
 use json_text::{Level, inside, put_line};

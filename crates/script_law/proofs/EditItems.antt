@@ -5,8 +5,8 @@ use Rattle.tick_time.specs.declared.rates.Rate.{Rate}
 use Rattle.tick_time.specs.declared.spans.Span.{Span}
 use Rattle.otio_model.specs.declared.compositions.ItemOf.{ItemOf}
 use Rattle.otio_model.specs.declared.compositions.Listed.{Listed}
-use Rattle.otio_model.specs.declared.sources.Media.{Media}
-use Rattle.otio_model.specs.declared.editing.Edit.{Edit}
+use Rattle.otio_model.specs.declared.media.Media.{Media}
+use Rattle.otio_model.specs.declared.edit_types.Edit.{Edit}
 use Rattle.otio_model.specs.declared.timelines.Timeline.{Timeline}
 use Rattle.coord.specs.declared.faults.ItemFault.{ItemFault}
 use Rattle.coord.specs.declared.faults.ItemFault.TheVariants.{Long}

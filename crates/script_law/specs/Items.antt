@@ -1,6 +1,6 @@
 -- The item of an edit is written so that it is read again.
-use Rattle.otio_model.specs.declared.editing.Edit.{Edit}
-use Rattle.otio_model.specs.declared.editing.Edit.TheVariants as A
+use Rattle.otio_model.specs.declared.edit_types.Edit.{Edit}
+use Rattle.otio_model.specs.declared.edit_types.Edit.TheVariants as A
 use Rattle.object_law.specs.Writable.{IsItem}
 
 -- an edit that puts no item in has none

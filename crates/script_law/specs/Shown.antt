@@ -1,7 +1,7 @@
 -- The edits between the timelines of a state, and what they show.
 use Rattle.std.specs.Prelude.{◌≡◌, List, [], ◌∷◌}
 use Rattle.otio_model.specs.declared.timelines.Timeline.{Timeline}
-use Rattle.otio_model.specs.declared.editing.Edit.{Edit}
+use Rattle.otio_model.specs.declared.edit_types.Edit.{Edit}
 use Rattle.otio_model.specs.Timelines.{bare}
 use Rattle.undo_log.specs.States.{State}
 use Rattle.edits.specs.Refusals.{IsAfter}

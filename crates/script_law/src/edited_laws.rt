@@ -1,9 +1,9 @@
 //! Laws of edited timelines that are written. Their functions do nothing.
 
 ghost use Rattle.std.specs.Prelude.{ℕ, List};
-ghost use Rattle.otio_model.specs.declared.editing.Edit.{Edit};
+ghost use Rattle.otio_model.specs.declared.edit_types.Edit.{Edit};
 ghost use Rattle.otio_model.specs.declared.timelines.Timeline.{Timeline};
-ghost use Rattle.otio_model.specs.declared.roots.Object.{Timeline as ObjectOfTimeline};
+ghost use Rattle.otio_model.specs.declared.objects.Object.{Timeline as ObjectOfTimeline};
 ghost use Rattle.coord.specs.Soundness.{IsSound};
 ghost use Rattle.edits_law.specs.Editable.{HasEditItem};
 ghost use Rattle.edits.specs.Refusals.{IsAfter};

@@ -5,10 +5,10 @@ use Rattle.dev_io.specs.Known.{KnownFiles}
 use Rattle.dev_io.specs.Calls.{Tells, failed_read}
 use Rattle.source_files.specs.Reading.{IsRefused}
 use Rattle.source_files.specs.Hand.{Judges, Reads, ReadsAt, ReadsHand}
-use Rattle.source_files.specs.declared.file_faults.Refusal.{Refusal}
-use Rattle.source_files.specs.declared.file_faults.Refusal.TheVariants.{Broken, Memory}
-use Rattle.source_files.specs.declared.file_faults.ReadFault.{ReadFault}
-use Rattle.source_files.specs.declared.file_faults.ReadFault.TheVariants.{Absent, Failed, Refused}
+use Rattle.source_files.specs.declared.read_faults.Refusal.{Refusal}
+use Rattle.source_files.specs.declared.read_faults.Refusal.TheVariants.{Broken, Memory}
+use Rattle.source_files.specs.declared.read_faults.ReadFault.{ReadFault}
+use Rattle.source_files.specs.declared.read_faults.ReadFault.TheVariants.{Absent, Failed, Refused}
 use Rattle.source_files.proofs.Taking.{Takes, TakesFrom, TakesAll, EndsFrom, SameFiles}
 
 -- what is refused for one reason is refused for another that follows

@@ -10,9 +10,9 @@ use Rattle.json_text.specs.declared.faults.JsonFault.TheVariants.{Syntax, Utf8, 
 use Rattle.source_files.specs.Faults.{json_fault_text}
 use Rattle.source_files.specs.Formats.{RefusesJson}
 use Rattle.source_files.specs.Reading.{IsRefused}
-use Rattle.source_files.specs.declared.file_faults.Refusal.{Refusal}
-use Rattle.source_files.specs.declared.file_faults.Refusal.TheVariants.{Broken, Memory as NoMemory}
-use Rattle.source_files.specs.declared.file_faults.ReadFault.{ReadFault}
+use Rattle.source_files.specs.declared.read_faults.Refusal.{Refusal}
+use Rattle.source_files.specs.declared.read_faults.Refusal.TheVariants.{Broken, Memory as NoMemory}
+use Rattle.source_files.specs.declared.read_faults.ReadFault.{ReadFault}
 
 dead_more : (n : ℕ) (front rest : List ℕ) → IsDeadAt n front → IsDeadAt n (front ++ rest)
 dead_more n front rest d =

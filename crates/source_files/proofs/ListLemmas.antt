@@ -13,8 +13,8 @@ use Rattle.edl_text.specs.declared.faults.EdlFault.TheVariants.{Memory}
 use Rattle.source_files.specs.Faults.{list_fault_text}
 use Rattle.source_files.specs.Formats.{RefusesList}
 use Rattle.source_files.specs.Reading.{IsRefused}
-use Rattle.source_files.specs.declared.file_faults.Refusal.{Refusal}
-use Rattle.source_files.specs.declared.file_faults.Refusal.TheVariants.{Broken, Memory as NoMemory}
+use Rattle.source_files.specs.declared.read_faults.Refusal.{Refusal}
+use Rattle.source_files.specs.declared.read_faults.Refusal.TheVariants.{Broken, Memory as NoMemory}
 
 -- the first fault of some lines is that of more lines
 first_more : (rate : Rate) (past : List Statement) (lines more : List (List ℕ)) (fault : EdlFault)

@@ -7,8 +7,8 @@ use Rattle.ale_text.specs.declared.faults.AleFault.TheVariants.{Large, Memory}
 use Rattle.source_files.specs.Faults.{ale_fault_text}
 use Rattle.source_files.specs.Formats.{RefusesLog}
 use Rattle.source_files.specs.Reading.{IsRefused}
-use Rattle.source_files.specs.declared.file_faults.Refusal.{Refusal}
-use Rattle.source_files.specs.declared.file_faults.Refusal.TheVariants.{Broken, Memory as NoMemory}
+use Rattle.source_files.specs.declared.read_faults.Refusal.{Refusal}
+use Rattle.source_files.specs.declared.read_faults.Refusal.TheVariants.{Broken, Memory as NoMemory}
 
 -- how a fault is told
 abbrev pub IsTold : AleFault → Refusal → Type 0

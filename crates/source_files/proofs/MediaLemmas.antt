@@ -7,8 +7,8 @@ use Rattle.media_list.specs.declared.faults.MediaFault.TheVariants.{Large, Memor
 use Rattle.source_files.specs.Faults.{media_fault_text}
 use Rattle.source_files.specs.Formats.{RefusesMedia}
 use Rattle.source_files.specs.Reading.{IsRefused}
-use Rattle.source_files.specs.declared.file_faults.Refusal.{Refusal}
-use Rattle.source_files.specs.declared.file_faults.Refusal.TheVariants.{Broken, Memory as NoMemory}
+use Rattle.source_files.specs.declared.read_faults.Refusal.{Refusal}
+use Rattle.source_files.specs.declared.read_faults.Refusal.TheVariants.{Broken, Memory as NoMemory}
 
 -- how a fault is told
 abbrev pub IsTold : MediaFault → Refusal → Type 0

@@ -2,7 +2,7 @@
 use Rattle.std.proofs.Common.{◌≡◌, ◌≢◌, ◌≤◌, ℕ, List, Result, Ok, Err, IfOk, inr}
 use Rattle.limits.specs.Limits.{most_items}
 use Rattle.json_value.specs.declared.Json.{Json}
-use Rattle.otio_model.specs.declared.roots.Object.{Object}
+use Rattle.otio_model.specs.declared.objects.Object.{Object}
 use Rattle.schema_rows.specs.Upgrades.{upgraded}
 use Rattle.schema_rows.specs.Counts.{count_of}
 use Rattle.schema_rows.specs.Faults.{IsFirstFault}
@@ -15,8 +15,8 @@ use Rattle.source_files.specs.declared.reasons.Reason.{Reason}
 use Rattle.source_files.specs.Formats.{IsJson, IsObject, RefusesValue, RefusesObject}
 use Rattle.source_files.specs.Hand.{Judges}
 use Rattle.source_files.specs.Values.{StandsAs}
-use Rattle.source_files.specs.declared.file_faults.ReadFault.{ReadFault}
-use Rattle.source_files.specs.declared.file_faults.ReadFault.TheVariants.{Absent, Failed, Refused}
+use Rattle.source_files.specs.declared.read_faults.ReadFault.{ReadFault}
+use Rattle.source_files.specs.declared.read_faults.ReadFault.TheVariants.{Absent, Failed, Refused}
 use Rattle.source_files.proofs.Handing.{refused_by}
 
 -- what a value of the bytes stands for is what the bytes are

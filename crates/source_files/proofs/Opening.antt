@@ -7,9 +7,9 @@ use Rattle.dev_io.specs.declared.files.Opened.TheVariants as opened
 use Rattle.source_files.specs.Formats.{Holds, Refuses, IsCalm}
 use Rattle.source_files.specs.Reading.{Source, IsFailureOf, IsRefusedIn, SourceReads, ReadsSource}
 use Rattle.source_files.specs.Hand.{Reads, ReadsAt, ReadsHand}
-use Rattle.source_files.specs.declared.kinds.Content.{Content}
-use Rattle.source_files.specs.declared.file_faults.ReadFault.{ReadFault}
-use Rattle.source_files.specs.declared.file_faults.ReadFault.TheVariants.{Absent, Failed, Refused}
+use Rattle.source_files.specs.declared.file_kinds.Content.{Content}
+use Rattle.source_files.specs.declared.read_faults.ReadFault.{ReadFault}
+use Rattle.source_files.specs.declared.read_faults.ReadFault.TheVariants.{Absent, Failed, Refused}
 use Rattle.source_files.proofs.Handing.{refused_by}
 
 found_in : (source : Source) (bytes : List ℕ) (old new : KnownFiles)

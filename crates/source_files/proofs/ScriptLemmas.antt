@@ -10,8 +10,8 @@ use Rattle.edit_script.specs.declared.commands.ScriptFault.TheVariants.{Large, M
 use Rattle.source_files.specs.Faults.{script_fault_text}
 use Rattle.source_files.specs.Formats.{RefusesScript}
 use Rattle.source_files.specs.Reading.{IsRefused}
-use Rattle.source_files.specs.declared.file_faults.Refusal.{Refusal}
-use Rattle.source_files.specs.declared.file_faults.Refusal.TheVariants.{Broken, Memory as NoMemory}
+use Rattle.source_files.specs.declared.read_faults.Refusal.{Refusal}
+use Rattle.source_files.specs.declared.read_faults.Refusal.TheVariants.{Broken, Memory as NoMemory}
 use Rattle.source_files.proofs.Taking.{Takes, SameFiles, took_nothing, taken_more}
 
 -- how a fault is told

@@ -6,12 +6,12 @@ use Rattle.dev_io.specs.Known.{KnownFiles}
 use Rattle.dev_io.specs.Calls.{Tells}
 use Rattle.source_files.specs.Order.{EachIs}
 use Rattle.source_files.specs.Reading.{Held, Source, source_of, IsRead, IsUnread, StopsAt, EndsWith, HaveRead, HasStopped, ReadsSource}
-use Rattle.source_files.specs.declared.kinds.Source as code
-use Rattle.source_files.specs.declared.kinds.Content.{Content}
-use Rattle.source_files.specs.declared.file_faults.Refusal.TheVariants.{Memory}
-use Rattle.source_files.specs.declared.file_faults.ReadFault.{ReadFault}
-use Rattle.source_files.specs.declared.file_faults.ReadFault.TheVariants.{Refused}
-use Rattle.source_files.specs.declared.file_faults.SourceFault.{SourceFault}
+use Rattle.source_files.specs.declared.file_kinds.Source as code
+use Rattle.source_files.specs.declared.file_kinds.Content.{Content}
+use Rattle.source_files.specs.declared.read_faults.Refusal.TheVariants.{Memory}
+use Rattle.source_files.specs.declared.read_faults.ReadFault.{ReadFault}
+use Rattle.source_files.specs.declared.read_faults.ReadFault.TheVariants.{Refused}
+use Rattle.source_files.specs.declared.read_faults.SourceFault.{SourceFault}
 use Rattle.source_files.proofs.Order.{each_more, first_behind}
 
 mapped_last : {A B : Type 0} (f : A → B) (xs : List A) (x : A)

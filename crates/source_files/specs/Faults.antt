@@ -21,8 +21,8 @@ use Rattle.edl_frames.specs.declared.reasons.NotCarried.{NotCarried}
 use Rattle.edl_frames.specs.declared.reasons.NotCarried.TheVariants as carried
 use Rattle.edit_script.specs.declared.commands.ScriptFault.{ScriptFault}
 use Rattle.edit_script.specs.declared.commands.ScriptFault.TheVariants as script
-use Rattle.otio_model.specs.declared.editing.EditFault.{EditFault}
-use Rattle.otio_model.specs.declared.editing.EditFault.TheVariants as edit
+use Rattle.otio_model.specs.declared.edit_types.EditFault.{EditFault}
+use Rattle.otio_model.specs.declared.edit_types.EditFault.TheVariants as edit
 use Rattle.undo_log.specs.declared.faults.UndoFault.{UndoFault}
 use Rattle.undo_log.specs.declared.faults.UndoFault.TheVariants as undo
 use Rattle.flat.specs.declared.faults.FlatFault.{FlatFault}

@@ -18,9 +18,9 @@ use Rattle.edl_text.specs.Lists.{IsList, IsFault as IsListFault}
 use Rattle.edl_text.specs.Lines.{AreSound}
 use Rattle.edl_text.specs.declared.faults.EdlFault.{EdlFault}
 use Rattle.otio_model.specs.Counts.{count as count_below}
-use Rattle.otio_model.specs.declared.roots.Object.{Object, out-Object}
-use Rattle.otio_model.specs.declared.roots.Object.TheOpen.{Object-F}
-use Rattle.otio_model.specs.declared.roots.Collection.{Collection}
+use Rattle.otio_model.specs.declared.objects.Object.{Object, out-Object}
+use Rattle.otio_model.specs.declared.objects.Object.TheOpen.{Object-F}
+use Rattle.otio_model.specs.declared.objects.Collection.{Collection}
 use Rattle.otio_model.specs.declared.timelines.Timeline.{Timeline}
 use Rattle.schema_rows.specs.Upgrades.{upgraded}
 use Rattle.schema_rows.specs.Counts.{count_of}
@@ -35,10 +35,10 @@ use Rattle.edit_script.specs.Scripts.{IsScript, IsFault as IsScriptFault}
 use Rattle.edit_script.specs.declared.commands.Command.{Command}
 use Rattle.edit_script.specs.declared.commands.ScriptFault.{ScriptFault}
 use Rattle.source_files.specs.Faults.{ale_fault_text, json_fault_text, list_fault_text, media_fault_text, script_fault_text, fault_text, not_timeline_text}
-use Rattle.source_files.specs.declared.kinds.Kind.{Kind}
-use Rattle.source_files.specs.declared.kinds.Kind.TheVariants as kinds
-use Rattle.source_files.specs.declared.kinds.Content.{Content}
-use Rattle.source_files.specs.declared.kinds.Content.TheVariants.{Value, Root, Film, Events, Noted, Rows, Commands}
+use Rattle.source_files.specs.declared.file_kinds.Kind.{Kind}
+use Rattle.source_files.specs.declared.file_kinds.Kind.TheVariants as kinds
+use Rattle.source_files.specs.declared.file_kinds.Content.{Content}
+use Rattle.source_files.specs.declared.file_kinds.Content.TheVariants.{Value, Root, Film, Events, Noted, Rows, Commands}
 
 -- the bytes are a text of this value
 pub record IsJson (bytes : List ℕ) (value : Json) : Type 0 where

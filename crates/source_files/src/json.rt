@@ -8,8 +8,8 @@ ghost use Rattle.source_files.specs.Formats.{IsJson, RefusesJson, IsCalmJson};
 ghost use Rattle.source_files.specs.Hand.{Judges, ReadsHand};
 ghost use Rattle.source_files.specs.Reading.{IsRefused, Raised};
 
-use crate::faults::json_reason;
-use crate::file_faults::{ReadFault, Refusal};
+use crate::messages::json_reason;
+use crate::read_faults::{ReadFault, Refusal};
 use dev_io::Files;
 use json_text::{JsonFault, JsonReader};
 use json_value::Json;

@@ -11,8 +11,8 @@ ghost use Rattle.source_files.specs.Formats.{IsNotedList, RefusesList, IsCalmLis
 ghost use Rattle.source_files.specs.Hand.{Judges, ReadsHand};
 ghost use Rattle.source_files.specs.Reading.{IsRefused, Raised};
 
-use crate::faults::list_reason;
-use crate::file_faults::{ReadFault, Refusal};
+use crate::messages::list_reason;
+use crate::read_faults::{ReadFault, Refusal};
 use dev_io::Files;
 use edl_list::EventList;
 use edl_text::{EdlFault, EdlReader};

@@ -7,8 +7,8 @@ ghost use Rattle.source_files.specs.Formats.{RefusesLog, IsCalmLog};
 ghost use Rattle.source_files.specs.Hand.{Judges, ReadsHand};
 ghost use Rattle.source_files.specs.Reading.{IsRefused, Raised};
 
-use crate::faults::ale_reason;
-use crate::file_faults::{ReadFault, Refusal};
+use crate::messages::ale_reason;
+use crate::read_faults::{ReadFault, Refusal};
 use crate::scripts::put_last;
 use ale_text::{AleFault, read_ale};
 use dev_io::Files;

@@ -7,8 +7,8 @@ ghost use Rattle.source_files.specs.Formats.{RefusesMedia, IsCalmMedia};
 ghost use Rattle.source_files.specs.Hand.{Judges, ReadsHand};
 ghost use Rattle.source_files.specs.Reading.{IsRefused, Raised};
 
-use crate::faults::media_reason;
-use crate::file_faults::{ReadFault, Refusal};
+use crate::messages::media_reason;
+use crate::read_faults::{ReadFault, Refusal};
 use dev_io::Files;
 use limits::{MOST_BYTES, PIECE_BYTES};
 use media_list::{MediaFault, MediaList, MediaReader};

@@ -14,9 +14,9 @@ ghost use Rattle.source_files.specs.Hand.{Judges, ReadsHand};
 ghost use Rattle.source_files.specs.Values.{StandsAs};
 ghost use Rattle.source_files.specs.Reading.{IsRefused, Raised};
 
-use crate::faults::{not_timeline_reason, schema_reason};
-use crate::file_faults::{ReadFault, Refusal};
 use crate::json::read_json;
+use crate::messages::{not_timeline_reason, schema_reason};
+use crate::read_faults::{ReadFault, Refusal};
 use dev_io::Files;
 use json_value::Json;
 use otio_model::{Object, Timeline};

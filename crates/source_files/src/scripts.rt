@@ -6,8 +6,8 @@ ghost use Rattle.source_files.specs.Formats.{IsCommands, RefusesScript, IsCalmSc
 ghost use Rattle.source_files.specs.Hand.{Judges, ReadsHand};
 ghost use Rattle.source_files.specs.Reading.{IsRefused, Raised};
 
-use crate::faults::script_reason;
-use crate::file_faults::{ReadFault, Refusal};
+use crate::messages::script_reason;
+use crate::read_faults::{ReadFault, Refusal};
 use dev_io::Files;
 use edit_script::{Command, ScriptFault, read_script};
 use limits::{MOST_BYTES, PIECE_BYTES};

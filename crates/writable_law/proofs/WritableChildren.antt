@@ -10,7 +10,7 @@ use Rattle.otio_model.specs.declared.compositions.ItemOf.{ItemOf}
 use Rattle.otio_model.specs.declared.compositions.Listed.{Listed}
 use Rattle.otio_model.specs.declared.compositions.StackOf.{StackOf}
 use Rattle.otio_model.specs.declared.compositions.TrackOf.{TrackOf}
-use Rattle.otio_model.specs.declared.warps.Effect.{Effect}
+use Rattle.otio_model.specs.declared.effect_types.Effect.{Effect}
 use Rattle.coord.specs.Speeds.{speed_of}
 use Rattle.edits.specs.Children.{Child, Old, Ranged, made, new_gap, plain_gap, ticks, with_range}
 use Rattle.edits.specs.Edges.{is_zero}

@@ -1,4 +1,4 @@
-use Rattle.otio_model.specs.declared.roots.Object.{Timeline as ObjectOfTimeline}
+use Rattle.otio_model.specs.declared.objects.Object.{Timeline as ObjectOfTimeline}
 use Rattle.object_law.proofs.Writables.{object_given}
 use Rattle.edl_law.proofs.WritableTimelines.{timeline_writable}
 use Rattle.edl_law.proofs.conformed_timelines_are_writable.Goals as goal

@@ -2,7 +2,7 @@
 use Rattle.std.proofs.Common.{◌≡◌, pos}
 use Rattle.otio_model.specs.Trees.{items_of}
 use Rattle.otio_model.specs.Lengths.{start_of}
-use Rattle.edl_conform.specs.declared.seat.Past.{Past}
+use Rattle.edl_conform.specs.declared.child_context.Past.{Past}
 use Rattle.edl_conform.specs.Seated.{IsPast}
 use Rattle.edl_conform.specs.Stated.{stated_job, stated_past}
 use Rattle.edl_conform.specs.Walk.{IsUnderWay}

@@ -1,7 +1,7 @@
 use Rattle.std.proofs.Common.{◌∙◌, ap, refl, pos, codes, [], ◌∷◌, w64, FitsSigned}
 use Rattle.std.proofs.lemmas.Int.{to_z-of_z}
 use Rattle.json_value.specs.declared.Json.{Str}
-use Rattle.otio_model.specs.declared.marks.Mark.{Mark}
+use Rattle.otio_model.specs.declared.markers.Mark.{Mark}
 use Rattle.edl_frames.specs.Conformed.{IsSpanOf}
 use Rattle.edl_notes.proofs.markers.marker_of.Goals as goal
 

@@ -3,7 +3,7 @@ use mir.Syntax.{w128}
 use Rattle.std.proofs.lemmas.Int.{to_z-of_z}
 use Rattle.edits.specs.Children as children
 use Rattle.edits.specs.Children.{is_far}
-use Rattle.pieces.specs.declared.ranges.RangedFault.TheVariants.{Range}
+use Rattle.pieces.specs.declared.new_ranges.RangedFault.TheVariants.{Range}
 use Rattle.pieces.proofs.cutting.left_piece.Goals as goal
 
 pub returns-clause-made : goal.returns-clause-made

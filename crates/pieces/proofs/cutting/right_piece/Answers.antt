@@ -4,7 +4,7 @@ use Rattle.std.proofs.lemmas.Int.{to_z-of_z, ints}
 use Rattle.coord.specs.Speeds as speeds
 use Rattle.edits.specs.Children as children
 use Rattle.edits.specs.Children.{is_far}
-use Rattle.pieces.specs.declared.ranges.RangedFault.TheVariants.{Range}
+use Rattle.pieces.specs.declared.new_ranges.RangedFault.TheVariants.{Range}
 use Rattle.pieces.proofs.Faultless.{right_is, faultless_short}
 use Rattle.pieces.proofs.cutting.right_piece.Goals as goal
 

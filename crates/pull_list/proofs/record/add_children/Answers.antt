@@ -1,5 +1,5 @@
 use Rattle.std.proofs.Common.{◌∙◌, ◌<◌, arith}
-use Rattle.listings.proofs.SoundnessFacts.{here}
+use Rattle.show_prog.proofs.SoundnessFacts.{here}
 use Rattle.pull_list.specs.Record.{record_frames}
 use Rattle.pull_list.proofs.Recording.{bounded_by, frames_one, roots_end, roots_go}
 use Rattle.pull_list.proofs.record.add_children.Goals as goal

@@ -2,8 +2,8 @@ use Rattle.std.proofs.Common.{◌≡◌, ap₂, ◌∙◌, to_z, of_z, arith}
 use Rattle.std.specs.Int.{w128}
 use Rattle.std.proofs.lemmas.Int.{ints}
 use Rattle.coord.specs.Sights.{exact, sight}
-use Rattle.listings.proofs.Roots.{child_in, child_short}
-use Rattle.listings.proofs.SoundnessFacts.{no_fault}
+use Rattle.show_prog.proofs.Roots.{child_in, child_short}
+use Rattle.show_prog.proofs.SoundnessFacts.{no_fault}
 use Rattle.pull_list.proofs.Recording.{shown_as}
 use Rattle.pull_list.proofs.record.add_frame.Goals as goal
 

@@ -1,5 +1,5 @@
 use Rattle.std.proofs.Common.{◌≡◌, ◌∙◌, ◌+◌, arith}
-use Rattle.listings.proofs.SoundnessFacts.{few_below}
+use Rattle.show_prog.proofs.SoundnessFacts.{few_below}
 use Rattle.pull_list.proofs.Recording.{frames_all, frames_fit, frames_next, frames_from}
 use Rattle.pull_list.proofs.record.frame_count.Goals as goal
 

@@ -8,9 +8,9 @@ use Rattle.otio_model.specs.declared.compositions.Listed.{Listed}
 use Rattle.otio_model.specs.Trees.{items_of}
 use Rattle.coord.specs.Looks.{Show, track_shows, stack_shows}
 use Rattle.coord.specs.Sights.{exact, sight, sights, looks, shows_inside}
-use Rattle.listings.specs.Walk.{side, shown}
-use Rattle.listings.proofs.SoundnessFacts.{here, few_below, no_fault, track_facts, stack_facts}
-use Rattle.listings.proofs.ShowLemmas.{inside_track, same_kind, track_outside, track_mix, track_item, inside_stack, stack_before, stack_down, stack_here, nothing_past, nothing_shown}
+use Rattle.show_prog.specs.Walk.{side, shown}
+use Rattle.show_prog.proofs.SoundnessFacts.{here, few_below, no_fault, track_facts, stack_facts}
+use Rattle.show_prog.proofs.ShowLemmas.{inside_track, same_kind, track_outside, track_mix, track_item, inside_stack, stack_before, stack_down, stack_here, nothing_past, nothing_shown}
 use Rattle.pull_list.specs.Found.{Collects, clips_in, clips_of_item}
 use Rattle.pull_list.proofs.Collecting.{clip_below, collects_blank, collects_none, collects_some, mixed_by, ok_as, or_left, or_right, same_clips, told_blank, told_some}
 use Rattle.pull_list.proofs.shown.+add.Goals as goal

@@ -2,7 +2,7 @@
 use Rattle.std.proofs.Common.{◌≡◌, ◌+◌, ◌*◌, ℕ, List, map, take, drop}
 use Rattle.json_value.specs.declared.Json.{Json}
 use Rattle.sequences.specs.Pairs.{names_of}
-use Rattle.otio_model.specs.declared.sources.Media.{Media}
+use Rattle.otio_model.specs.declared.media.Media.{Media}
 use Rattle.schema_rows.specs.declared.schemas.TheConstants as C
 use Rattle.schema_rows.specs.Rows.{row_of}
 use Rattle.schema_rows.specs.Readings.{known, item_fields, object_fields, effect_reading, marker_reading, medium_reading}

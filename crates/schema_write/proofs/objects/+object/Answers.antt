@@ -1,6 +1,6 @@
 use Rattle.std.proofs.Common.{◌≡◌, ap, map, [], ◌∷◌}
 use Rattle.json_value.specs.declared.Json.{Str, List as JsonOfList, Map}
-use Rattle.otio_model.specs.declared.roots.Object.{Timeline, Collection, Item}
+use Rattle.otio_model.specs.declared.objects.Object.{Timeline, Collection, Item}
 use Rattle.schema_rows.specs.declared.schemas.Schema.TheVariants as S
 use Rattle.schema_write.specs.Objects.{object_in, timeline_in, collection_in, item_in}
 use Rattle.schema_write.specs.Styles.{style_of}

@@ -7,7 +7,7 @@ use Rattle.std.proofs.lemmas.Bool.Decides.{nat_tests}
 use Rattle.dev_io.proofs.PartLemmas.{drop_past}
 use Rattle.dev_io.proofs.Leaving.{leaves_all, leaves_then}
 use Rattle.json_value.specs.declared.Json.{Str, List as JsonOfList, Map}
-use Rattle.otio_model.specs.declared.roots.Collection.{out-Collection}
+use Rattle.otio_model.specs.declared.objects.Collection.{out-Collection}
 use Rattle.schema_rows.specs.declared.schemas.Schema.TheVariants as S
 use Rattle.schema_write.specs.Objects.{object_in}
 use Rattle.schema_write.specs.Styles.{style_of}

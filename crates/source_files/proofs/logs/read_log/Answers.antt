@@ -4,7 +4,7 @@ use Rattle.ale_text.specs.Logs.{IsLog}
 use Rattle.media_list.specs.declared.list.MediaList.{MediaList}
 use Rattle.dev_io.specs.declared.files.Failed.{Failed as FailedCall}
 use Rattle.source_files.specs.Formats.{RefusesLog, IsCalmLog}
-use Rattle.source_files.specs.declared.file_faults.Refusal.TheVariants.{Memory}
+use Rattle.source_files.specs.declared.read_faults.Refusal.TheVariants.{Memory}
 use Rattle.source_files.proofs.Taking.{same_at_first, taken_more, takes_all, same_more}
 use Rattle.source_files.proofs.Handing.{judged, refused, failed}
 use Rattle.source_files.proofs.ScriptLemmas.{gathered_none, gathered_more}

@@ -1,7 +1,7 @@
 use Rattle.std.proofs.Common.{inl}
 use Rattle.json_law.proofs.UpgradedNumerals.{upgraded_numerals}
 use Rattle.json_law.proofs.UpgradedTwice.{read_stays}
-use Rattle.otio_model.specs.declared.roots.Object.{Object}
+use Rattle.otio_model.specs.declared.objects.Object.{Object}
 use Rattle.json_value.specs.declared.Json.{Json}
 use Rattle.source_files.specs.Formats.{IsJson, IsObject, IsCalmJson, RefusesJson, RefusesObject}
 use Rattle.source_files.proofs.Handing.{judged_further, fault_further}

@@ -1,5 +1,5 @@
 use Rattle.std.proofs.Common.{inl}
-use Rattle.otio_model.specs.declared.roots.Object.{Object}
+use Rattle.otio_model.specs.declared.objects.Object.{Object}
 use Rattle.otio_model.specs.declared.timelines.Timeline.{Timeline}
 use Rattle.source_files.specs.Formats.{IsObject, IsTimeline, IsCalmJson, RefusesObject, RefusesTimeline}
 use Rattle.source_files.proofs.Handing.{judged_further, fault_further}

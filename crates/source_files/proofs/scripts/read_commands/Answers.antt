@@ -4,7 +4,7 @@ use Rattle.limits.specs.Limits.{most_bytes}
 use Rattle.edit_script.specs.declared.commands.Command.{Command}
 use Rattle.dev_io.specs.declared.files.Failed.{Failed as FailedCall}
 use Rattle.source_files.specs.Formats.{IsCommands, RefusesScript, IsCalmScript}
-use Rattle.source_files.specs.declared.file_faults.Refusal.TheVariants.{Memory}
+use Rattle.source_files.specs.declared.read_faults.Refusal.TheVariants.{Memory}
 use Rattle.source_files.proofs.Taking.{same_at_first, taken_more, takes_all, same_more}
 use Rattle.source_files.proofs.Handing.{judged, refused, failed}
 use Rattle.source_files.proofs.ScriptLemmas.{gathered_none, gathered_more, long_refused}

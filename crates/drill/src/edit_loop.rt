@@ -1,0 +1,96 @@
+//! The edits of a drill, one after another, and back.
+
+ghost use Rattle.std.specs.Prelude.{◌≡◌, ◌≤◌, ◌<◌, ◌^◌, ◌+◌, ◌-◌, ℕ, Some, IfOk, OnOk};
+ghost use Rattle.undo_log.specs.States.{state_of};
+ghost use Rattle.edit_script.specs.Keeping.{HoldsEdits};
+ghost use Rattle.edit_script.specs.Steps.{IsReady};
+ghost use Rattle.drill.specs.Rewinding.{rewound};
+ghost use Rattle.drill.specs.Rounds.{Drills, Goes};
+ghost use Rattle.drill.specs.Turns as turns;
+ghost use Rattle.drill.specs.Turns.{round_of};
+
+use crate::frames::track_frames;
+use crate::generator::Generator;
+use crate::one_edit::{step_back, try_act};
+use media_list::MediaList;
+use otio_model::Timeline;
+use std::alloc::{AllocError, Global};
+use undo_log::Log;
+
+/// Draws an edit and tries it, and says whether it was accepted.
+fn run_edit(
+    alloc: Global,
+    timeline: &mut Timeline,
+    log: &mut Log,
+    media: &MediaList,
+    generator: &mut Generator,
+) -> Result<bool, AllocError>
+    requires ready { IsReady log.old timeline.old }
+    ensures goes { IfOk result (λ done. (n : ℕ) → Goes (Some media.now)
+        (round_of generator.old.state log.old timeline.old n)
+        (round_of generator.new.state log.new timeline.new (turns.counted n done))) }
+    ensures ready { IsReady log.new timeline.new }
+    ensures holds { HoldsEdits log.old timeline.old → HoldsEdits log.new timeline.new }
+{
+    let frames = track_frames(timeline);
+    match generator.act(alloc, frames) {
+        Ok(act) => try_act(alloc, timeline, log, media, act),
+        Err(error) => Err(error),
+    }
+}
+
+/// One more where an edit was accepted.
+fn counted(accepted: u32, done: bool) -> u32
+    requires { accepted < 2 ^ 32 - 1 }
+    ensures value { result ≡ turns.counted accepted done }
+    ensures small { result ≤ accepted + 1 }
+{
+    if done { accepted + 1 } else { accepted }
+}
+
+/// Draws so many edits, tries each on what those before it gave, and says how many were accepted.
+/// A refused edit is passed over. An error comes where memory runs out; some of the edits were made
+/// then.
+pub fn run_edits(
+    alloc: Global,
+    timeline: &mut Timeline,
+    log: &mut Log,
+    media: &MediaList,
+    generator: &mut Generator,
+    count: u32,
+) -> Result<u32, AllocError>
+    requires ready { IsReady log.old timeline.old }
+    ensures drills { IfOk result (λ accepted. Drills (Some media.now) count
+        (round_of generator.old.state log.old timeline.old 0)
+        (round_of generator.new.state log.new timeline.new accepted)) }
+    ensures few { IfOk result (λ accepted. accepted ≤ count) }
+    ensures ready { IsReady log.new timeline.new }
+    ensures edits { HoldsEdits log.old timeline.old → HoldsEdits log.new timeline.new }
+{
+    let mut accepted: u32 = 0;
+    'edits: for index in 0..count {
+        match run_edit(alloc, timeline, log, media, generator) {
+            Ok(done) => accepted = counted(accepted, done),
+            Err(error) => return Err(error),
+        }
+    }
+    Ok(accepted)
+}
+
+/// Undoes all edits, the last first. An error comes where memory runs out; some of the edits are
+/// undone then.
+pub fn undo_all(alloc: Global, timeline: &mut Timeline, log: &mut Log) -> Result<(), AllocError>
+    requires ready { IsReady log.old timeline.old }
+    ensures state { OnOk result
+        (state_of log.new timeline.new ≡ rewound (state_of log.old timeline.old)) }
+    ensures ready { IsReady log.new timeline.new }
+    ensures edits { HoldsEdits log.old timeline.old → HoldsEdits log.new timeline.new }
+{
+    'steps: loop {
+        match step_back(alloc, timeline, log) {
+            Ok(true) => {}
+            Ok(false) => return Ok(()),
+            Err(error) => return Err(error),
+        }
+    }
+}

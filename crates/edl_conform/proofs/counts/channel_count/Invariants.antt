@@ -1,9 +1,0 @@
-use Rattle.std.proofs.Common.{drop}
-use Rattle.std.specs.Option.{option_copied}
-use Rattle.edl_frames.specs.Shown.{on_channel}
-use Rattle.edl_conform.specs.Steps.{IsCounting}
-use Rattle.edl_conform.proofs.counts.channel_count.Given as goal
-
-abbrev pub invariant-events : goal.invariant-events
-invariant-events l = IsCounting l.rate l.first (on_channel l.channel l.events)
-    (on_channel l.channel (drop l.event-index l.events)) (option_copied l.before) l.at l.count

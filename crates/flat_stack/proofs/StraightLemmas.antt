@@ -1,0 +1,75 @@
+-- Children that are copied one after another, those of a track without its transitions.
+use Rattle.std.proofs.Common.{◌≡◌, refl, sym, ap, ◌∙◌, Bool, true, false, ◌&&◌, cond, map, List, [], ◌∷◌, ◌++◌, append_assoc}
+use Rattle.otio_model.specs.declared.compositions.ItemOf.{ItemOf}
+use Rattle.otio_model.specs.declared.compositions.ItemOf.TheVariants.{Clip, Gap, Transition, Stack, Track}
+use Rattle.otio_model.specs.declared.compositions.Listed.{Listed}
+use Rattle.otio_model.specs.Trees.{listed, items_of, is_transition}
+use Rattle.edits_law.proofs.Splice.{cases}
+use Rattle.flat.specs.Straight.{without}
+use Rattle.flat_law.proofs.Flat.{items-listed}
+use Rattle.flat_law.proofs.Straight.{whole_item, straight-items, step_out, step_in}
+use Rattle.flat_stack.specs.Straighten.{straight_children, straight_items}
+
+-- with the copies so far and those of the rest all are copied
+abbrev pub Copied : Bool → List (ItemOf Listed) → List (ItemOf Listed) → List (ItemOf Listed)
+    → Type 0
+Copied in_track done rest all = done ++ straight_items in_track rest ≡ straight_items in_track all
+
+pub copied_first : (b : Bool) (rest all : List (ItemOf Listed)) → rest ≡ all → Copied b [] rest all
+copied_first b rest all e = ap (straight_items b) e
+
+pub copied_more : (b c : Bool) (done new rest more all : List (ItemOf Listed)) (x y : ItemOf Listed)
+    → Copied b done rest all → rest ≡ x ∷ more → c ≡ (b && is_transition x) → c ≡ false
+    → y ≡ whole_item x → new ≡ done ++ y ∷ [] → Copied b new more all
+copied_more b c done new rest more all x y k r e f g n =
+    ap (λ l. l ++ straight_items b more) n
+    ∙ append_assoc done (y ∷ []) (straight_items b more)
+    ∙ ap (λ z. done ++ (z ∷ straight_items b more)) g
+    ∙ ap (λ d. done ++ cond d (straight_items b more) (whole_item x ∷ straight_items b more))
+    (sym (sym e ∙ f))
+    ∙ ap (λ l. done ++ straight_items b l) (sym r) ∙ k
+
+pub copied_less : (b c : Bool) (done new rest more all : List (ItemOf Listed)) (x : ItemOf Listed)
+    → Copied b done rest all → rest ≡ x ∷ more → c ≡ (b && is_transition x) → c ≡ true
+    → new ≡ done → Copied b new more all
+copied_less b c done new rest more all x k r e f n =
+    ap (λ l. l ++ straight_items b more) n
+    ∙ ap (λ d. done ++ cond d (straight_items b more) (whole_item x ∷ straight_items b more))
+    (sym (sym e ∙ f))
+    ∙ ap (λ l. done ++ straight_items b l) (sym r) ∙ k
+
+none_more : (l : List (ItemOf Listed)) → l ++ [] ≡ l
+none_more [] = refl
+none_more (x ∷ l) = ap (λ m. x ∷ m) (none_more l)
+
+kept_kind : (x : ItemOf Listed) → is_transition (whole_item x) ≡ is_transition x
+kept_kind (Clip c) = refl
+kept_kind (Gap c) = refl
+kept_kind (Transition c) = refl
+kept_kind (Stack c) = refl
+kept_kind (Track c) = refl
+
+all_whole : (l : List (ItemOf Listed)) → straight_items false l ≡ map whole_item l
+all_whole [] = refl
+all_whole (x ∷ l) = ap (λ m. whole_item x ∷ m) (all_whole l)
+
+whole_without : (l : List (ItemOf Listed)) → straight_items true l ≡ without (map whole_item l)
+whole_without [] = refl
+whole_without (x ∷ l) = cases (is_transition x)
+    (λ t. rw t (whole_without l ∙ sym (step_out (whole_item x) (map whole_item l) (kept_kind x ∙ t))))
+    (λ t. rw t (ap (λ m. whole_item x ∷ m) (whole_without l)
+    ∙ sym (step_in (whole_item x) (map whole_item l) (kept_kind x ∙ t))))
+
+whole_children : (b : Bool) (l : Listed)
+    → listed (straight_items b (items_of l)) ≡ straight_children b l
+whole_children false l = ap listed (all_whole (items_of l)) ∙ sym (straight-items l)
+whole_children true l =
+    ap listed (whole_without (items_of l))
+    ∙ ap (λ m. listed (without m)) (sym (ap items_of (straight-items l)
+    ∙ items-listed (map whole_item (items_of l))))
+
+pub copied_all : (b : Bool) (done rest : List (ItemOf Listed)) (l made : Listed)
+    → Copied b done rest (items_of l) → rest ≡ [] → made ≡ listed done → made ≡ straight_children b l
+copied_all b done rest l made k r e =
+    e ∙ ap listed (sym (none_more done) ∙ ap (λ m. done ++ straight_items b m) (sym r) ∙ k)
+    ∙ whole_children b l

@@ -1,0 +1,6 @@
+use Rattle.otio_model.specs.Trees.{items_of}
+use Rattle.flat_stack.proofs.TrackPlaces.{placed}
+use Rattle.flat_stack.proofs.flat_tracks.in_place.Goals as goal
+
+pub returns : goal.returns
+returns c = placed c.args.kind.now c.args.flat (items_of c.args.children.now) c.in-Ok.front.items c.push.new.self.items c.copy_others.new.all.items c.args.first c.requires.first c.in-Ok.ensures c.in_ok-push.ensures.items c.in_ok-copy_others.ensures

@@ -1,0 +1,37 @@
+use Rattle.std.proofs.Common.{rules, arith, FitsSigned, subst, refl, pos, ◌≤ℤ◌}
+use mir.Syntax.{w128}
+use Rattle.std.proofs.lemmas.Int.{to_z-of_z, ints}
+use Rattle.flat.specs.Joined.{pad}
+use Rattle.flat_stack.specs.Inputs.{IsAdded}
+use Rattle.flat_stack.proofs.JoinedTracks.{no_pad, one_pad}
+use Rattle.flat_stack.proofs.joined_tracks.put_pad.Goals as goal
+
+pub gap-requires-clause-low : goal.gap-requires-clause-low
+gap-requires-clause-low c =
+    let fits : FitsSigned w128 c.pad_ticks-ticks.result = search rules in
+    simp to_z-of_z (omega (arith, ints, c.if-ticks-le0.false))
+
+pub gap-requires-clause-high : goal.gap-requires-clause-high
+gap-requires-clause-high c =
+    let fits : FitsSigned w128 c.pad_ticks-ticks.result = search rules in
+    simp to_z-of_z c.pad_ticks-ticks.ensures.high
+
+pub returns-then-ticks-le0 : goal.returns-then-ticks-le0
+returns-then-ticks-le0 c =
+    let fits : FitsSigned w128 c.pad_ticks-ticks.result = search rules in
+    let old = c.args.all.now.items in
+    let none : c.pad_ticks-ticks.result ≤ℤ pos 0 = omega (arith, ints, c.if-ticks-le0.true) in
+    subst (λ n. IsAdded c.args.rate (pad n) old old) c.pad_ticks-ticks.ensures.value
+    (no_pad c.args.rate c.pad_ticks-ticks.result old old none refl)
+
+pub returns : goal.returns
+returns c =
+    let low = c.pad_ticks-ticks.ensures.low in
+    let high = c.pad_ticks-ticks.ensures.high in
+    let fits : FitsSigned w128 c.pad_ticks-ticks.result = omega (arith, ints, low, high) in
+    let made = simp to_z-of_z at c.in_ok-gap.ensures in
+    let old = c.args.all.now.items in
+    let new = c.push.new.self.items in
+    subst (λ n. IsAdded c.args.rate (pad n) old new) c.pad_ticks-ticks.ensures.value
+    (one_pad c.args.rate c.pad_ticks-ticks.result old new c.in_ok-gap.gap
+    (omega (arith, ints, c.if-ticks-le0.false)) made c.in_ok-push.ensures.items)

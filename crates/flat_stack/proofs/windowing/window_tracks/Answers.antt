@@ -1,0 +1,43 @@
+use Rattle.std.proofs.Common.{arith, refl, drop}
+use Rattle.std.proofs.lemmas.Int.{to_z-of_z}
+use Rattle.otio_model.specs.Trees.{items_of}
+use Rattle.coord.proofs.Members.{child_few, next, none_left}
+use Rattle.pieces.proofs.Inner.{root_faultless}
+use Rattle.flat_stack.proofs.PassedLemmas.{tracks_first, tracks_more, tracks_all, free_plain, free_cut}
+use Rattle.flat_stack.proofs.windowing.window_tracks.Goals as goal
+
+pub children-init : goal.children-init
+children-init c =
+    let fits = c.ranges.from in
+    let fits_to = c.ranges.to in
+    simp to_z-of_z (tracks_first c.args.rate c.args.from c.args.to c.new-done.result.items (items_of c.args.children.now) (items_of c.args.children.now) c.new-done.ensures.items refl)
+
+pub window_track-requires-clause-plain : goal.window_track-requires-clause-plain
+window_track-requires-clause-plain c = free_plain (items_of c.args.children.now) c.args.from c.args.to c.children.index c.child-item.result.now c.requires.free c.child-item.ensures
+
+pub window_track-requires-clause-few : goal.window_track-requires-clause-few
+window_track-requires-clause-few c = child_few c.args.children.now c.children.index c.child-item.result.now c.child-item.ensures c.requires.few
+
+pub window_track-requires-clause-faultless : goal.window_track-requires-clause-faultless
+window_track-requires-clause-faultless c = root_faultless c.args.children.now c.children.index c.child-item.result.now c.requires.faultless c.child-item.ensures
+
+pub window_track-requires-clause-cut : goal.window_track-requires-clause-cut
+window_track-requires-clause-cut c =
+    let fits = c.ranges.from in
+    let fits_to = c.ranges.to in
+    simp to_z-of_z (free_cut (items_of c.args.children.now) c.args.from c.args.to c.children.index c.child-item.result.now c.requires.free c.child-item.ensures)
+
+pub children-preserved : goal.children-preserved
+children-preserved c =
+    let fits = c.ranges.from in
+    let fits_to = c.ranges.to in
+    let known = simp to_z-of_z at c.children.invariant in
+    let track = simp to_z-of_z at c.in_ok-track.ensures in
+    simp to_z-of_z (tracks_more c.args.rate c.args.from c.args.to c.children.done.items _ _ _ (items_of c.args.children.now) c.child-item.result.now c.in_ok-track.track known (next (items_of c.args.children.now) c.children.index c.child-item.result.now c.child-item.ensures) track c.in_ok-push.ensures.items)
+
+pub returns : goal.returns
+returns c =
+    let fits = c.ranges.from in
+    let fits_to = c.ranges.to in
+    let known = simp to_z-of_z at c.children.invariant in
+    tracks_all c.args.rate c.args.from c.args.to c.children.done.items (drop c.children.index (items_of c.args.children.now)) (items_of c.args.children.now) known (none_left (items_of c.args.children.now) c.children.index (omega arith))

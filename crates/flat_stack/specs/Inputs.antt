@@ -1,0 +1,158 @@
+-- Inputs with their tracks by kind, and the tracks that they are joined to, as the code keeps them.
+use Rattle.std.specs.Prelude.{◌≡◌, ℕ, suc, ◌+◌, ◌<◌, ◌^◌, ◌-ℤ◌, pos, ◌≤ℤ◌, ◌≤◌, cond, not, Bool, List, [], ◌∷◌, ◌++◌, filter, map, Option, Some, None, slice_get, option_map}
+use Rattle.std.specs.BTreeMap.{BTreeMap, get_by}
+use Rattle.std.specs.Cmp.Lexicographic.{slice_cmp}
+use Rattle.std.specs.Map.{update}
+use Rattle.std.specs.Ordering.{nat_cmp}
+use Rattle.std.specs.Str.{bytes_eq}
+use Rattle.std.specs.declared.alloc.Global.{Global}
+use Rattle.std.specs.declared.vec.Vec.{Vec}
+use denote.Ref.{Bor}
+use Rattle.limits.specs.Limits.{most_ticks}
+use Rattle.tick_time.specs.declared.rates.Rate.{Rate}
+use Rattle.otio_model.specs.declared.compositions.ItemOf.{ItemOf}
+use Rattle.otio_model.specs.declared.compositions.Listed.{Listed}
+use Rattle.otio_model.specs.declared.timelines.Timeline.{Timeline}
+use Rattle.otio_model.specs.Timelines.{bare}
+use Rattle.otio_model.specs.Counts.{count, count_of}
+use Rattle.coord.specs.Programs.{kind_of}
+use Rattle.coord.specs.Soundness.{AreFaultless}
+use Rattle.edits.specs.Children.{Child, Old, Ranged, all_made, with_first}
+use Rattle.edits.specs.Cuts.{olds}
+use Rattle.edits.specs.Edges.{added}
+use Rattle.flat.specs.Joined.{Slot, joined_with, own_items, pad, slots_in, stretch, track_of}
+use Rattle.flat.specs.Answers.{Joins}
+use Rattle.flat.specs.Roots.{is_empty, is_of, roots, with_roots}
+use Rattle.flat_law.proofs.Joined.{ArePlain}
+use Rattle.flat_stack.specs.declared.inputs.Part.{Part}
+use Rattle.flat_stack.specs.declared.inputs.Seat.{Seat}
+
+-- ---- tracks by their kind
+
+abbrev pub Tracks : Type 0
+Tracks = BTreeMap (Bor (List ℕ)) (Vec (Bor (ItemOf Listed)) Global)
+
+-- the items that are borrowed
+abbrev pub lent : Option (Vec (Bor (ItemOf Listed)) Global) → List (ItemOf Listed)
+lent None = []
+lent (Some v) = map (λ b. b.now) v.items
+
+-- those of a kind
+abbrev pub tracks_at : List ℕ → Tracks → List (ItemOf Listed)
+tracks_at kind m = lent (get_by (λ k. slice_cmp nat_cmp kind k.now) m)
+
+-- the map has the tracks of each kind, in their order
+abbrev pub Knows : Tracks → List (ItemOf Listed) → Type 0
+Knows m l = (kind : List ℕ) → tracks_at kind m ≡ filter (is_of kind) l
+
+-- at one kind the new map has these, and at all others what the old one has
+abbrev pub Updates : List ℕ → Option (Vec (Bor (ItemOf Listed)) Global) → Tracks → Tracks → Type 0
+Updates kind o old new = (q : List ℕ) → get_by (λ k. slice_cmp nat_cmp q k.now) new
+    ≡ update bytes_eq (λ ds. get_by (λ k. slice_cmp nat_cmp ds k.now) old) kind o q
+
+-- ---- seats
+
+-- the joined track that a seat stands for
+abbrev pub slot_of : Seat → Slot
+slot_of s = record { kind = kind_of s.first.now; index = s.index; first = s.first.now }
+
+abbrev pub slots_of : List Seat → List Slot
+slots_of l = map slot_of l
+
+-- ---- inputs
+
+abbrev pub list_of : Part → List (ItemOf Listed)
+list_of p = roots p.input.now
+
+abbrev pub lists_of : List Part → List (List (ItemOf Listed))
+lists_of ps = map list_of ps
+
+-- an input of plain tracks without a fault, with what is kept of it
+pub record IsPart (p : Part) : Type 0 where
+  pub plain : ArePlain (list_of p)
+  pub few : count p.input.now.tracks.children < 2 ^ 32
+  pub faultless : AreFaultless p.input.now.tracks.children
+  pub known : Knows p.tracks (list_of p)
+  pub seats : slots_of p.seats.items ≡ slots_in [] (list_of p)
+  pub low : pos 0 ≤ℤ p.stretch
+  pub high : p.stretch ≤ℤ pos most_ticks
+
+abbrev pub AreParts : List Part → Type 0
+AreParts ps = (i : ℕ) (p : Part) → slice_get ps i ≡ Some p → IsPart p
+
+-- each is as long as frames of so many ticks ask
+abbrev pub AreStretched : ℕ → List Part → Type 0
+AreStretched f [] = Unit {0}
+AreStretched f (p ∷ ps) = (p.stretch ≡ stretch f (list_of p)) × AreStretched f ps
+
+-- the inputs themselves
+abbrev pub inputs_of : List Part → List Timeline
+inputs_of ps = map (λ p. p.input.now) ps
+
+-- ---- a joined track
+
+-- what an input gives to a slot's track
+abbrev pub given : Slot → Part → List (ItemOf Listed)
+given s p = own_items (track_of s.kind s.index (list_of p))
+
+-- the gap behind it, up to the next input
+abbrev pub pad_behind : Slot → Part → List Child
+pad_behind s p = pad (p.stretch -ℤ added (given s p))
+
+-- both, where more inputs follow
+abbrev pub piece : Slot → Part → Bool → List Child
+piece s p more = olds (given s p) ++ cond more (pad_behind s p) []
+
+-- the children of the track that inputs from one on give
+abbrev pub children_from : Slot → List Part → List Child
+children_from s [] = []
+children_from s (p ∷ ps) = piece s p (not (is_empty ps)) ++ children_from s ps
+
+-- items before a list that is there
+abbrev pub with_front : List (ItemOf Listed) → Option (List (ItemOf Listed))
+    → Option (List (ItemOf Listed))
+with_front l o = option_map (λ m. l ++ m) o
+
+-- what is added to a list: what children are made
+pub record IsAdded (r : Rate) (c : List Child) (old new : List (ItemOf Listed)) : Type 0 where
+  pub items : List (ItemOf Listed)
+  pub are : all_made r c ≡ Some items
+  pub is : new ≡ old ++ items
+
+-- the track of a slot, and those of some
+abbrev pub track_from : Rate → List Part → Slot → Option (ItemOf Listed)
+track_from r ps s = option_map (joined_with s.first) (all_made r (children_from s ps))
+
+abbrev pub tracks_from : Rate → List Part → List Slot → Option (List (ItemOf Listed))
+tracks_from r ps [] = Some []
+tracks_from r ps (s ∷ ss) = with_first (track_from r ps s) (tracks_from r ps ss)
+
+-- the first input with these tracks
+pub record IsJoinedOf (r : Rate) (t : Timeline) (ps : List Part) (ss : List Slot)
+    (joined : Timeline) : Type 0 where
+  pub tracks : List (ItemOf Listed)
+  pub are : tracks_from r ps ss ≡ Some tracks
+  pub is : bare joined ≡ bare (with_roots tracks t)
+
+-- the inputs joined; none where that has more than so many items
+abbrev pub IsWithin : List Timeline → ℕ → Option Timeline → Type 0
+IsWithin l most (Some r) = Joins l r × (count r.tracks.children ≤ most)
+IsWithin l most None = (r : Timeline) → Joins l r → most < count r.tracks.children
+
+-- ---- how many items there are
+
+abbrev pub child_count : Child → ℕ
+child_count (Old x) = count_of x
+child_count (Ranged x s n) = count_of x
+
+abbrev pub child_counts : List Child → ℕ
+child_counts [] = 0
+child_counts (c ∷ l) = child_count c + child_counts l
+
+-- a slot's track, with all that stands in it
+abbrev pub track_count : List Part → Slot → ℕ
+track_count ps s = suc (child_counts (children_from s ps))
+
+abbrev pub track_counts : List Part → List Slot → ℕ
+track_counts ps [] = 0
+track_counts ps (s ∷ ss) = track_count ps s + track_counts ps ss

@@ -1,0 +1,92 @@
+//! How many items a joined timeline has, before it is made.
+
+ghost use Rattle.std.specs.Prelude.{◌≡◌, ◌+◌, ◌<◌, ◌^◌, ◌≤◌, false, IfNone, IfSome, IsTrue, length};
+ghost use Rattle.std.specs.Prelude.{nat_lt, slice_get, Some};
+ghost use Rattle.otio_model.specs.Counts.{count, counts_by};
+ghost use Rattle.flat_stack.specs.declared.inputs.Part.{Part as AnyPart};
+ghost use Rattle.flat_stack.specs.Inputs.{AreParts, IsPart, child_counts, given, pad_behind};
+ghost use Rattle.flat_stack.specs.Inputs.{piece, slot_of, slots_of, track_count, track_counts};
+
+use crate::input_tracks::{part_at, seat_at};
+use crate::inputs::{Part, Seat};
+use crate::joined_tracks::{own_children, pad_ticks};
+
+/// How many items an input gives to a joined track, at all levels.
+fn own_count<'a>(part: &Part<'a>, seat: Seat<'a>) -> usize
+    requires { IsPart part.now }
+    ensures value { result ≡ counts_by count (given (slot_of seat.entry) part.now) }
+    ensures high { result < 2 ^ 32 }
+{
+    match own_children(part, seat) {
+        Some(children) => children.items_below(),
+        None => 0,
+    }
+}
+
+/// 1 where a gap stands behind what an input gives, else 0.
+fn pad_count<'a>(part: &Part<'a>, seat: Seat<'a>) -> usize
+    requires { IsPart part.now }
+    ensures value { result ≡ child_counts (pad_behind (slot_of seat.entry) part.now) }
+    ensures high { result ≤ 1 }
+{
+    if pad_ticks(part, seat) > 0 {
+        return 1;
+    }
+    0
+}
+
+/// How many items the input of an index gives to a joined track, the gap behind them with them;
+/// none stands behind the last.
+fn part_count<'a>(parts: &[Part<'a>], index: usize, seat: Seat<'a>) -> usize
+    requires parts { AreParts parts.now }
+    requires there { index < length parts.now }
+    ensures value { (part : AnyPart) → slice_get parts.now index ≡ Some part →
+        result ≡ child_counts (piece (slot_of seat.entry) part
+        (nat_lt (index + 1) (length parts.now))) }
+    ensures high { result ≤ 2 ^ 32 }
+{
+    let part = part_at(parts, index);
+    let own = own_count(part, seat);
+    if index + 1 < parts.len() {
+        return own + pad_count(part, seat);
+    }
+    own
+}
+
+/// How many more items may stand once a joined track stands, where so many may before; `None`
+/// where too few may.
+fn room_behind<'a>(parts: &[Part<'a>], seat: Seat<'a>, room: usize) -> Option<usize>
+    requires { AreParts parts.now }
+    ensures some { IfSome result
+        (λ left. (left + track_count parts.now (slot_of seat.entry)) ≡ room) }
+    ensures none { IfNone result (room < track_count parts.now (slot_of seat.entry)) }
+{
+    if room == 0 {
+        return None;
+    }
+    let mut left = room - 1;
+    'parts: for index in 0..parts.len() {
+        let count = part_count(parts, index, seat);
+        if left < count {
+            return None;
+        }
+        left -= count;
+    }
+    Some(left)
+}
+
+/// Whether all joined tracks have so many items at most. It stops where there are more.
+pub(crate) fn are_few<'a>(parts: &[Part<'a>], seats: &[Seat<'a>], most: usize) -> bool
+    requires { AreParts parts.now }
+    ensures few { IsTrue result → track_counts parts.now (slots_of seats.now) ≤ most }
+    ensures many { result ≡ false → most < track_counts parts.now (slots_of seats.now) }
+{
+    let mut room = most;
+    'seats: for index in 0..seats.len() {
+        match room_behind(parts, seat_at(seats, index), room) {
+            Some(left) => room = left,
+            None => return false,
+        }
+    }
+    true
+}

@@ -1,0 +1,140 @@
+//! Inputs with their tracks by kind.
+
+ghost use Rattle.std.specs.Prelude.{◌≡◌, ◌<◌, ◌^◌, ◌++◌, ◌∷◌, [], filter, IfOk, length, List, None};
+ghost use Rattle.std.specs.Prelude.{option_map, slice_get, Some, true};
+ghost use Rattle.std.specs.Option.{option_copied};
+ghost use Rattle.tick_time.specs.Rates.{frame};
+ghost use Rattle.otio_model.specs.declared.compositions.ItemOf.{ItemOf as AnyItemOf};
+ghost use Rattle.otio_model.specs.declared.compositions.Listed.{Listed};
+ghost use Rattle.otio_model.specs.Counts.{count};
+ghost use Rattle.otio_model.specs.Trees.{items_of};
+ghost use Rattle.coord.specs.Programs as programs;
+ghost use Rattle.coord.specs.Soundness.{AreFaultless};
+ghost use Rattle.flat.specs.Joined as joined;
+ghost use Rattle.flat.specs.Roots as roots;
+ghost use Rattle.flat_law.proofs.Joined.{ArePlain};
+ghost use Rattle.flat_stack.specs.Inputs.{IsPart, Knows, Updates, lent, tracks_at};
+
+use crate::lengths::stretch_of;
+use otio_model::{Children, Item, ItemOf, Timeline};
+use std::alloc::{AllocError, Global};
+use std::collections::BTreeMap;
+use tick_time::Rate;
+
+/// The tracks of an input by their kind, in their order.
+pub(crate) type Tracks<'a> = BTreeMap<&'a str, Vec<&'a Item>>;
+
+/// A track of an input, and how many of its kind stand before it there.
+#[derive(Clone, Copy)]
+pub(crate) struct Seat<'a> {
+    pub(crate) first: &'a Item,
+    pub(crate) index: usize,
+}
+
+/// An input, and what is kept of it.
+#[derive(Drop)]
+pub(crate) struct Part<'a> {
+    pub(crate) input: &'a Timeline,
+    pub(crate) tracks: Tracks<'a>,
+    /// Its tracks in their order.
+    pub(crate) seats: Vec<Seat<'a>>,
+    /// How long it is when others follow, in ticks.
+    pub(crate) stretch: i128,
+}
+
+/// The kind of a root child.
+pub(crate) fn kind_of(item: &Item) -> &str
+    ensures { result.now ≡ programs.kind_of item.now }
+{
+    match item {
+        ItemOf::Track(track) => track.kind.as_str(),
+        _ => "Video",
+    }
+}
+
+/// The item of an index that isn't past the end.
+fn item_at<'b, 'a>(items: &'b [&'a Item], index: usize) -> &'b &'a Item
+    requires { index < length items.now }
+    ensures { slice_get items.now index ≡ Some result.now }
+{
+    match items.get(index) {
+        Some(item) => item,
+        None => unreachable!(),
+    }
+}
+
+/// The track of a kind that has so many of its kind before it.
+pub(crate) fn track_at<'b, 'a>(tracks: &'b Tracks<'a>, kind: &str, index: usize) -> Option<&'b Item>
+    ensures { (l : List (AnyItemOf Listed)) → Knows tracks.now l →
+        option_copied result ≡ joined.track_of kind.now index l }
+{
+    match tracks.get(kind) {
+        Some(of_kind) => {
+            if index < of_kind.len() {
+                return Some(*item_at(of_kind.as_slice(), index));
+            }
+            None
+        }
+        None => None,
+    }
+}
+
+/// Takes the tracks of a kind out.
+fn taken<'a>(alloc: Global, tracks: &mut Tracks<'a>, kind: &str) -> Vec<&'a Item>
+    ensures value { lent (Some result) ≡ tracks_at kind.now tracks.old }
+    ensures gone { Updates kind.now None tracks.old tracks.new }
+{
+    match tracks.remove(kind) {
+        Some(of_kind) => of_kind,
+        None => Vec::new(alloc),
+    }
+}
+
+/// Adds a track behind those of its kind, and tells how many these are.
+fn add_track<'a>(
+    alloc: Global,
+    tracks: &mut Tracks<'a>,
+    item: &'a Item,
+) -> Result<usize, AllocError>
+    requires { roots.is_track item.now ≡ true }
+    ensures { IfOk result (λ index. (l : List (AnyItemOf Listed)) → Knows tracks.old l →
+        (index ≡ length (filter (roots.is_of (programs.kind_of item.now)) l)) ×
+        Knows tracks.new (l ++ item.now ∷ [])) }
+{
+    let kind = kind_of(item);
+    let mut of_kind = taken(alloc, tracks, kind);
+    let index = of_kind.len();
+    of_kind.push(item)?;
+    tracks.insert(kind, of_kind)?;
+    Ok(index)
+}
+
+/// An input of plain tracks, with its tracks by kind.
+pub(crate) fn part_of<'a>(
+    alloc: Global,
+    input: &'a Timeline,
+    rate: Rate,
+) -> Result<Part<'a>, AllocError>
+    requires plain { ArePlain (roots.roots input.now) }
+    requires few { count input.now.tracks.children < 2 ^ 32 }
+    requires faultless { AreFaultless input.now.tracks.children }
+    ensures part { IfOk result IsPart }
+    ensures input { IfOk result (λ part. part.input.now ≡ input.now) }
+    ensures stretch { IfOk result (λ part. part.stretch ≡
+        joined.stretch (frame rate.num rate.den) (roots.roots input.now)) }
+{
+    let children = &input.tracks.children;
+    let mut tracks: Tracks<'a> = BTreeMap::new(alloc);
+    let mut seats: Vec<Seat<'a>> = Vec::new(alloc);
+    'children: for index in 0..children.len() {
+        let first = children.child(index);
+        let index = add_track(alloc, &mut tracks, first)?;
+        seats.push(Seat { first, index })?;
+    }
+    Ok(Part {
+        input,
+        tracks,
+        seats,
+        stretch: stretch_of(children, rate),
+    })
+}

@@ -1,7 +1,0 @@
--- Those left, and those of the inputs so far, are all.
-use Rattle.flat_timelines.specs.Inputs.{slot_of}
-use Rattle.flat_timelines.proofs.CountLemmas.{IsLeft}
-use Rattle.flat_timelines.proofs.counting.room_behind.Given as goal
-
-abbrev pub invariant-parts : goal.invariant-parts
-invariant-parts l = IsLeft l.parts (slot_of l.seat) l.room l.left l.index

@@ -1,5 +1,0 @@
--- Half of the root children are fewer.
-use Rattle.flat_timelines.proofs.halves.+stretches_in.Given as goal
-
-abbrev pub decreases-stretches_in : goal.decreases-stretches_in
-decreases-stretches_in a = a.count

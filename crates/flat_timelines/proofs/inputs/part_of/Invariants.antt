@@ -1,7 +1,0 @@
--- The tracks so far are known and have a seat.
-use Rattle.otio_model.specs.Trees.{items_of}
-use Rattle.flat_timelines.proofs.KnowLemmas.{AreSeated}
-use Rattle.flat_timelines.proofs.inputs.part_of.Given as goal
-
-abbrev pub invariant-children : goal.invariant-children
-invariant-children l = AreSeated l.tracks l.seats.items (items_of l.children) l.index

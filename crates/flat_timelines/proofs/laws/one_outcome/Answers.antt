@@ -1,5 +1,0 @@
-use Rattle.flat_timelines.proofs.OneOutcome.{one_result, never_both, one_fault}
-use Rattle.flat_timelines.proofs.laws.one_outcome.Goals as goal
-
-pub returns : goal.returns
-returns c = record { result = one_result; never = never_both; fault = one_fault }

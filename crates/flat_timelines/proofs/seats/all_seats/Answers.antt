@@ -1,9 +1,0 @@
-use Rattle.coord.proofs.Members.{next}
-use Rattle.flat_timelines.proofs.SeatLemmas.{all_more, standing}
-use Rattle.flat_timelines.proofs.seats.all_seats.Goals as goal
-
-pub parts-preserved : goal.parts-preserved
-parts-preserved c =
-    let at = standing c.args.parts.now c.parts.index c.parts-test.true in
-    let known = c.requires.parts c.parts.index at.0 at.1 in
-    all_more c.parts.all.items c.add_new.new.all.items c.args.parts.now c.parts.index at.0 c.parts.invariant at.1 (next c.args.parts.now c.parts.index at.0 at.1) known.seats (c.in_ok-add_new.ensures at.0 at.1)

@@ -1,7 +1,0 @@
-use Rattle.std.proofs.Common.{Some}
-use Rattle.flat_timelines.proofs.Carrying.{only_ready}
-use Rattle.flat_timelines.proofs.steps.only.Goals as goal
-
-pub returns-in-Ok-clause-ready : goal.returns-in-Ok-clause-ready
-returns-in-Ok-clause-ready c =
-    only_ready (Some c.in-Some.kind) c.args.timeline c.in-Ok.kept c.requires c.in-Ok.ensures

@@ -1,5 +1,0 @@
-use Rattle.listings.proofs.SpareLemmas.{listing_bare, text_bare}
-use Rattle.listings.proofs.frame_laws.bare_rows_are_listed.Goals as goal
-
-pub returns : goal.returns
-returns c = record { listing = listing_bare; text = text_bare }

@@ -1,9 +1,0 @@
--- The items from the end on are transitions.
-use Rattle.std.proofs.Common.{◌≡◌}
-use Rattle.otio_model.specs.Trees.{items_of}
-use Rattle.listings.specs.Walk.{item_before}
-use Rattle.listings.proofs.lists.item_before.Given as goal
-
-abbrev pub invariant-children : goal.invariant-children
-invariant-children l =
-    item_before (items_of l.children) l.fn.end ≡ item_before (items_of l.children) l.index

@@ -1,5 +1,0 @@
-use Rattle.std.proofs.Common.{◌∙◌}
-use Rattle.listings.proofs.tracks.put_text.Goals as goal
-
-pub returns : goal.returns
-returns g c = rw (c.as_bytes.ensures.value ∙ c.as_str.ensures) at c.put_string.ensures

@@ -1,0 +1,62 @@
+-- The pieces are counted and summed anew.
+use Rattle.std.proofs.Common.{arith, ap, sym, ◌∙◌, length, subst}
+use Rattle.otio_model.specs.Trees.{listed}
+use Rattle.otio_model.specs.Edits.{replaced}
+use Rattle.otio_model.specs.Kept.{kept_of}
+use Rattle.otio_model.specs.Pieces.{AllPieces, all_items}
+use Rattle.otio_model.proofs.Views.{shown}
+use Rattle.otio_model.proofs.Windows.{length_replaced}
+use Rattle.otio_model.proofs.place_walk.replace.Goals as goal
+
+pub number-requires : goal.number-requires
+number-requires c =
+    let xs = all_items c.children.inside.pieces.items in
+    let same = shown _ _ c.children.view_is in
+    record {
+      few = omega (
+        arith,
+        c.requires.there,
+        c.requires.room.fits,
+        ap length same,
+        length_replaced c.args.at c.args.count c.args.list.now.items xs
+            (omega (arith, c.requires.there, ap length same)),
+        ap length c.replace_pieces.ensures.items,
+        c.args.list.now.ok,
+      );
+    }
+
+pub kept_pieces-children-inside-requires : goal.kept_pieces-children-inside-requires
+kept_pieces-children-inside-requires c =
+    record {
+      pieces = subst AllPieces (sym c.as_slice.ensures.value)
+          (c.number.ensures.pieces c.replace_pieces.ensures.pieces).all;
+    }
+
+pub invariant_of-children : goal.invariant_of-children
+invariant_of-children c =
+    let xs = all_items c.children.inside.pieces.items in
+    let same = shown _ _ c.children.view_is in
+    record {
+      pieces = c.number.ensures.pieces c.replace_pieces.ensures.pieces;
+      numbered = c.number.ensures.numbered;
+      counted = omega (
+        arith,
+        c.requires.there,
+        ap length same,
+        length_replaced c.args.at c.args.count c.args.list.now.items xs
+            (omega (arith, c.requires.there, ap length same)),
+        ap length c.number.ensures.items,
+        ap length c.replace_pieces.ensures.items,
+        c.children.invariant.counted,
+        c.len-put.ensures,
+        c.args.list.now.ok,
+      );
+      keeps = c.kept_pieces-children-inside.ensures
+          ∙ ap (λ l. kept_of (all_items l)) c.as_slice.ensures.value;
+    }
+
+pub returns-clause-items : goal.returns-clause-items
+returns-clause-items c =
+    ap listed (c.number.ensures.items ∙ c.replace_pieces.ensures.items
+    ∙ ap (replaced c.args.at c.args.count c.args.list.now.items)
+    (sym (shown _ _ c.children.view_is)))

@@ -1,0 +1,75 @@
+//! What is kept of a list of items, so that later calls needn't look at each of them.
+
+ghost use Rattle.std.specs.Prelude.{◌≡◌, max};
+ghost use Rattle.otio_model.specs.Kept.{joined, joined_totals, offset_reach};
+
+use crate::length_sums::{NOTHING, Totals};
+use tick_time::Time;
+
+/// What a list of items comes to. The two counts stop at the greatest number of 64 bits.
+#[derive(Clone, Copy)]
+pub(crate) struct Kept {
+    /// Its lengths.
+    pub(crate) lengths: Totals,
+    /// How many transitions it has.
+    pub(crate) transitions: usize,
+    /// How far from their cuts the overlaps of its transitions reach, at most, in ticks.
+    pub(crate) reach: u128,
+    /// How many items it has at all levels.
+    pub(crate) items: usize,
+}
+
+/// What is kept of no items.
+pub(crate) const NO_ITEMS: Kept = Kept {
+    lengths: NOTHING,
+    transitions: 0,
+    reach: 0,
+    items: 0,
+};
+
+/// The greater of two numbers.
+fn greater(one: u128, other: u128) -> u128
+    ensures { result ≡ max one other }
+{
+    if one < other { other } else { one }
+}
+
+/// The lengths of two lists together.
+fn join_totals(one: Totals, other: Totals) -> Totals
+    ensures { result ≡ joined_totals one other }
+{
+    Totals {
+        ticks: one.ticks.saturating_add(other.ticks),
+        longest: greater(one.longest, other.longest),
+        known: one.known && other.known,
+    }
+}
+
+/// What is kept of two lists together.
+pub(crate) fn join(one: Kept, other: Kept) -> Kept
+    ensures { result ≡ joined one other }
+{
+    Kept {
+        lengths: join_totals(one.lengths, other.lengths),
+        transitions: one.transitions.saturating_add(other.transitions),
+        reach: greater(one.reach, other.reach),
+        items: one.items.saturating_add(other.items),
+    }
+}
+
+/// How far from its cut an offset lies; one that isn't given is 0.
+fn offset_ticks(offset: Option<Time>) -> u128
+    ensures { result ≡ offset_reach offset }
+{
+    match offset {
+        Some(time) => time.ticks.unsigned_abs(),
+        None => 0,
+    }
+}
+
+/// How far two offsets lie from their cut, at most.
+pub(crate) fn offsets_ticks(in_offset: Option<Time>, out_offset: Option<Time>) -> u128
+    ensures { result ≡ max (offset_reach in_offset) (offset_reach out_offset) }
+{
+    greater(offset_ticks(in_offset), offset_ticks(out_offset))
+}

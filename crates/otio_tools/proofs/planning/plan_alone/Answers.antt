@@ -1,0 +1,16 @@
+use Rattle.command_words.specs.Asked.{other_names}
+use Rattle.otio_tools.specs.Asked.{asked_alone}
+use Rattle.otio_tools.specs.Texts.{text_at}
+use Rattle.otio_tools.proofs.Planning.{held_planned, stop_planned}
+use Rattle.otio_tools.proofs.planning.plan_alone.Goals as goal
+
+pub returns-in-Ok-clause-told : goal.returns-in-Ok-clause-told
+returns-in-Ok-clause-told g c = λ target.
+    held_planned (asked_alone c.args.command c.args.name.now (other_names c.args.others) target)
+    c.in-Ok.contents.items c.planned_for.result _ _ c.in-Ok.ensures.read
+    (c.planned_for.ensures.told (text_at c.args.others.media)) c.planned_for.ensures.work
+
+pub returns-clause-told : goal.returns-clause-told
+returns-clause-told g c = λ target.
+    stop_planned (asked_alone c.args.command c.args.name.now (other_names c.args.others) target)
+    c.in-Err.stop _ _ c.in-Err.ensures.stopped

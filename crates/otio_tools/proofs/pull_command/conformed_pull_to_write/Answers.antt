@@ -1,0 +1,14 @@
+use Rattle.otio_tools.specs.Pulled.{AnswersPull}
+use Rattle.otio_tools.proofs.Planning.{of_conformed, not_conformed_as}
+use Rattle.otio_tools.proofs.pull_command.conformed_pull_to_write.Goals as goal
+
+pub returns-in-Ok-clause-owed : goal.returns-in-Ok-clause-owed
+returns-in-Ok-clause-owed c = λ name.
+    of_conformed name c.args.list c.args.media (AnswersPull c.args.handles name)
+    c.in-Ok.timeline c.pull_to_write.result c.in-Ok.ensures.timeline
+    (c.pull_to_write.ensures.owed name)
+
+pub returns-in-Err-clause-owed : goal.returns-in-Err-clause-owed
+returns-in-Err-clause-owed c = λ name.
+    not_conformed_as name c.args.list c.args.media (AnswersPull c.args.handles name)
+    c.in-Err.fault c.not_conformed.result c.in-Err.ensures.fault c.not_conformed.ensures

@@ -1,0 +1,415 @@
+// Commands on several files.
+ghost use Rattle.std.specs.Prelude.{◌≡◌, ◌≢◌, ◌<◌, ◌^◌, ◌++◌, ◌∷◌, [], ℕ, List, Option, All, true, IfErr, IfOk, IfSome, get_or, length, map, suc};
+ghost use Rattle.std.specs.Vec.Iter.{into_iter_items};
+ghost use Rattle.otio_model.specs.Counts.{count as count_below};
+ghost use Rattle.flat_stack.specs.Ready.{IsReady};
+ghost use Rattle.std.specs.Option.{option_copied};
+ghost use Rattle.dev_io.specs.Calls.{Tells};
+ghost use Rattle.source_files.specs.Reasons.{reason_text};
+ghost use Rattle.source_files.specs.Order.{EachIs, FirstIsNot};
+ghost use Rattle.source_files.specs.Formats.{Suits};
+ghost use Rattle.source_files.specs.Reading.{IsRefused, RaisedAt, source_of};
+ghost use Rattle.command_words.specs.Asked.{other_names};
+ghost use Rattle.otio_tools.specs.Asked.{IsScripted, asked_for, input_named, is_list as is_list_text, kind_named, media_source};
+ghost use Rattle.otio_tools.specs.Asked as asking;
+ghost use Rattle.otio_tools.specs.Opened.{IsOpenedInput};
+ghost use Rattle.otio_tools.specs.Tools.{AnswersJoined, AnswersTool, name_told, tool_fault_text, tool_text};
+ghost use Rattle.otio_tools.specs.Tools as tools;
+ghost use Rattle.otio_tools.specs.Several.{AnswersTimelines, AreInputs, FitsJoining, HasJoining, IsRefusedAt, StopsOpening, named_inputs, names_now};
+ghost use Rattle.otio_tools.specs.Plan.{AreRows, Fits, IsDesk, IsEditable, Plans, PlansAs, PlansHeld, media_content, text_planned};
+ghost use Rattle.otio_tools.specs.Texts.{text_at};
+
+use crate::edit_command::opened_timeline;
+use crate::planning::{Planned, list_kind, media_kind};
+use command_words::{Command, Others, ToolAsked, is_list_name};
+use dev_io::Files;
+use flat_stack::{ToolFault, concatenated, tooled};
+use media_list::MediaList;
+use otio_model::{Object, Timeline};
+use show_prog::Listings;
+use source_files::{
+    Content, Kind, ReadFault, Reason, Refusal, Source, SourceFault, coord_reason, flat_reason,
+    items_reason, read_sources,
+};
+use std::alloc::{AllocError, Global};
+use std::mem;
+use std::vec::IntoIter;
+
+/// What a command on several files is to send for the file of that name and the others: the files
+/// are read, and then the command is judged over what they hold.
+pub fn plan_several<'a, F: Files>(
+    alloc: Global,
+    command: Command,
+    name: &'a str,
+    others: Others<'a>,
+    files: &mut F,
+) -> Result<Planned, SourceFault<'a>>
+    requires several { asking.takes_several command ≡ true }
+    requires scripted { IsScripted command (text_at others.script) }
+    requires joining { HasJoining command (suc (length (other_names others).more)) }
+    ensures told { (target : Option (List ℕ)) →
+        Tells (Plans (asked_for command name.now (other_names others.entry) target) result)
+        (F.known files.old) (F.known files.new) }
+    ensures fits { IfOk result (λ planned. Fits planned) }
+    ensures kind { IfOk result (λ planned. AreRows planned → ⊥) }
+    ensures desk { IfOk result (λ planned. IsDesk planned → ⊥) }
+    ensures cause { RaisedAt result (F.faults files.old) (F.faults files.new) }
+{
+    let media = others.media;
+    let Ok(names) = names_of(alloc, name, others.more.as_slice()) else {
+        return Err(no_memory(name));
+    };
+    let Ok(sources) = sources_of(alloc, command, names.as_slice(), media) else {
+        return Err(no_memory(name));
+    };
+    match read_sources(alloc, sources.as_slice(), files) {
+        Ok(contents) => judged_several(alloc, command, names.as_slice(), contents),
+        Err(stop) => Err(stop),
+    }
+}
+
+// Out of memory, told of the file of that name.
+fn no_memory<'a>(name: &'a str) -> SourceFault<'a>
+    ensures name { result.name.now ≡ name.now }
+    ensures fault { result.fault ≡ ReadFault.Refused Refusal.Memory }
+{
+    SourceFault {
+        name,
+        fault: ReadFault::Refused(Refusal::Memory),
+    }
+}
+
+#[tactic(auto, using(crate::proofs::SeveralFiles::names_all))]
+// The names of the inputs.
+fn names_of<'a>(alloc: Global, name: &'a str, more: &[&'a str]) -> Result<Vec<&'a str>, AllocError>
+    ensures { IfOk result (λ names. names_now names.items ≡ name.now ∷ names_now more.now) }
+{
+    let mut names = Vec::new(alloc);
+    names.push(name)?;
+    'more: for &other in more {
+        names.push(other)?;
+    }
+    Ok(names)
+}
+
+#[tactic(auto, using(crate::proofs::SeveralFiles::named_all))]
+// The inputs of these names, and the media list after them.
+fn sources_of<'a>(
+    alloc: Global,
+    command: Command,
+    names: &[&'a str],
+    media: Option<&'a str>,
+) -> Result<Vec<Source<'a>>, AllocError>
+    ensures { IfOk result (λ sources. map source_of sources.items
+        ≡ map (input_named command) (names_now names.now) ++ media_source (text_at media.entry)) }
+{
+    let mut sources = Vec::new(alloc);
+    'names: for &name in names {
+        let kind = kind_by_name(command, name);
+        sources.push(Source { name, kind })?;
+    }
+    if let Some(name) = media {
+        let kind = media_kind(name);
+        sources.push(Source { name, kind })?;
+    }
+    Ok(sources)
+}
+
+// What a command reads a file of that name as.
+fn kind_by_name(command: Command, name: &str) -> Kind
+    ensures { result ≡ kind_named command name.now }
+{
+    match command {
+        Command::ListCat { rate } | Command::ListTool { rate, tool: _ } => {
+            if is_list(name) {
+                Kind::List(rate)
+            } else {
+                Kind::Timeline
+            }
+        }
+        Command::ListToList { rate, notes, .. } => list_kind(rate, notes),
+        Command::ListToObjects {
+            rate,
+            older: _,
+            notes,
+        } => list_kind(rate, notes),
+        Command::TimelineToList { .. } => Kind::Timeline,
+        Command::ToObjects { older: _ } => Kind::Object,
+        Command::ToJson => Kind::Json,
+        Command::Frames(_) => Kind::Timeline,
+        Command::ListFrames { rate, frames: _ } => Kind::List(rate),
+        Command::Edit => Kind::Timeline,
+        Command::ListEdit { rate } => Kind::List(rate),
+        Command::Stat => Kind::Timeline,
+        Command::ListStat { rate } => Kind::List(rate),
+        Command::Pull { handles: _ } => Kind::Timeline,
+        Command::ListPull { rate, handles: _ } => Kind::List(rate),
+        Command::Cat => Kind::Timeline,
+        Command::Tool(_) => Kind::Timeline,
+        Command::LogToMedia => Kind::Log,
+    }
+}
+
+// Whether a name is that of a list.
+fn is_list(name: &str) -> bool
+    ensures { result ≡ is_list_text name.now }
+{
+    is_list_name(name)
+}
+
+// What a command on several files is to send for what they hold, and the media list after them.
+fn judged_several<'a>(
+    alloc: Global,
+    command: Command,
+    names: &[&'a str],
+    contents: Vec<Content>,
+) -> Result<Planned, SourceFault<'a>>
+    requires several { asking.takes_several command ≡ true }
+    requires some { names.now ≢ [] }
+    requires joining { HasJoining command (length names.now) }
+    requires suits { (media : Option (List ℕ)) × EachIs (λ source held. Suits source.kind held)
+        (map (input_named command) (names_now names.now) ++ media_source media) contents.items }
+    ensures told { (media : Option (List ℕ)) → PlansHeld command
+        (map (input_named command) (names_now names.now) ++ media_source media) contents.items
+        result }
+    ensures fits { IfOk result (λ planned. Fits planned) }
+    ensures kind { IfOk result (λ planned. AreRows planned → ⊥) }
+    ensures desk { IfOk result (λ planned. IsDesk planned → ⊥) }
+    ensures calm { (n : ℕ) → RaisedAt result n n }
+{
+    let (inputs, media) = parted_inputs(names.len(), contents);
+    let found = opened(alloc, names, inputs, media.as_ref());
+    mem::forget(media);
+    match found {
+        Ok(timelines) => worked(alloc, command, names, timelines),
+        Err(stop) => Err(stop),
+    }
+}
+
+// What so many inputs hold, and the media list after them where one was read.
+fn parted_inputs(count: usize, contents: Vec<Content>) -> (Vec<Content>, Option<MediaList>)
+    requires { AreInputs count contents.items }
+    ensures are { contents.items ≡ result.0.items ++ media_content result.1 }
+    ensures count { length result.0.items ≡ count }
+{
+    if contents.len() == count {
+        return (contents, None);
+    }
+    let mut contents = contents;
+    match contents.pop() {
+        Some(Content::Rows(media)) => (contents, Some(media)),
+        _ => unreachable!(),
+    }
+}
+
+// The sound timelines of inputs of these names.
+fn opened<'a>(
+    alloc: Global,
+    names: &[&'a str],
+    contents: Vec<Content>,
+    media: Option<&MediaList>,
+) -> Result<Vec<Timeline>, SourceFault<'a>>
+    requires same { length contents.items ≡ length names.now }
+    requires editable { All IsEditable contents.items }
+    ensures opened { IfOk result (λ timelines. EachIs (IsOpenedInput (option_copied media.entry))
+        (named_inputs (names_now names.now) contents.items) timelines.items) }
+    ensures ready { IfOk result (λ timelines. All IsReady timelines.items) }
+    ensures stopped { IfErr result (FirstIsNot (IsOpenedInput (option_copied media.entry))
+        (StopsOpening (option_copied media.entry))
+        (named_inputs (names_now names.now) contents.items)) }
+{
+    let mut timelines = Vec::new(alloc);
+    let mut contents = contents.into_iter();
+    'inputs: for &name in names {
+        let content = next_content(&mut contents);
+        match opened_timeline(alloc, content, media) {
+            Ok(timeline) => match timelines.push(timeline) {
+                Ok(()) => {}
+                Err(refused) => {
+                    mem::forget(refused);
+                    return Err(no_memory(name));
+                }
+            },
+            Err(refusal) => return Err(refused(name, refusal)),
+        }
+    }
+    Ok(timelines)
+}
+
+// What the next input holds.
+fn next_content(contents: &mut IntoIter<Content>) -> Content
+    requires { into_iter_items contents.old ≢ [] }
+    ensures { into_iter_items contents.old ≡ result ∷ into_iter_items contents.new }
+{
+    match contents.next() {
+        Some(content) => content,
+        None => unreachable!(),
+    }
+}
+
+// A refusal that is told of the file of that name.
+fn refused<'a>(name: &'a str, refusal: Refusal) -> SourceFault<'a>
+    ensures name { result.name.now ≡ name.now }
+    ensures fault { result.fault ≡ ReadFault.Refused refusal }
+{
+    SourceFault {
+        name,
+        fault: ReadFault::Refused(refusal),
+    }
+}
+
+// What a command on several files is to send for their sound timelines.
+fn worked<'a>(
+    alloc: Global,
+    command: Command,
+    names: &[&'a str],
+    timelines: Vec<Timeline>,
+) -> Result<Planned, SourceFault<'a>>
+    requires several { asking.takes_several command ≡ true }
+    requires ready { All IsReady timelines.items }
+    requires some { timelines.items ≢ [] }
+    requires joining { HasJoining command (length timelines.items) }
+    ensures owed { PlansAs (λ target answer.
+        AnswersTimelines command (names_now names.now) target timelines.items answer) result }
+    ensures fits { IfOk result (λ planned. Fits planned) }
+    ensures kind { IfOk result (λ planned. AreRows planned → ⊥) }
+    ensures desk { IfOk result (λ planned. IsDesk planned → ⊥) }
+    ensures calm { (n : ℕ) → RaisedAt result n n }
+{
+    match command {
+        Command::Cat => joined(alloc, names, timelines),
+        Command::ListCat { rate: _ } => joined(alloc, names, timelines),
+        Command::Tool(asked) => tool_done(alloc, asked, names, timelines),
+        Command::ListTool { rate: _, tool } => tool_done(alloc, tool, names, timelines),
+        _ => unreachable!(),
+    }
+}
+
+// What is to be sent of timelines that are joined. They aren't freed: what is left of a run is to
+// send the one that they become.
+fn joined<'a>(
+    alloc: Global,
+    names: &[&'a str],
+    timelines: Vec<Timeline>,
+) -> Result<Planned, SourceFault<'a>>
+    requires ready { All IsReady timelines.items }
+    requires some { timelines.items ≢ [] }
+    ensures owed { PlansAs (λ target answer.
+        AnswersJoined (names_now names.now) target timelines.items answer) result }
+    ensures fits { IfOk result (λ planned. Fits planned) }
+    ensures kind { IfOk result (λ planned. AreRows planned → ⊥) }
+    ensures desk { IfOk result (λ planned. IsDesk planned → ⊥) }
+    ensures calm { (n : ℕ) → RaisedAt result n n }
+{
+    let ended = concatenated(alloc, timelines.as_slice());
+    mem::forget(timelines);
+    match ended {
+        Ok(timeline) => Ok(Planned::Root(Object::Timeline(timeline))),
+        Err(fault) => Err(stop_of(names, fault)),
+    }
+}
+
+// What is to be sent of timelines that are worked on as asked.
+fn tool_done<'a>(
+    alloc: Global,
+    asked: ToolAsked,
+    names: &[&'a str],
+    timelines: Vec<Timeline>,
+) -> Result<Planned, SourceFault<'a>>
+    requires ready { All IsReady timelines.items }
+    requires some { timelines.items ≢ [] }
+    requires joining { FitsJoining asked (length timelines.items) }
+    ensures owed { PlansAs (λ target answer.
+        AnswersTool asked (names_now names.now) target timelines.items answer) result }
+    ensures fits { IfOk result (λ planned. Fits planned) }
+    ensures kind { IfOk result (λ planned. AreRows planned → ⊥) }
+    ensures desk { IfOk result (λ planned. IsDesk planned → ⊥) }
+    ensures calm { (n : ℕ) → RaisedAt result n n }
+{
+    match tooled(alloc, asked, timelines) {
+        Ok(timeline) => Ok(output_of(asked, timeline)),
+        Err(fault) => Err(stop_of(names, fault)),
+    }
+}
+
+// What is written of a timeline: the listings that are asked for, else the timeline.
+fn output_of(asked: ToolAsked, timeline: Timeline) -> Planned
+    requires few { count_below timeline.tracks.children < 2 ^ 32 }
+    ensures text { text_planned result ≡ tool_text asked timeline }
+    ensures fits { Fits result }
+    ensures kind { AreRows result → ⊥ }
+    ensures desk { IsDesk result → ⊥ }
+{
+    if does_list(asked) {
+        Planned::Listed(timeline, listings_asked(asked))
+    } else {
+        Planned::Root(Object::Timeline(timeline))
+    }
+}
+
+// Whether something is listed.
+fn does_list(asked: ToolAsked) -> bool
+    ensures { result ≡ tools.does_list asked }
+{
+    (asked.list_tracks || asked.list_clips) || (asked.list_media || asked.stats)
+}
+
+// The listings that are asked for.
+fn listings_asked(asked: ToolAsked) -> Listings
+    ensures { result ≡ tools.listings_asked asked }
+{
+    Listings {
+        tracks: asked.list_tracks,
+        clips: asked.list_clips,
+        media: asked.list_media,
+        stats: asked.stats,
+    }
+}
+
+// What is told of timelines of files of these names that aren't worked on.
+fn stop_of<'a>(names: &[&'a str], fault: ToolFault) -> SourceFault<'a>
+    ensures name { (fault ≢ ToolFault.Memory) →
+        result.name.now ≡ name_told (names_now names.now) fault }
+    ensures fault { IsRefusedAt (λ why. (fault ≢ ToolFault.Memory)
+        × (why ≡ tool_fault_text fault)) result.fault }
+{
+    let name = name_of(names, &fault);
+    match reason_of(fault) {
+        Some(reason) => refused(name, Refusal::Broken(reason)),
+        None => no_memory(name),
+    }
+}
+
+// The name of the input that a fault is told of.
+fn name_of<'a>(names: &[&'a str], fault: &ToolFault) -> &'a str
+    ensures { (fault.now ≢ ToolFault.Memory) →
+        result.now ≡ name_told (names_now names.now) fault.now }
+{
+    match fault {
+        ToolFault::At { input, fault: _ } => name_at(names, *input),
+        _ => name_at(names, 0),
+    }
+}
+
+// The name at an index.
+fn name_at<'a>(names: &[&'a str], index: usize) -> &'a str
+    ensures { result.now ≡ get_or (names_now names.now) index [] }
+{
+    match names.get(index) {
+        Some(&name) => name,
+        None => "",
+    }
+}
+
+// What is told of timelines that aren't worked on; nothing where memory ran out.
+fn reason_of(fault: ToolFault) -> Option<Reason>
+    ensures { IfSome result (λ reason. (fault ≢ ToolFault.Memory)
+        × (reason_text reason ≡ tool_fault_text fault)) }
+{
+    match fault {
+        ToolFault::At { input: _, fault } => flat_reason(fault),
+        ToolFault::Items => Some(items_reason()),
+        ToolFault::Unsound(fault) => coord_reason(fault),
+        ToolFault::Memory => None,
+    }
+}

@@ -1,0 +1,11 @@
+use Rattle.std.proofs.lemmas.Int.{to_z-of_z}
+use Rattle.pieces.proofs.SameTimes.{made_by}
+use Rattle.pieces.proofs.new_ranges.ranged.Goals as goal
+
+pub returns-in-Ok-copy_item-clause-made : goal.returns-in-Ok-copy_item-clause-made
+returns-in-Ok-copy_item-clause-made c =
+    let fits = c.ranges.start in
+    let fits_too = c.ranges.len in
+    let start = simp to_z-of_z at c.in-Ok.ensures.near in
+    let len = simp to_z-of_z at c.in-Ok-near.ensures.near in
+    made_by c.args.rate c.start_rate.result c.length_rate.result c.args.item.now c.with_range.result c.in-Ok-copy_item.copy _ c.args.start c.args.len c.start_rate.ensures start c.length_rate.ensures len c.in-Ok-copy_item.ensures c.with_range.ensures

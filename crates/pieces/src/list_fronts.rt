@@ -1,0 +1,146 @@
+//! Fronts of lists.
+
+ghost use Rattle.std.specs.Prelude.{◌≡◌, ◌<◌, ◌≤◌, IfErr, IfOk, OnOk, Some, true, []};
+ghost use Rattle.std.specs.Prelude.{◌∷◌, ◌++◌, length, pos, ◌≤ℤ◌};
+ghost use Rattle.edits.specs.Children as children;
+ghost use Rattle.edits.specs.Cuts as cuts;
+ghost use Rattle.edits.specs.Children.{is_far, has_far};
+ghost use Rattle.pieces.specs.Short.{AreShort};
+
+use crate::cutting::left_piece;
+use crate::item_lengths::{member, ticks_of};
+use crate::new_ranges::RangedFault;
+use otio_model::{Effects, Gap, Item, ItemOf, copy_item};
+use sequences::{NamedValues, Sequence, Text};
+use std::alloc::Global;
+use tick_time::{Rate, Span, Time};
+
+/// A new gap of so many ticks, which starts at 0, at a rate. [`RangedFault::Range`] comes only
+/// where it would be longer than a million seconds, and [`RangedFault::Memory`] where memory runs
+/// out.
+#[tactic(auto, using(crate::proofs::SameTimes::far_start, crate::proofs::SameTimes::far_length))]
+pub fn new_gap(alloc: Global, ticks: i128, rate: Rate) -> Result<Item, RangedFault>
+    requires { pos 0 ≤ℤ ticks }
+    ensures made { IfOk result (λ gap. children.made rate (children.new_gap ticks) ≡ Some gap) }
+    ensures far { IfErr result
+        (λ fault. fault ≡ RangedFault.Range → is_far (children.new_gap ticks) ≡ true) }
+{
+    let start = match Time::near(0, rate) {
+        Ok(time) => time,
+        Err(_) => return Err(RangedFault::Range),
+    };
+    let len = match Time::near(ticks, rate) {
+        Ok(time) => time,
+        Err(_) => return Err(RangedFault::Range),
+    };
+    Ok(gap_of(alloc, Span { start, len }))
+}
+
+/// A gap of a range.
+fn gap_of(alloc: Global, range: Span) -> Item
+    ensures { result ≡ children.with_range range children.plain_gap }
+{
+    ItemOf::Gap(Gap {
+        metadata: NamedValues::new(alloc),
+        name: Text::empty(),
+        source_range: Some(range),
+        effects: Effects::new(alloc),
+        markers: Sequence::new(alloc),
+        enabled: true,
+        rest: NamedValues::new(alloc),
+    })
+}
+
+/// An equal item.
+pub(crate) fn copied(alloc: Global, item: &Item) -> Result<Item, RangedFault>
+    ensures { IfOk result (λ copy. copy ≡ item.now) }
+{
+    match copy_item(alloc, item) {
+        Ok(copy) => Ok(copy),
+        Err(_) => Err(RangedFault::Memory),
+    }
+}
+
+/// One item more at the end of a list.
+pub(crate) fn add(list: &mut Vec<Item>, item: Item) -> Result<(), RangedFault>
+    ensures { OnOk result (list.new.items ≡ list.old.items ++ item ∷ []) }
+{
+    match list.push(item) {
+        Ok(()) => Ok(()),
+        Err(refused) => {
+            drop(refused);
+            Err(RangedFault::Memory)
+        }
+    }
+}
+
+/// One item more at the end of a list, which ends there.
+fn with_last(list: Vec<Item>, item: Item) -> Result<Vec<Item>, RangedFault>
+    ensures added { IfOk result (λ all. all.items ≡ list.items ++ item ∷ []) }
+    ensures fault { IfErr result (λ fault. fault ≡ RangedFault.Memory) }
+{
+    let mut list = list;
+    match list.push(item) {
+        Ok(()) => Ok(list),
+        Err(refused) => {
+            drop(refused);
+            drop(list);
+            Err(RangedFault::Memory)
+        }
+    }
+}
+
+/// What of a list starts before `ticks`, the last one cut there, then a gap of the missing length
+/// at the record rate `rate`. It doesn't ask whether the cut falls on a whole tick.
+/// [`RangedFault::Range`] comes only where a new time is out of range, and [`RangedFault::Memory`]
+/// where memory runs out.
+pub fn front_items(
+    alloc: Global,
+    list: &[Item],
+    ticks: i128,
+    rate: Rate,
+) -> Result<Vec<Item>, RangedFault>
+    requires low { pos 0 ≤ℤ ticks }
+    requires short { AreShort list.now }
+    ensures made { IfOk result
+        (λ front. children.all_made rate (cuts.front list.now ticks) ≡ Some front.items) }
+    ensures far { IfErr result
+        (λ fault. fault ≡ RangedFault.Range → has_far (cuts.front list.now ticks) ≡ true) }
+{
+    let mut done = Vec::new(alloc);
+    let mut left = ticks;
+    'items: for index in 0..list.len() {
+        let item = member(list, index);
+        if left <= 0 {
+            return Ok(done);
+        }
+        let length = ticks_of(item);
+        if left < length {
+            return match left_piece(alloc, item, left, rate) {
+                Ok(piece) => match with_last(done, piece) {
+                    Ok(all) => Ok(all),
+                    Err(_) => Err(RangedFault::Memory),
+                },
+                Err(fault) => Err(fault),
+            };
+        }
+        match copied(alloc, item) {
+            Ok(copy) => match add(&mut done, copy) {
+                Ok(()) => {}
+                Err(_) => return Err(RangedFault::Memory),
+            },
+            Err(_) => return Err(RangedFault::Memory),
+        }
+        left -= length;
+    }
+    if left <= 0 {
+        return Ok(done);
+    }
+    match new_gap(alloc, left, rate) {
+        Ok(gap) => match with_last(done, gap) {
+            Ok(all) => Ok(all),
+            Err(_) => Err(RangedFault::Memory),
+        },
+        Err(fault) => Err(fault),
+    }
+}

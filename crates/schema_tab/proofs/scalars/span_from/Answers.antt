@@ -1,0 +1,14 @@
+use Rattle.std.proofs.Common.{◌<ℤ◌, pos, refl, rules, arith, FitsSigned}
+use Rattle.std.specs.Int.{w128}
+use Rattle.std.proofs.lemmas.Int.{ints, to_z-of_z}
+use Rattle.schema_tab.proofs.scalars.span_from.Goals as goal
+
+pub returns-then-len-lt0-clause-fault : goal.returns-then-len-lt0-clause-fault
+returns-then-len-lt0-clause-fault c =
+    let fits : FitsSigned w128 c.in-Some.len.ticks = search rules in
+    let test = simp to_z-of_z at c.if-len-lt0.true in
+    let below : c.in-Some.len.ticks <ℤ pos 0 = grind (arith, ints) in
+    λ n. ((c.in-Some.start, c.in-Some.len, c.in-Some.ensures, below), c.range_fault.ensures n)
+
+pub returns-else-len-lt0-clause-value : goal.returns-else-len-lt0-clause-value
+returns-else-len-lt0-clause-value c = (_, c.in-Some.ensures, refl)

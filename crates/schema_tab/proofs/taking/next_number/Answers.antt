@@ -1,5 +1,0 @@
-use Rattle.schema_tab.specs.Shapes as shapes
-use Rattle.schema_tab.proofs.taking.next_number.Goals as goal
-
-pub next_value-requires : goal.next_value-requires
-next_value-requires c = (shapes.number, c.requires)

@@ -1,0 +1,10 @@
+use Rattle.dev_io.specs.Buffer.{standing, Puts}
+use Rattle.show_prog.specs.Rows.{rows}
+use Rattle.show_prog.specs.Handing.{indexes}
+use Rattle.show_prog.proofs.frame_rows.put_rows.Given as goal
+
+-- the lines of the frames so far were handed over
+abbrev pub invariant-frames : goal.invariant-frames
+invariant-frames g l =
+    let stand = standing g.W.Out.known g.W.Out.faults in
+    Puts (stand l.fn.out l.fn.buffer) (stand l.out l.buffer) (rows l.timeline (indexes l.selection.children) l.from l.index)
