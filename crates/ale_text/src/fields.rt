@@ -26,7 +26,7 @@ pub(crate) fn field_at(line: &[u8], index: usize) -> &[u8]
     trim_spaces(first_field(rest))
 }
 
-/// What stands before the first tab of a line; all of it where it has none.
+// What stands before the first tab of a line; all of it where it has none.
 fn first_field(line: &[u8]) -> &[u8]
     ensures { result.now ≡ get_or (tab_fields line.now) 0 [] }
 {
@@ -36,7 +36,7 @@ fn first_field(line: &[u8]) -> &[u8]
     }
 }
 
-/// The index of the first column of that name; none where no column has it.
+// The index of the first column of that name; none where no column has it.
 fn column_of(names: &[u8], name: &[u8]) -> Option<usize>
     ensures { result ≡ place_of name.now names.now }
 {

@@ -20,7 +20,7 @@ struct Entry<'a> {
     value: &'a [u8],
 }
 
-/// What a line of the heading says; none where it has no tab.
+// What a line of the heading says; none where it has no tab.
 fn entry_of(line: &[u8]) -> Option<Entry<'_>>
     ensures { MatchOption result ((name value : List ℕ) → IsEntry line.now name value → ⊥)
         (λ entry. IsEntry line.now entry.name.now entry.value.now) }
@@ -34,7 +34,7 @@ fn entry_of(line: &[u8]) -> Option<Entry<'_>>
     }
 }
 
-/// The rate that a word spells, where that has timecode.
+// The rate that a word spells, where that has timecode.
 fn log_rate(word: &[u8]) -> Option<Rate>
     ensures { MatchOption result ((rate : AnyRate) → IsLogRate word.now rate → ⊥)
         (IsLogRate word.now) }
@@ -45,7 +45,7 @@ fn log_rate(word: &[u8]) -> Option<Rate>
     }
 }
 
-/// A rate that has timecode; none where it has none.
+// A rate that has timecode; none where it has none.
 fn with_timecode(rate: Rate) -> Option<Rate>
     ensures { MatchOption result (IsSome (nominal rate.num rate.den) → ⊥)
         (λ same. (same ≡ rate) × IsSome (nominal rate.num rate.den)) }
@@ -57,8 +57,8 @@ fn with_timecode(rate: Rate) -> Option<Rate>
     }
 }
 
-/// Whether a line of the heading isn't `FIELD_DELIM`, or is and names tabs, which are what stands
-/// between fields.
+// Whether a line of the heading isn't `FIELD_DELIM`, or is and names tabs, which are what stands
+// between fields.
 fn is_tabbed(said: &Entry<'_>) -> bool
     ensures { IsTrue result ↔ IsTabbed said.now.name.now said.now.value.now }
 {
@@ -89,7 +89,7 @@ pub(crate) fn due_after_entry(line: &[u8], rate: Option<Rate>, number: u32) -> R
     }
 }
 
-/// What is due after a line of the heading that says this.
+// What is due after a line of the heading that says this.
 fn due_after_value(said: &Entry<'_>, rate: Option<Rate>, number: u32) -> Result<Due, AleFault>
     ensures due { IfOk result (λ due. (behind : Option AnyRate) × (due ≡ Due.Entry behind)
         × GivesRate rate said.now.name.now said.now.value.now behind) }

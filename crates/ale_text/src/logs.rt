@@ -44,7 +44,7 @@ pub fn read_ale(alloc: Global, bytes: &[u8]) -> Result<MediaList, AleFault>
     Ok(tapes.into_list(alloc)?)
 }
 
-/// The tapes of all lines.
+// The tapes of all lines.
 fn tapes_of(alloc: Global, bytes: &[u8]) -> Result<Tapes, AleFault>
     requires { length bytes.now ≤ most_bytes }
     ensures log { IfOk result (IsOfLog bytes.now) }
@@ -72,7 +72,7 @@ fn tapes_of(alloc: Global, bytes: &[u8]) -> Result<Tapes, AleFault>
     }
 }
 
-/// The tapes of a log that ends before the line of that number, where this is due.
+// The tapes of a log that ends before the line of that number, where this is due.
 fn ended(tapes: Tapes, due: Due, number: u32) -> Result<Tapes, AleFault>
     ensures log { (bytes : List ℕ) → HasEnded bytes number due tapes →
         IfOk result (IsOfLog bytes) }
@@ -85,7 +85,7 @@ fn ended(tapes: Tapes, due: Due, number: u32) -> Result<Tapes, AleFault>
     }
 }
 
-/// Takes the line of that number, where this is due. The value is what is due after it.
+// Takes the line of that number, where this is due. The value is what is due after it.
 fn take_line(
     tapes: &mut Tapes,
     alloc: Global,
@@ -118,7 +118,7 @@ fn take_line(
     }
 }
 
-/// What is due after a line that must be that of this section.
+// What is due after a line that must be that of this section.
 fn due_after_section(line: &[u8], word: &[u8], next: Due, number: u32) -> Result<Due, AleFault>
     ensures due { IfOk result (λ due. IsSection word.now line.now × (due ≡ next)) }
     ensures fault { IfErr result (λ fault. (fault ≡ AleFault.Form number)
@@ -131,7 +131,7 @@ fn due_after_section(line: &[u8], word: &[u8], next: Due, number: u32) -> Result
     }
 }
 
-/// Takes a row of a log of this rate and these columns.
+// Takes a row of a log of this rate and these columns.
 fn take_row(
     tapes: &mut Tapes,
     alloc: Global,

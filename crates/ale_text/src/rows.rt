@@ -20,7 +20,7 @@ pub(crate) struct Take<'a> {
     pub(crate) end: i64,
 }
 
-/// A field as the name of a tape: the name of a reel that doesn't begin with `#`.
+// A field as the name of a tape: the name of a reel that doesn't begin with `#`.
 fn tape_name(field: &[u8]) -> Option<&str>
     ensures { MatchOption result (IsTape field.now → ⊥)
         (λ name. IsTape field.now × (name.now ≡ field.now)) }
@@ -31,7 +31,7 @@ fn tape_name(field: &[u8]) -> Option<&str>
     }
 }
 
-/// Whether one of two fields is empty.
+// Whether one of two fields is empty.
 fn is_one_empty(start: &[u8], end: &[u8]) -> bool
     ensures { IsTrue result ↔ ((start.now ≡ []) ⊎ (end.now ≡ [])) }
 {

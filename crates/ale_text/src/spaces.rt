@@ -27,7 +27,7 @@ pub(crate) fn is_blank_line(line: &[u8]) -> bool
     is_text(trim_blanks(line), b"")
 }
 
-/// Whether a space stands at the front.
+// Whether a space stands at the front.
 fn begins_with_space(text: &[u8]) -> bool
     ensures { result ≡ begins text.now }
 {
@@ -37,7 +37,7 @@ fn begins_with_space(text: &[u8]) -> bool
     }
 }
 
-/// Whether a space stands at the back.
+// Whether a space stands at the back.
 #[tactic(auto, using(crate::proofs::SpaceLemmas::last_byte, crate::proofs::SpaceLemmas::last_none))]
 fn ends_with_space(text: &[u8]) -> bool
     ensures { result ≡ begins (reverse text.now) }
@@ -48,7 +48,7 @@ fn ends_with_space(text: &[u8]) -> bool
     }
 }
 
-/// The text without the spaces at its front.
+// The text without the spaces at its front.
 #[tactic(auto, using(crate::proofs::SpaceLemmas::front_skips, crate::proofs::SpaceLemmas::front_stays))]
 fn trim_front(text: &[u8]) -> &[u8]
     ensures { result.now ≡ spaceless_front text.now }
@@ -60,7 +60,7 @@ fn trim_front(text: &[u8]) -> &[u8]
     rest
 }
 
-/// The text without the spaces at its back.
+// The text without the spaces at its back.
 #[tactic(auto, using(crate::proofs::SpaceLemmas::back_skips, crate::proofs::SpaceLemmas::back_stays))]
 fn trim_back(text: &[u8]) -> &[u8]
     ensures { result.now ≡ reverse (spaceless_front (reverse text.now)) }

@@ -54,7 +54,7 @@ impl Tapes {
         }
     }
 
-    /// Puts the row of a new tape last.
+    // Puts the row of a new tape last.
     fn push(&mut self, alloc: Global, take: Take<'_>, rate: Rate) -> Result<(), AllocError>
         requires kept { IsKept self.old }
         requires small { IsSmallTake take }
@@ -81,7 +81,7 @@ impl Tapes {
     }
 }
 
-/// The row of a tape that has these frames alone.
+// The row of a tape that has these frames alone.
 fn row_of(alloc: Global, take: Take<'_>, rate: Rate) -> Result<MediaRow, AllocError>
     requires small { IsSmallTake take }
     ensures { (taking : Taking) → IsTake take.entry taking →
@@ -98,7 +98,7 @@ fn row_of(alloc: Global, take: Take<'_>, rate: Rate) -> Result<MediaRow, AllocEr
     })
 }
 
-/// The URL of a tape: `tape:` and its name.
+// The URL of a tape: `tape:` and its name.
 fn url_of(alloc: Global, tape: &str) -> Result<Text, AllocError>
     ensures { IfOk result (λ url. url ≡ codes "tape:" ++ tape.now) }
 {
@@ -107,7 +107,7 @@ fn url_of(alloc: Global, tape: &str) -> Result<Text, AllocError>
     Text::of(alloc, url.as_str())
 }
 
-/// Widens the row of a tape to the frames from this first one up to, not including, this end.
+// Widens the row of a tape to the frames from this first one up to, not including, this end.
 fn widen(row: &mut MediaRow, first: i64, end: i64)
     requires row { IsSmallRow row.old }
     requires frames { (taking : Taking) × (first ≡ pos taking.start) × (end ≡ pos taking.end)
@@ -120,14 +120,14 @@ fn widen(row: &mut MediaRow, first: i64, end: i64)
     row.count = last - row.start;
 }
 
-/// The lesser of two numbers.
+// The lesser of two numbers.
 fn lesser(a: i64, b: i64) -> i64
     ensures { (n k : ℕ) → a ≡ pos n → b ≡ pos k → result ≡ pos (min n k) }
 {
     if a <= b { a } else { b }
 }
 
-/// The greater of two numbers.
+// The greater of two numbers.
 fn greater(a: i64, b: i64) -> i64
     ensures { (n k : ℕ) → a ≡ pos n → b ≡ pos k → result ≡ pos (max n k) }
 {

@@ -34,7 +34,7 @@ const MOST_LENGTH: u128 = MOST_TICKS as u128;
 /// A million seconds in millionths of a tick.
 const MOST_END: i128 = MOST_TICKS * 1_000_000;
 
-/// The length of a span, 0 where there is none.
+// The length of a span, 0 where there is none.
 fn span_ticks(span: Option<Span>) -> u128
     ensures { result ≡ soundness.span_ticks span }
 {
@@ -44,7 +44,7 @@ fn span_ticks(span: Option<Span>) -> u128
     }
 }
 
-/// How long the available range is, where a child without a length counts 0.
+// How long the available range is, where a child without a length counts 0.
 fn available_ticks(item: &Item) -> u128
     requires few { count_of item.now < 2 ^ 32 }
     ensures { result ≡ soundness.available_ticks item.now }
@@ -58,7 +58,7 @@ fn available_ticks(item: &Item) -> u128
     }
 }
 
-/// Where so many ticks end in the media, in millionths of a tick.
+// Where so many ticks end in the media, in millionths of a tick.
 fn media_end(start: i128, ticks: u128, speed: i64) -> i128
     requires low { (pos 0 -ℤ pos most_ticks) ≤ℤ start }
     requires high { start ≤ℤ pos most_ticks }
@@ -84,7 +84,7 @@ pub fn media_ticks(ticks: i128, speed: i64) -> i128
     ticks * i128::from(speed)
 }
 
-/// Whether the item, so many ticks long, passes a million seconds.
+// Whether the item, so many ticks long, passes a million seconds.
 fn is_long(item: &Item, ticks: u128, speed: i64) -> bool
     requires few { count_of item.now < 2 ^ 32 }
     requires speed_low { (pos 0 -ℤ pos 1000000000) ≤ℤ speed }
@@ -99,7 +99,7 @@ fn is_long(item: &Item, ticks: u128, speed: i64) -> bool
     !(-MOST_END <= end && end <= MOST_END)
 }
 
-/// The fault of an item that is so many ticks long.
+// The fault of an item that is so many ticks long.
 fn ranged_fault(item: &Item, ticks: u128) -> Option<ItemFault>
     requires few { count_of item.now < 2 ^ 32 }
     ensures { result ≡ soundness.ranged_fault item.now ticks }
@@ -131,7 +131,7 @@ pub fn item_fault(item: &Item) -> Option<ItemFault>
     }
 }
 
-/// What was found, seen from one level up.
+// What was found, seen from one level up.
 fn under(index: usize, found: Found) -> Found
     requires { index < 2 ^ 32 }
     ensures { IsUnder index found result }
@@ -145,8 +145,8 @@ fn under(index: usize, found: Found) -> Found
     }
 }
 
+// Looks for the first fault of an item and those below it.
 #[tactic(auto, using(crate::proofs::JudgingLemmas::sound_with, crate::proofs::JudgingLemmas::sound_alone, crate::proofs::JudgingLemmas::found_with))]
-/// Looks for the first fault of an item and those below it.
 #[cycle(judge)]
 fn judge_item(alloc: Global, item: &Item) -> Result<(), Found>
     requires few { count_of item.now < 2 ^ 32 }
@@ -165,8 +165,8 @@ fn judge_item(alloc: Global, item: &Item) -> Result<(), Found>
     }
 }
 
+// Looks for the first fault of children and those below them.
 #[tactic(auto, using(crate::proofs::JudgingLemmas::sound_next, crate::proofs::JudgingLemmas::sound_all, crate::proofs::JudgingLemmas::found_under, crate::proofs::Members::child_few, crate::proofs::Members::index_few))]
-/// Looks for the first fault of children and those below them.
 #[cycle(judge)]
 fn judge_children(alloc: Global, children: &Children) -> Result<(), Found>
     requires few { count children.now < 2 ^ 32 }
@@ -182,7 +182,7 @@ fn judge_children(alloc: Global, children: &Children) -> Result<(), Found>
     Ok(())
 }
 
-/// The place of these indexes; `None` where memory runs out.
+// The place of these indexes; `None` where memory runs out.
 fn place_of(alloc: Global, way: &[u32]) -> Option<Place>
     ensures { IfSome result (λ place. place ≡ way.now) }
 {
@@ -196,7 +196,7 @@ fn place_of(alloc: Global, way: &[u32]) -> Option<Place>
     Some(place)
 }
 
-/// The fault of an item as that of its timeline.
+// The fault of an item as that of its timeline.
 fn fault_at(place: Place, fault: ItemFault) -> CoordFault
     ensures { result ≡ soundness.fault_at place fault }
 {
@@ -207,7 +207,7 @@ fn fault_at(place: Place, fault: ItemFault) -> CoordFault
     }
 }
 
-/// Whether the timeline begins on a frame of its own rate.
+// Whether the timeline begins on a frame of its own rate.
 fn starts_on_frame(timeline: &Timeline) -> bool
     ensures { IsTrue result ↔ soundness.StartsOnFrame timeline.now }
 {
@@ -243,8 +243,8 @@ pub fn sound(alloc: Global, timeline: &Timeline) -> Result<(), CoordFault>
     }
 }
 
-#[tactic(auto, using(crate::proofs::SpeedProducts::kept_is))]
 /// The speed of an item without a fault, in millionths: by its effects, one after another.
+#[tactic(auto, using(crate::proofs::SpeedProducts::kept_is))]
 pub fn speed(item: &Item) -> i64
     requires { soundness.fault_of item.now ≡ None }
     ensures value { result ≡ speed_of item.now }

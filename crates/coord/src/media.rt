@@ -10,7 +10,7 @@ use otio_model::Clip;
 use sequences::Text;
 use tick_time::Rate;
 
-/// The characters of a string.
+// The characters of a string.
 fn text_in(value: &Json) -> Option<&Text>
     ensures { option_copied result ≡ keys.text_in (out-Json value.now) }
 {
@@ -20,7 +20,7 @@ fn text_in(value: &Json) -> Option<&Text>
     }
 }
 
-/// The value of a member of an object.
+// The value of a member of an object.
 fn member_in<'a>(name: &str, value: &'a Json) -> Option<&'a Json>
     ensures { option_copied result ≡ keys.member_in name.now (out-Json value.now) }
 {

@@ -10,7 +10,7 @@ use crate::media::media_rate;
 use otio_model::{Children, Clip, Item, ItemOf, Timeline};
 use tick_time::{Rate, Span};
 
-/// Where a span starts, else another one, else 0.
+// Where a span starts, else another one, else 0.
 fn start_of(span: Option<Span>, other: Option<Span>) -> i128
     ensures { result ≡ lengths.range_start (option_or (option_map lengths.range_of span)
         (option_map lengths.range_of other)) }
@@ -24,9 +24,9 @@ fn start_of(span: Option<Span>, other: Option<Span>) -> i128
     }
 }
 
-#[tactic(auto, using(crate::proofs::Starts::from_zero_starts))]
 /// Where the trimmed range of an item starts, in ticks of its media or its children: with its
 /// source_range, else with what is available.
+#[tactic(auto, using(crate::proofs::Starts::from_zero_starts))]
 pub fn trimmed_start(item: &Item) -> i128
     ensures { result ≡ lengths.trimmed_start item.now }
 {
@@ -46,7 +46,7 @@ pub(crate) fn rate_24() -> Rate
     Rate { num: 24, den: 1 }
 }
 
-/// The rate of a clip's media, or 24 where it has no range.
+// The rate of a clip's media, or 24 where it has no range.
 fn clip_rate(clip: &Clip) -> Rate
     ensures { frame_rate result ≡ programs.rate_of_clip clip.now }
 {
@@ -56,7 +56,7 @@ fn clip_rate(clip: &Clip) -> Rate
     }
 }
 
-/// The first clip among an item and those below it.
+// The first clip among an item and those below it.
 #[cycle(clip)]
 fn clip_in(item: &Item) -> Option<&Clip>
     ensures { option_copied result ≡ programs.clip_by programs.first_clip item.now }
@@ -69,8 +69,8 @@ fn clip_in(item: &Item) -> Option<&Clip>
     }
 }
 
+// The first clip among children and those below them.
 #[tactic(auto, using(crate::proofs::Clips::clip_first, crate::proofs::Clips::clip_next, crate::proofs::Clips::clip_here, crate::proofs::Clips::clip_end))]
-/// The first clip among children and those below them.
 #[cycle(clip)]
 fn first_clip(children: &Children) -> Option<&Clip>
     ensures { option_copied result ≡ programs.first_clip children.now }

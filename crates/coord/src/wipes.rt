@@ -3,14 +3,14 @@
 ghost use Rattle.std.specs.Prelude.{◌≡◌, ◌-◌, ◌≤◌};
 ghost use Rattle.coord.specs.Images as images;
 
-/// Whether a byte is a digit.
+// Whether a byte is a digit.
 fn is_digit(byte: u8) -> bool
     ensures { result ≡ images.is_digit byte }
 {
     48 <= byte && byte <= 57
 }
 
-/// The value of a digit.
+// The value of a digit.
 fn digit(byte: u8) -> u16
     requires low { 48 ≤ byte }
     requires high { byte ≤ 57 }
@@ -19,7 +19,7 @@ fn digit(byte: u8) -> u16
     u16::from(byte - 48)
 }
 
-/// The number that three digits spell.
+// The number that three digits spell.
 fn three_digits(text: &[u8]) -> Option<u16>
     ensures { result ≡ images.three_digits text.now }
 {

@@ -11,7 +11,7 @@ use otio_model::{Place, RemoveMode};
 use sequences::Text;
 use std::alloc::{AllocError, Global};
 
-/// A text and a number behind it.
+// A text and a number behind it.
 fn numbered(alloc: Global, text: &str, number: u64) -> Result<Text, AllocError>
     ensures { IfOk result (λ made. made ≡ text.now ++ decimal number) }
 {
@@ -22,7 +22,7 @@ fn numbered(alloc: Global, text: &str, number: u64) -> Result<Text, AllocError>
     Text::from_string(alloc, made)
 }
 
-/// The place of the one track.
+// The place of the one track.
 fn track(alloc: Global) -> Result<Place, AllocError>
     ensures { IfOk result (λ place. place ≡ acts.track) }
 {
@@ -32,7 +32,7 @@ fn track(alloc: Global) -> Result<Place, AllocError>
 }
 
 impl Generator {
-    /// A clip of a name and a reel, so many frames long at least.
+    // A clip of a name and a reel, so many frames long at least.
     fn clip(&mut self, name: Text, reel: Text, least: u64) -> Put
         requires { least ≤ 24 }
         ensures clip { result ≡ acts.clip name reel least self.old.state }
@@ -59,7 +59,7 @@ impl Generator {
         Ok(self.clip(name, reel, 24))
     }
 
-    /// The clip that an edit puts in.
+    // The clip that an edit puts in.
     fn new_clip(&mut self, alloc: Global) -> Result<Put, AllocError>
         ensures clip { IfOk result (λ put. put ≡ acts.new_clip self.old.state) }
         ensures state { OnOk result (self.new.state ≡ draws.after 3 self.old.state) }
@@ -70,7 +70,7 @@ impl Generator {
         Ok(self.clip(name, reel, 1))
     }
 
-    /// By how many frames an edit moves something.
+    // By how many frames an edit moves something.
     fn shift(&mut self) -> i64
         ensures shift { result ≡ acts.shift self.old.state }
         ensures state { self.new.state ≡ draws.next self.old.state }
@@ -78,7 +78,7 @@ impl Generator {
         self.draw(21) as i64 - 10
     }
 
-    /// By how many frames an edit moves a head and a tail.
+    // By how many frames an edit moves a head and a tail.
     fn edges(&mut self) -> (i64, i64)
         ensures head { result.0 ≡ acts.shift self.old.state }
         ensures tail { result.1 ≡ acts.shift (draws.next self.old.state) }
@@ -89,7 +89,7 @@ impl Generator {
         (head, tail)
     }
 
-    /// An edit that moves cuts or media, by its kind.
+    // An edit that moves cuts or media, by its kind.
     fn moving(&mut self, kind: u64, place: Place, at: i64) -> Act
         requires { place ≡ acts.track }
         ensures act { result ≡ (acts.moving kind at self.old.state).act }
@@ -125,7 +125,7 @@ impl Generator {
         }
     }
 
-    /// An edit by its kind. An error comes where memory runs out.
+    // An edit by its kind. An error comes where memory runs out.
     fn act_of(&mut self, alloc: Global, kind: u64, at: i64) -> Result<Act, AllocError>
         ensures act { IfOk result (λ act. act ≡ (acts.act_of kind at self.old.state).act) }
         ensures state { OnOk result
@@ -154,7 +154,7 @@ impl Generator {
         Ok(self.moving(kind, place, at))
     }
 
-    /// A frame of the one track, where that is so many frames long, or of the ten behind it.
+    // A frame of the one track, where that is so many frames long, or of the ten behind it.
     fn frame(&mut self, frames: u128) -> i64
         requires { frames < 2 ^ 127 }
         ensures frame { result ≡ pos (draws.draw (frames + 10) self.old.state) }

@@ -12,7 +12,7 @@ use crate::sums::child_sum;
 use otio_model::{Children, Item, ItemOf, Timeline};
 use std::alloc::{AllocError, Global};
 
-/// Whether a root child is a track for pictures.
+// Whether a root child is a track for pictures.
 fn is_video(item: &Item) -> bool
     ensures { result ≡ is_track_of (codes "Video") item.now }
 {
@@ -22,7 +22,7 @@ fn is_video(item: &Item) -> bool
     }
 }
 
-/// The index of the first track for pictures among root children, which is that of channel V.
+// The index of the first track for pictures among root children, which is that of channel V.
 fn video_index(children: &Children) -> Option<usize>
     ensures found { IfSome result (λ index. channel_track channels.V (items_of children.now)
         ≡ slice_get (items_of children.now) index) }

@@ -22,7 +22,7 @@ pub(crate) fn rate_24() -> Rate
     Rate { num: 24, den: 1 }
 }
 
-/// The clip of an index.
+// The clip of an index.
 fn clip(
     alloc: Global,
     media: &MediaList,
@@ -40,7 +40,7 @@ fn clip(
     }
 }
 
-/// So many clips.
+// So many clips.
 fn clips(
     alloc: Global,
     media: &MediaList,

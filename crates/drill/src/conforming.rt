@@ -13,7 +13,7 @@ use media_list::MediaList;
 use otio_model::Timeline;
 use std::alloc::{AllocError, Global};
 
-/// Want of memory, which is all that conforming such a list fails for.
+// Want of memory, which is all that conforming such a list fails for.
 fn want_of_memory(fault: ConformFault) -> AllocError
     requires { fault ≡ ConformFault.Memory }
 {

@@ -17,7 +17,7 @@ use otio_model::Timeline;
 use std::alloc::{AllocError, Global};
 use undo_log::Log;
 
-/// Draws an edit and tries it, and says whether it was accepted.
+// Draws an edit and tries it, and says whether it was accepted.
 fn run_edit(
     alloc: Global,
     timeline: &mut Timeline,
@@ -39,7 +39,7 @@ fn run_edit(
     }
 }
 
-/// One more where an edit was accepted.
+// One more where an edit was accepted.
 fn counted(accepted: u32, done: bool) -> u32
     requires { accepted < 2 ^ 32 - 1 }
     ensures value { result ≡ turns.counted accepted done }

@@ -11,7 +11,7 @@ pub struct Generator {
     pub state: u64,
 }
 
-/// The generator's number behind a draw.
+// The generator's number behind a draw.
 fn next(state: u64) -> u64
     ensures { result ≡ draws.next state }
 {

@@ -12,7 +12,7 @@ use otio_model::Timeline;
 use std::alloc::{AllocError, Global};
 use undo_log::Log;
 
-/// That a command wasn't carried out, unless memory ran out.
+// That a command wasn't carried out, unless memory ran out.
 fn refused(fault: CommandFault) -> Result<bool, AllocError>
     ensures no { IfOk result (λ done. done ≡ false) }
     ensures fault { IfOk result (λ done. fault ≢ CommandFault.Memory) }

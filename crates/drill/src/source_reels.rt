@@ -10,7 +10,7 @@ use std::alloc::{AllocError, Global};
 const LINES: &[u8] = b"R0\t24\t0\t100000\tr0.mov\nR1\t24\t0\t100000\tr1.mov\n\
     R2\t24\t0\t100000\tr2.mov\nR3\t24\t0\t100000\tr3.mov";
 
-/// Want of memory, which is all that reading the lines fails for.
+// Want of memory, which is all that reading the lines fails for.
 fn want_of_memory(fault: MediaFault) -> AllocError
     requires { fault ≡ MediaFault.Memory }
 {

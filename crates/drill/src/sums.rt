@@ -17,7 +17,7 @@ use otio_model::Timeline;
 use show_prog::{Clock, clock_of, show_at};
 use std::alloc::{AllocError, Global};
 
-/// The record frame so many behind another; an error where its number leaves 128 bits.
+// The record frame so many behind another; an error where its number leaves 128 bits.
 fn frame_behind(first: i128, count: u128) -> Result<i128, AllocError>
     ensures { IfOk result (λ frame. frame ≡ first +ℤ pos count) }
 {
@@ -27,7 +27,7 @@ fn frame_behind(first: i128, count: u128) -> Result<i128, AllocError>
     }
 }
 
-/// Two sums added; an error where that leaves 128 bits.
+// Two sums added; an error where that leaves 128 bits.
 fn added(sum: i128, more: i128) -> Result<i128, AllocError>
     ensures { IfOk result (λ all. all ≡ sum +ℤ more) }
 {
@@ -37,7 +37,7 @@ fn added(sum: i128, more: i128) -> Result<i128, AllocError>
     }
 }
 
-/// The numbers that are seen of a root child at a record frame, added up.
+// The numbers that are seen of a root child at a record frame, added up.
 fn sum_at(
     alloc: Global,
     timeline: &Timeline,

@@ -17,7 +17,7 @@ use sequences::{NamedValues, Text};
 use std::alloc::{AllocError, Global};
 use tick_time::Time;
 
-/// Where the timeline begins.
+// Where the timeline begins.
 fn start() -> Time
     ensures { IsFrames finest.rate_24 first_frame result }
 {
@@ -27,7 +27,7 @@ fn start() -> Time
     }
 }
 
-/// A Video track with these items.
+// A Video track with these items.
 fn track(alloc: Global, items: Items) -> Result<Item, AllocError>
     ensures { IfOk result (λ track. track ≡ track_with items) }
 {
@@ -46,7 +46,7 @@ fn track(alloc: Global, items: Items) -> Result<Item, AllocError>
     }))
 }
 
-/// The root stack with this track alone.
+// The root stack with this track alone.
 fn tracks(alloc: Global, track: Item) -> Result<Stack, AllocError>
     ensures { IfOk result (λ tracks. tracks ≡ stack_with track) }
 {

@@ -74,8 +74,8 @@ pub fn drill(alloc: Global, seed: u64, count: u32) -> Result<Drilled, AllocError
     }
 }
 
-/// Draws and tries so many edits of a timeline, makes its list and conforms it, and undoes all
-/// edits.
+// Draws and tries so many edits of a timeline, makes its list and conforms it, and undoes all
+// edits.
 fn go_through(
     alloc: Global,
     timeline: &mut Timeline,
@@ -108,7 +108,7 @@ fn go_through(
     }
 }
 
-/// How many children the first root child has; 0 where there is none.
+// How many children the first root child has; 0 where there is none.
 fn track_children(timeline: &Timeline) -> usize
     ensures { result ≡ told.track_children timeline.now }
 {
@@ -121,8 +121,8 @@ fn track_children(timeline: &Timeline) -> usize
     }
 }
 
-/// What is told of the list of a timeline. The timeline that it conforms to isn't freed: what is
-/// left of a run is little.
+// What is told of the list of a timeline. The timeline that it conforms to isn't freed: what is
+// left of a run is little.
 fn told(alloc: Global, timeline: &Timeline, media: &MediaList) -> Result<Carried, AllocError>
     requires media { media.now ≡ rows }
     requires few { count timeline.now.tracks.children < 2 ^ 32 }
@@ -152,8 +152,8 @@ fn told(alloc: Global, timeline: &Timeline, media: &MediaList) -> Result<Carried
     }
 }
 
-/// The numbers of the source frames that a timeline shows on channel V at the record frames of the
-/// first root child of another one, added up.
+// The numbers of the source frames that a timeline shows on channel V at the record frames of the
+// first root child of another one, added up.
 fn shown_of(alloc: Global, timeline: &Timeline, again: &Timeline) -> Result<i128, AllocError>
     requires few { count timeline.now.tracks.children < 2 ^ 32 }
     requires less { count again.now.tracks.children < 2 ^ 32 }

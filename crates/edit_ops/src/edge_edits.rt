@@ -29,7 +29,7 @@ pub(crate) struct Asked {
     pub edges: EdgeEdit,
 }
 
-/// An edit of edges at a place and an instant.
+// An edit of edges at a place and an instant.
 fn edges_at(place: Place, at: i64, edges: EdgeEdit) -> Asked
     ensures { asked result ≡ edit_of place at edges }
 {

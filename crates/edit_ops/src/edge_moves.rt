@@ -47,7 +47,7 @@ pub(crate) fn in_ticks(frame: i128, count: i64) -> i128
     i128::from(count) * frame
 }
 
-/// The earlier of an instant and where it moves to.
+// The earlier of an instant and where it moves to.
 fn earlier(instant: i128, by: i128) -> i128
     requires low { pos 0 ≤ℤ instant }
     requires high { instant ≤ℤ pos 50000000000000000000000000000000000000 }
@@ -58,7 +58,7 @@ fn earlier(instant: i128, by: i128) -> i128
     instant.min(instant + by)
 }
 
-/// The later of an instant and where it moves to.
+// The later of an instant and where it moves to.
 fn later(instant: i128, by: i128) -> i128
     requires low { pos 0 ≤ℤ instant }
     requires high { instant ≤ℤ pos 50000000000000000000000000000000000000 }
@@ -69,7 +69,7 @@ fn later(instant: i128, by: i128) -> i128
     instant.max(instant + by)
 }
 
-/// The zone from an instant that moves to another one that moves.
+// The zone from an instant that moves to another one that moves.
 fn zone_between(first: i128, first_by: i128, last: i128, last_by: i128) -> Stretch
     requires first_low { pos 0 ≤ℤ first }
     requires first_high { first ≤ℤ pos 50000000000000000000000000000000000000 }
@@ -88,7 +88,7 @@ fn zone_between(first: i128, first_by: i128, last: i128, last_by: i128) -> Stret
     }
 }
 
-/// The end of an item that starts at an instant.
+// The end of an item that starts at an instant.
 fn end_of(start: i128, item: &Item) -> i128
     requires start_low { pos 0 ≤ℤ start }
     requires start_high { start ≤ℤ pos 10000000000000000000000000000000000000 }
@@ -100,7 +100,7 @@ fn end_of(start: i128, item: &Item) -> i128
     start + sound_ticks(item)
 }
 
-/// By how much a ripple makes a track longer.
+// By how much a ripple makes a track longer.
 fn ripple_growth(moves: Moves) -> i128
     requires head { IsMove moves.head }
     requires tail { IsMove moves.tail }
@@ -109,14 +109,14 @@ fn ripple_growth(moves: Moves) -> i128
     moves.tail - moves.head
 }
 
-/// An item as it was.
+// An item as it was.
 fn kept() -> Change
     ensures { result ≡ seats.keep }
 {
     Change::Move { head: 0, tail: 0 }
 }
 
-/// The shape of a slide.
+// The shape of a slide.
 fn slide_shape(by: i128) -> Shape
     ensures { result ≡ seats.slide_shape by }
 {
@@ -129,7 +129,7 @@ fn slide_shape(by: i128) -> Shape
     }
 }
 
-/// The shape of a ripple.
+// The shape of a ripple.
 fn ripple_shape(moves: Moves) -> Shape
     ensures { result ≡ seats.ripple_shape moves.head moves.tail }
 {
@@ -145,7 +145,7 @@ fn ripple_shape(moves: Moves) -> Shape
     }
 }
 
-/// What becomes of a gap that grows, or of another item, which stays.
+// What becomes of a gap that grows, or of another item, which stays.
 fn gap_change(is_gap: bool, by: i128) -> Change
     ensures { result ≡ cond is_gap (Change.Grow by) seats.keep }
 {
@@ -155,7 +155,7 @@ fn gap_change(is_gap: bool, by: i128) -> Change
     kept()
 }
 
-/// How long a new gap is: none comes where one stands there already.
+// How long a new gap is: none comes where one stands there already.
 fn new_gap(is_gap: bool, ticks: i128) -> i128
     ensures { result ≡ cond is_gap (pos 0) ticks }
 {
@@ -165,7 +165,7 @@ fn new_gap(is_gap: bool, ticks: i128) -> i128
     ticks
 }
 
-/// The other way.
+// The other way.
 fn back(by: i128) -> i128
     requires { IsMove by }
     ensures { result ≡ pos 0 -ℤ by }
@@ -173,7 +173,7 @@ fn back(by: i128) -> i128
     0 - by
 }
 
-/// The shape of a trim, where a gap stands before the item or behind it, or none does.
+// The shape of a trim, where a gap stands before the item or behind it, or none does.
 fn trim_shape(before: bool, behind: bool, moves: Moves) -> Shape
     requires { IsMove moves.tail }
     ensures { result ≡ seats.trim_shape before behind moves.head moves.tail }
@@ -190,7 +190,7 @@ fn trim_shape(before: bool, behind: bool, moves: Moves) -> Shape
     }
 }
 
-/// The shape of a roll.
+// The shape of a roll.
 fn roll_shape(moves: Moves) -> Shape
     ensures { result ≡ seats.roll_shape moves.head moves.tail }
 {
@@ -212,7 +212,7 @@ fn roll_shape(moves: Moves) -> Shape
     }
 }
 
-/// By how much a track grows whose item is trimmed: only at its end.
+// By how much a track grows whose item is trimmed: only at its end.
 fn trim_growth(behind: Option<&Item>, tail: i128) -> i128
     ensures { result ≡ trims.trim_growth (option_copied behind.entry) tail }
 {

@@ -45,14 +45,14 @@ struct Found {
     motion: Motion,
 }
 
-/// Whether an edge moves so far beside which nothing stands.
+// Whether an edge moves so far beside which nothing stands.
 fn is_missing(beside: Option<&Item>, by: i64) -> bool
     ensures { result ≡ (not (zeros.is_zero by) && is_none (option_copied beside.entry)) }
 {
     !is_zero(i128::from(by)) && beside.is_none()
 }
 
-/// Whether an edge moves beside which nothing stands.
+// Whether an edge moves beside which nothing stands.
 fn lacks(before: Option<&Item>, head: i64, behind: Option<&Item>, tail: i64) -> bool
     ensures { result ≡ ((not (zeros.is_zero head) && is_none (option_copied before.entry))
         || (not (zeros.is_zero tail) && is_none (option_copied behind.entry))) }
@@ -60,7 +60,7 @@ fn lacks(before: Option<&Item>, head: i64, behind: Option<&Item>, tail: i64) -> 
     is_missing(before, head) || is_missing(behind, tail)
 }
 
-/// What an edit does to the item at a seat; none where nothing stands beside it and has to.
+// What an edit does to the item at a seat; none where nothing stands beside it and has to.
 fn motion_at(children: &Children, frame: i128, seat: Seat, edges: EdgeEdit) -> Option<Motion>
     requires few { tally children.now < 2 ^ 32 }
     requires faultless { AreCuttable (items_of children.now) }
@@ -101,7 +101,7 @@ fn motion_at(children: &Children, frame: i128, seat: Seat, edges: EdgeEdit) -> O
     }
 }
 
-/// The item that an edit asks for, and what the edit does to it.
+// The item that an edit asks for, and what the edit does to it.
 fn seek(children: &Children, frame: i128, at: i64, edges: EdgeEdit) -> Result<Found, EditFault>
     requires few { tally children.now < 2 ^ 32 }
     requires faultless { AreCuttable (items_of children.now) }
@@ -123,7 +123,7 @@ fn seek(children: &Children, frame: i128, at: i64, edges: EdgeEdit) -> Result<Fo
     }
 }
 
-/// What comes in place of an item that slips.
+// What comes in place of an item that slips.
 fn slipped_at(
     alloc: Global,
     children: &Children,
@@ -155,8 +155,8 @@ fn slipped_at(
     }
 }
 
-/// What comes in place of the children that a motion touches. [`RangedFault::Range`] comes only
-/// where a new time is out of range, and [`RangedFault::Memory`] where memory runs out.
+// What comes in place of the children that a motion touches. [`RangedFault::Range`] comes only
+// where a new time is out of range, and [`RangedFault::Memory`] where memory runs out.
 fn middle_of(
     alloc: Global,
     children: &Children,
@@ -185,7 +185,7 @@ fn middle_of(
     }
 }
 
-/// By how much a motion makes a track longer, in ticks.
+// By how much a motion makes a track longer, in ticks.
 fn growth(motion: Motion) -> i128
     ensures { result ≡ growth_of motion }
 {
@@ -195,7 +195,7 @@ fn growth(motion: Motion) -> i128
     }
 }
 
-/// Nothing where the track at a place may grow by so much, else the fault.
+// Nothing where the track at a place may grow by so much, else the fault.
 fn pinned(alloc: Global, timeline: &Timeline, place: &Place, growth: i128) -> Result<(), EditFault>
     ensures free { IfOk result (λ _. pin_at growth place.now timeline.now ≡ None) }
     ensures fault { IfErr result (λ fault. fault ≢ EditFault.Memory
@@ -211,8 +211,8 @@ fn pinned(alloc: Global, timeline: &Timeline, place: &Place, growth: i128) -> Re
     }
 }
 
-/// What an edit puts in place of the children that it touches, where nothing refuses it up to the
-/// result's times.
+// What an edit puts in place of the children that it touches, where nothing refuses it up to the
+// result's times.
 fn planned(
     alloc: Global,
     timeline: &Timeline,
@@ -246,7 +246,7 @@ fn planned(
     }
 }
 
-/// The patch that does an edit in its parts.
+// The patch that does an edit in its parts.
 fn plan_parts_of(
     alloc: Global,
     timeline: &Timeline,

@@ -19,7 +19,7 @@ pub(crate) struct Moment {
     pub(crate) instant: i128,
 }
 
-/// So many frames, in ticks.
+// So many frames, in ticks.
 fn frames(at: i64, frame: i128) -> i128
     requires late { pos 0 ≤ℤ at }
     requires least { pos 1000000 ≤ℤ frame }

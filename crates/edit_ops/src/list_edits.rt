@@ -21,7 +21,7 @@ use otio_model::{Edit, EditFault, FillMode, Item, Patch, Place, RemoveMode, Time
 use std::alloc::Global;
 use tick_time::Rate;
 
-/// The plan of an overwrite at an instant.
+// The plan of an overwrite at an instant.
 fn overwrite_at(
     alloc: Global,
     timeline: &Timeline,
@@ -76,7 +76,7 @@ pub(crate) fn plan_overwrite(
     }
 }
 
-/// The plan of an insert at an instant.
+// The plan of an insert at an instant.
 fn insert_at(
     alloc: Global,
     timeline: &Timeline,
@@ -130,7 +130,7 @@ pub(crate) fn plan_insert(
     }
 }
 
-/// The plan of a slice at an instant.
+// The plan of a slice at an instant.
 fn slice_at(
     alloc: Global,
     timeline: &Timeline,
@@ -183,7 +183,7 @@ pub(crate) fn plan_slice(
     }
 }
 
-/// The plan of a fill of a gap of so many ticks.
+// The plan of a fill of a gap of so many ticks.
 fn fill_gap(
     alloc: Global,
     timeline: &Timeline,
@@ -219,7 +219,7 @@ fn fill_gap(
     }
 }
 
-/// The plan of a fill at an instant.
+// The plan of a fill at an instant.
 fn fill_at(
     alloc: Global,
     timeline: &Timeline,
@@ -289,7 +289,7 @@ pub(crate) fn plan_fill(
     }
 }
 
-/// The plan of a removal of an item of so many ticks.
+// The plan of a removal of an item of so many ticks.
 fn remove_item(
     alloc: Global,
     timeline: &Timeline,
@@ -322,7 +322,7 @@ fn remove_item(
     }
 }
 
-/// The plan of a removal at an instant.
+// The plan of a removal at an instant.
 fn remove_at(
     alloc: Global,
     timeline: &Timeline,

@@ -74,7 +74,7 @@ pub(crate) fn item_filling_ticks(mode: FillMode, item: &Item, room: i128) -> i12
     filling_ticks(mode, item, room)
 }
 
-/// Why an item doesn't fill a gap, as the fault of its edit.
+// Why an item doesn't fill a gap, as the fault of its edit.
 fn told(fault: FillFault) -> EditFault
     ensures { result ≡ zoned.told fault }
 {

@@ -50,7 +50,7 @@ pub(crate) struct Stretch {
     pub to: i128,
 }
 
-/// Whether an item is no transition, so that it takes time.
+// Whether an item is no transition, so that it takes time.
 fn takes_time(item: &Item) -> bool
     ensures { result ≡ not (is_transition item.now) }
 {
@@ -60,8 +60,8 @@ fn takes_time(item: &Item) -> bool
     }
 }
 
+// The index of the last item that is no transition.
 #[tactic(auto, using(crate::proofs::Walks::last_found, crate::proofs::Walks::last_passed))]
-/// The index of the last item that is no transition.
 fn last_index(list: &[Item]) -> Option<usize>
     ensures some { IfSome result (λ index. IsLast list.now index) }
     ensures none { IfNone result (last_item list.now ≡ None) }
@@ -74,8 +74,8 @@ fn last_index(list: &[Item]) -> Option<usize>
     None
 }
 
+// The index of the first item that is no transition.
 #[tactic(auto, using(crate::proofs::Walks::first_found, crate::proofs::Walks::first_passed))]
-/// The index of the first item that is no transition.
 fn first_index(list: &[Item]) -> Option<usize>
     ensures some { IfSome result (λ index. IsFirst list.now index) }
     ensures none { IfNone result (first_item list.now ≡ None) }
@@ -88,7 +88,7 @@ fn first_index(list: &[Item]) -> Option<usize>
     None
 }
 
-/// The list with others in the place of the item at an index.
+// The list with others in the place of the item at an index.
 fn swapped(list: Vec<Item>, index: usize, put: Vec<Item>) -> Result<Vec<Item>, AllocError>
     requires { index < length list.items }
     ensures { IfOk result (λ all. all.items
@@ -103,7 +103,7 @@ fn swapped(list: Vec<Item>, index: usize, put: Vec<Item>) -> Result<Vec<Item>, A
     Ok(all)
 }
 
-/// The list with what becomes of the item at an index.
+// The list with what becomes of the item at an index.
 fn changed_at(
     alloc: Global,
     list: Vec<Item>,
@@ -128,8 +128,8 @@ fn changed_at(
     }
 }
 
+// The list with what becomes of its last item that is no transition.
 #[tactic(auto, using(crate::proofs::PutEdges::last_is, crate::proofs::PutEdges::last_leaves, crate::proofs::PutEdges::last_stays))]
-/// The list with what becomes of its last item that is no transition.
 fn last_made(
     alloc: Global,
     list: Vec<Item>,
@@ -151,8 +151,8 @@ fn last_made(
     }
 }
 
+// The list with what becomes of its first item that is no transition.
 #[tactic(auto, using(crate::proofs::PutEdges::first_is, crate::proofs::PutEdges::first_leaves, crate::proofs::PutEdges::first_stays))]
-/// The list with what becomes of its first item that is no transition.
 fn first_made(
     alloc: Global,
     list: Vec<Item>,
@@ -174,7 +174,7 @@ fn first_made(
     }
 }
 
-/// Five lists in one.
+// Five lists in one.
 fn joined(
     before: Vec<Item>,
     gap_before: Vec<Item>,
@@ -197,7 +197,7 @@ fn joined(
     Ok(before)
 }
 
-/// What becomes of what stands before an item, of the item, and of what stands behind it.
+// What becomes of what stands before an item, of the item, and of what stands behind it.
 fn parts(
     alloc: Global,
     before: Vec<Item>,
@@ -229,7 +229,7 @@ fn parts(
     }
 }
 
-/// A zone as what starts at an instant sees it.
+// A zone as what starts at an instant sees it.
 fn seen_from(zone: Stretch, instant: i128) -> Stretch
     requires from { IsInstant zone.from }
     requires to { IsInstant zone.to }
@@ -244,8 +244,8 @@ fn seen_from(zone: Stretch, instant: i128) -> Stretch
     }
 }
 
-/// Copies of so many children from an index on without the transitions that a zone strips. The zone
-/// is given as they see it.
+// Copies of so many children from an index on without the transitions that a zone strips. The zone
+// is given as they see it.
 fn stretch_of(
     alloc: Global,
     children: &Children,

@@ -35,7 +35,7 @@ pub(crate) enum Change {
     Slip { by: i128 },
 }
 
-/// So many ticks at a speed, in millionths of a tick; none where these pass 128 bits.
+// So many ticks at a speed, in millionths of a tick; none where these pass 128 bits.
 fn media_ticks(ticks: i128, speed: i64) -> Option<i128>
     ensures some { IfSome result (λ n. n ≡ (ticks *ℤ speed)) }
     ensures none { IfNone result (FitsSigned w128 (ticks *ℤ speed) → ⊥) }
@@ -43,7 +43,7 @@ fn media_ticks(ticks: i128, speed: i64) -> Option<i128>
     ticks.checked_mul(i128::from(speed))
 }
 
-/// So many millionths of a tick in whole ticks, rounded down.
+// So many millionths of a tick in whole ticks, rounded down.
 fn whole_ticks(millionths: i128) -> i128
     ensures value { result ≡ int_div_euclid millionths (pos 1000000) }
     ensures low { (pos 0 -ℤ pos 1000000000000000000000000000000000) ≤ℤ result }
@@ -52,7 +52,7 @@ fn whole_ticks(millionths: i128) -> i128
     millionths.div_euclid(1_000_000)
 }
 
-/// The instant so many millionths of a tick behind a start, rounded down.
+// The instant so many millionths of a tick behind a start, rounded down.
 fn instant_behind(start: i128, millionths: i128) -> i128
     requires low { (pos 0 -ℤ pos most_ticks) ≤ℤ start }
     requires high { start ≤ℤ pos most_ticks }
@@ -61,8 +61,8 @@ fn instant_behind(start: i128, millionths: i128) -> i128
     start + whole_ticks(millionths)
 }
 
-/// The instant of its media that an item reaches in so many ticks from its start; none where it
-/// passes 128 bits, so a million seconds.
+// The instant of its media that an item reaches in so many ticks from its start; none where it
+// passes 128 bits, so a million seconds.
 fn media_at(item: &Item, ticks: i128) -> Option<i128>
     requires { IsCuttable item.now }
     ensures some { IfSome result (λ instant. instant
@@ -77,7 +77,7 @@ fn media_at(item: &Item, ticks: i128) -> Option<i128>
     }
 }
 
-/// An equal item.
+// An equal item.
 fn copied(alloc: Global, item: &Item) -> Result<Item, RangedFault>
     ensures made { IfOk result (λ copy. copy ≡ item.now) }
     ensures far { IfErr result (λ fault. fault ≡ RangedFault.Memory) }
@@ -88,7 +88,7 @@ fn copied(alloc: Global, item: &Item) -> Result<Item, RangedFault>
     }
 }
 
-/// How long an item is whose head and tail move.
+// How long an item is whose head and tail move.
 fn moved_ticks(length: i128, head: i128, tail: i128) -> i128
     requires low { pos 0 ≤ℤ length }
     requires high { length ≤ℤ pos most_ticks }
@@ -99,14 +99,14 @@ fn moved_ticks(length: i128, head: i128, tail: i128) -> i128
     length - head + tail
 }
 
-/// Whether neither the head nor the tail moves.
+// Whether neither the head nor the tail moves.
 fn is_still(head: i128, tail: i128) -> bool
     ensures { result ≡ (edges.is_zero head && edges.is_zero tail) }
 {
     is_zero(head) && is_zero(tail)
 }
 
-/// A copy of an item whose head and tail move so far.
+// A copy of an item whose head and tail move so far.
 fn moved(
     alloc: Global,
     item: &Item,
@@ -135,7 +135,7 @@ fn moved(
     }
 }
 
-/// A list of one item.
+// A list of one item.
 fn alone(alloc: Global, item: Item) -> Result<Vec<Item>, RangedFault>
     ensures made { IfOk result (λ list. list.items ≡ item ∷ []) }
     ensures far { IfErr result (λ fault. fault ≡ RangedFault.Memory) }
@@ -151,7 +151,7 @@ fn alone(alloc: Global, item: Item) -> Result<Vec<Item>, RangedFault>
     }
 }
 
-/// How long a gap is that grows by so much.
+// How long a gap is that grows by so much.
 fn grown_ticks(length: i128, by: i128) -> i128
     requires low { pos 0 ≤ℤ length }
     requires high { length ≤ℤ pos most_ticks }
@@ -161,7 +161,7 @@ fn grown_ticks(length: i128, by: i128) -> i128
     length + by
 }
 
-/// A list of a copy of an item with this start and length.
+// A list of a copy of an item with this start and length.
 fn resized(
     alloc: Global,
     item: &Item,
@@ -182,7 +182,7 @@ fn resized(
     }
 }
 
-/// A copy of a gap that is longer by so much; none where nothing is left of it.
+// A copy of a gap that is longer by so much; none where nothing is left of it.
 fn grown(alloc: Global, item: &Item, by: i128, rate: Rate) -> Result<Vec<Item>, RangedFault>
     requires item { IsCuttable item.now }
     requires by { IsMove by }
@@ -202,7 +202,7 @@ fn grown(alloc: Global, item: &Item, by: i128, rate: Rate) -> Result<Vec<Item>, 
     Ok(Vec::new(alloc))
 }
 
-/// Where an item starts that slips so far.
+// Where an item starts that slips so far.
 fn slipped_start(start: i128, by: i128) -> i128
     requires low { (pos 0 -ℤ pos most_ticks) ≤ℤ start }
     requires high { start ≤ℤ pos most_ticks }
@@ -212,14 +212,14 @@ fn slipped_start(start: i128, by: i128) -> i128
     start + by
 }
 
-/// Whether a slip leaves an item as it is.
+// Whether a slip leaves an item as it is.
 fn is_kept(item: &Item, by: i128) -> bool
     ensures { result ≡ (edges.is_zero by || edges.is_gap item.now) }
 {
     is_zero(by) || is_gap(item)
 }
 
-/// A copy of an item whose start moves so far in its media, unless it is a gap.
+// A copy of an item whose start moves so far in its media, unless it is a gap.
 fn slipped(alloc: Global, item: &Item, by: i128, rate: Rate) -> Result<Item, RangedFault>
     requires item { IsCuttable item.now }
     requires by { IsMove by }
@@ -263,7 +263,7 @@ pub(crate) fn changed(
     }
 }
 
-/// A list of a new gap of so many ticks.
+// A list of a new gap of so many ticks.
 fn one_gap(alloc: Global, ticks: i128, rate: Rate) -> Result<Vec<Item>, RangedFault>
     requires { pos 0 ≤ℤ ticks }
     ensures made { IfOk result (λ list. all_made rate (edges.one (children.new_gap ticks))

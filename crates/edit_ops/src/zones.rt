@@ -24,7 +24,7 @@ use pieces::RangedFault;
 use std::alloc::Global;
 use tick_time::Rate;
 
-/// How long children are, one after another, in ticks.
+// How long children are, one after another, in ticks.
 #[tactic(auto, using(crate::proofs::Totals::totals))]
 fn added_ticks(children: &Children) -> u128
     requires few { count children.now < 2 ^ 32 }
@@ -34,7 +34,7 @@ fn added_ticks(children: &Children) -> u128
     children.added_ticks()
 }
 
-/// The same as a signed number.
+// The same as a signed number.
 fn track_ticks(children: &Children) -> i128
     requires few { count children.now < 2 ^ 32 }
     ensures value { result ≡ added (items_of children.now) }
@@ -43,7 +43,7 @@ fn track_ticks(children: &Children) -> i128
     added_ticks(children) as i128
 }
 
-/// How much of a track of so many ticks stands before an instant, in ticks.
+// How much of a track of so many ticks stands before an instant, in ticks.
 #[tactic(auto, using(crate::proofs::Totals::befores))]
 fn ticks_before(total: i128, to: i128) -> i128
     requires total { pos 0 ≤ℤ total }
@@ -54,7 +54,7 @@ fn ticks_before(total: i128, to: i128) -> i128
     if to < total { to } else { total }
 }
 
-/// How much longer a track of so many ticks is with items of so many ticks between two instants.
+// How much longer a track of so many ticks is with items of so many ticks between two instants.
 fn change(total: i128, from: i128, ticks: i128, to: i128) -> i128
     requires total { pos 0 ≤ℤ total }
     requires from_low { pos 0 ≤ℤ from }
@@ -67,8 +67,8 @@ fn change(total: i128, from: i128, ticks: i128, to: i128) -> i128
     from + ticks - ticks_before(total, to)
 }
 
-/// Lets a track be so many ticks longer: its length stays, or something pins it. The fault is
-/// [`EditFault::Unpinned`], and [`EditFault::Memory`] where memory runs out.
+// Lets a track be so many ticks longer: its length stays, or something pins it. The fault is
+// [`EditFault::Unpinned`], and [`EditFault::Memory`] where memory runs out.
 fn pinned(alloc: Global, timeline: &Timeline, place: &Place, more: i128) -> Result<(), EditFault>
     ensures ok { OnOk result (zoned.pin_by more place.now timeline.now ≡ None) }
     ensures fault { IfErr result (λ fault. fault ≢ EditFault.Memory →
@@ -84,9 +84,9 @@ fn pinned(alloc: Global, timeline: &Timeline, place: &Place, more: i128) -> Resu
     }
 }
 
-/// The patch that puts items into a zone of a track, at the record rate. The fault is that of a
-/// result that is too long or of one of too many items, and [`EditFault::Memory`] where memory runs
-/// out. No earlier test refuses the edit.
+// The patch that puts items into a zone of a track, at the record rate. The fault is that of a
+// result that is too long or of one of too many items, and [`EditFault::Memory`] where memory runs
+// out. No earlier test refuses the edit.
 fn put_zone(
     alloc: Global,
     timeline: &Timeline,
@@ -166,7 +166,7 @@ pub(crate) fn plan_zone(
     }
 }
 
-/// Whether children can be cut at two instants.
+// Whether children can be cut at two instants.
 fn can_be_cut_twice(children: &Children, from: i128, to: i128) -> bool
     requires few { count children.now < 2 ^ 32 }
     requires faultless { AreCuttable (items_of children.now) }
@@ -178,7 +178,7 @@ fn can_be_cut_twice(children: &Children, from: i128, to: i128) -> bool
     can_be_cut(children, from) && can_be_cut(children, to)
 }
 
-/// Whether children can be cut at both ends of a zone, without the transitions that it strips.
+// Whether children can be cut at both ends of a zone, without the transitions that it strips.
 #[tactic(auto, using(crate::proofs::Stripping::ends_whole))]
 fn can_cut_ends(children: &Children, from: i128, to: i128) -> bool
     requires few { count children.now < 2 ^ 32 }

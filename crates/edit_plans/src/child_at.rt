@@ -16,14 +16,14 @@ ghost use Rattle.edit_plans.specs.Way.{AreShort, IsBefore, IsBehind, IsNear};
 
 use otio_model::{Children, Item, ItemOf, Seat};
 
-/// Whether an item is a transition.
+// Whether an item is a transition.
 fn is_transition(item: &Item) -> bool
     ensures { result ≡ trees.is_transition item.now }
 {
     matches!(item, ItemOf::Transition(_))
 }
 
-/// The last child before an index that isn't a transition.
+// The last child before an index that isn't a transition.
 fn child_before(children: &Children, end: usize) -> Option<usize>
     requires { end ≤ length (items_of children.now) }
     ensures { IsBefore children.now end result }
@@ -36,7 +36,7 @@ fn child_before(children: &Children, end: usize) -> Option<usize>
     None
 }
 
-/// The first child from an index on that isn't a transition.
+// The first child from an index on that isn't a transition.
 fn child_behind(children: &Children, from: usize) -> Option<usize>
     requires { from ≤ length (items_of children.now) }
     ensures { IsBehind children.now from result }
@@ -49,7 +49,7 @@ fn child_behind(children: &Children, from: usize) -> Option<usize>
     None
 }
 
-/// Whether the index that was found is this one.
+// Whether the index that was found is this one.
 fn is_index(found: Option<usize>, index: usize) -> bool
     ensures { result ≡ way.is_index found index }
 {
@@ -77,7 +77,7 @@ pub(crate) fn ticks_of(item: &Item) -> i128
     item.length_or_zero()
 }
 
-/// An instant as seen from a start.
+// An instant as seen from a start.
 fn since(start: i128, at: i128) -> i128
     requires { AreShort start at }
     ensures value { result ≡ at -ℤ start }
@@ -88,7 +88,7 @@ fn since(start: i128, at: i128) -> i128
     at - start
 }
 
-/// An instant as seen from a start that lies a length before the one it was seen from.
+// An instant as seen from a start that lies a length before the one it was seen from.
 fn later(ticks: i128, length: i128) -> i128
     requires low { (pos 0 -ℤ pos most_ticks) ≤ℤ ticks }
     requires high { ticks ≤ℤ pos most_ticks }
@@ -100,8 +100,8 @@ fn later(ticks: i128, length: i128) -> i128
     ticks + length
 }
 
-/// The instant in a child of a track, where the first overlap that holds the track's instant has
-/// this cut; `None` exactly where the child is no side of it.
+// The instant in a child of a track, where the first overlap that holds the track's instant has
+// this cut; `None` exactly where the child is no side of it.
 fn in_side(children: &Children, cut: Seat, index: usize, at: i128) -> Option<i128>
     requires few { count children.now < 2 ^ 32 }
     requires sound { AreFaultless children.now }
@@ -126,8 +126,8 @@ fn in_side(children: &Children, cut: Seat, index: usize, at: i128) -> Option<i12
     None
 }
 
-/// The instant in a child of a track, where no overlap holds the track's instant; `None` exactly
-/// where another child holds it.
+// The instant in a child of a track, where no overlap holds the track's instant; `None` exactly
+// where another child holds it.
 fn in_holder(children: &Children, held: Seat, index: usize, at: i128) -> Option<i128>
     requires fits { added (lengths children.now) ≤ most_ticks }
     requires held { IsSeat children.now at held }

@@ -5,7 +5,7 @@ ghost use Rattle.std.specs.Int.{int_div_euclid, int_max};
 ghost use Rattle.edits.specs.Edges as edges;
 ghost use Rattle.edit_plans.specs.Bounds.{IsMove};
 
-/// How many whole frames of so many ticks there are.
+// How many whole frames of so many ticks there are.
 fn frame_count(frame: i128, ticks: i128) -> i128
     requires frame { pos 1 ≤ℤ frame }
     requires low { pos 0 ≤ℤ ticks }
@@ -56,7 +56,7 @@ pub fn lesser(a: Option<i128>, b: Option<i128>) -> Option<i128>
     }
 }
 
-/// The number held from the negative of a number on.
+// The number held from the negative of a number on.
 fn held_from(least: i128, number: i128) -> i128
     requires least { pos 0 ≤ℤ least }
     requires number { IsMove number }
@@ -66,7 +66,7 @@ fn held_from(least: i128, number: i128) -> i128
     number.max(0 - least)
 }
 
-/// The number held from the negative of a limit on.
+// The number held from the negative of a limit on.
 fn at_least(limit: Option<i128>, number: i128) -> i128
     requires least { IfSome limit (λ least. pos 0 ≤ℤ least) }
     requires number { IsMove number }
@@ -79,7 +79,7 @@ fn at_least(limit: Option<i128>, number: i128) -> i128
     }
 }
 
-/// The number held up to a limit.
+// The number held up to a limit.
 fn at_most(limit: Option<i128>, number: i128) -> i128
     requires most { IfSome limit (λ most. pos 0 ≤ℤ most) }
     requires number { IsMove number }

@@ -12,7 +12,7 @@ use crate::child_at::{is_within, ticks_of};
 use crate::items::{child_of, in_child, inner, is_open};
 use otio_model::{Item, ItemOf, Place, Timeline};
 
-/// The kind of a root child: of a track its own, else video.
+// The kind of a root child: of a track its own, else video.
 fn root_kind(item: &Item) -> &str
     ensures { result.now ≡ programs.kind_of item.now }
 {
@@ -22,8 +22,8 @@ fn root_kind(item: &Item) -> &str
     }
 }
 
-/// The instant that an item's instant reaches in the composition at what is left of a place from a
-/// level on.
+// The instant that an item's instant reaches in the composition at what is left of a place from a
+// level on.
 fn down_from(item: &Item, kind: &str, place: &Place, level: usize, ticks: i128) -> Option<i128>
     requires few { count_of item.now < 2 ^ 32 }
     requires deep { level + count_of item.now ≤ 2 ^ 32 }
@@ -48,7 +48,7 @@ fn down_from(item: &Item, kind: &str, place: &Place, level: usize, ticks: i128) 
     }
 }
 
-/// The same from a root child; `None` also where the instant lies outside it.
+// The same from a root child; `None` also where the instant lies outside it.
 fn down_in(item: &Item, place: &Place, ticks: i128) -> Option<i128>
     requires few { count_of item.now < 2 ^ 32 }
     requires sound { IsFaultlessItem item.now }

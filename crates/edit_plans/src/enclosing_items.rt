@@ -26,7 +26,7 @@ const MOST_LENGTH: u128 = MOST_TICKS as u128;
 /// A million seconds in millionths of a tick.
 const MOST_END: i128 = MOST_TICKS * 1_000_000;
 
-/// Whether an item is too long.
+// Whether an item is too long.
 fn is_long_item(item: &Item) -> bool
     requires { count_of item.now < 2 ^ 32 }
     ensures { result ≡ ways.is_long_fault (fault_of item.now) }
@@ -51,7 +51,7 @@ pub(crate) fn has_long(list: &[Item]) -> bool
     false
 }
 
-/// How long an item is in which so much is available.
+// How long an item is in which so much is available.
 fn ticks_with(item: &Item, available: u128) -> u128
     ensures { result ≡ ways.ticks_with item.now available }
 {
@@ -61,7 +61,7 @@ fn ticks_with(item: &Item, available: u128) -> u128
     }
 }
 
-/// How far so many ticks go at a speed, in millionths of a tick.
+// How far so many ticks go at a speed, in millionths of a tick.
 fn played_ticks(ticks: u128, speed: i64) -> i128
     requires ticks { ticks ≤ most_ticks }
     requires speed { IsSpeed speed }
@@ -72,7 +72,7 @@ fn played_ticks(ticks: u128, speed: i64) -> i128
     ticks as i128 * i128::from(speed)
 }
 
-/// Where what goes so far ends, in millionths of a tick, from a start in ticks.
+// Where what goes so far ends, in millionths of a tick, from a start in ticks.
 fn end_from(start: i128, played: i128) -> i128
     requires start_low { (pos 0 -ℤ pos most_ticks) ≤ℤ start }
     requires start_high { start ≤ℤ pos most_ticks }
@@ -83,7 +83,7 @@ fn end_from(start: i128, played: i128) -> i128
     start * 1_000_000 + played
 }
 
-/// Where so many ticks of an item end in its media or its children, in millionths of a tick.
+// Where so many ticks of an item end in its media or its children, in millionths of a tick.
 #[tactic(auto, using(pieces::proofs::Faultless::starts_near))]
 fn media_end(item: &Item, ticks: u128) -> i128
     requires sound { fault_of item.now ≡ None }
@@ -93,7 +93,7 @@ fn media_end(item: &Item, ticks: u128) -> i128
     end_from(trimmed_start(item), played_ticks(ticks, speed(item)))
 }
 
-/// Whether an item so long, in which so much is available, passes a million seconds.
+// Whether an item so long, in which so much is available, passes a million seconds.
 fn is_long_with(item: &Item, available: u128, ticks: u128) -> bool
     requires { fault_of item.now ≡ None }
     ensures { result ≡ ways.is_long_with item.now available ticks }
@@ -105,7 +105,7 @@ fn is_long_with(item: &Item, available: u128, ticks: u128) -> bool
     !(-MOST_END <= end && end <= MOST_END)
 }
 
-/// How long an item is in which so much is available; `None` where it is too long.
+// How long an item is in which so much is available; `None` where it is too long.
 fn short_ticks(item: &Item, available: u128) -> Option<u128>
     requires { fault_of item.now ≡ None }
     ensures ticks { result ≡ ways.short_ticks item.now available }
@@ -119,7 +119,7 @@ fn short_ticks(item: &Item, available: u128) -> Option<u128>
     }
 }
 
-/// The lengths of children added up, where that of one of them is another.
+// The lengths of children added up, where that of one of them is another.
 #[tactic(auto, using(crate::proofs::WayLemmas::sum_is))]
 fn sum_with(children: &Children, index: usize, ticks: u128) -> u128
     requires few { count children.now < 2 ^ 32 }
@@ -131,7 +131,7 @@ fn sum_with(children: &Children, index: usize, ticks: u128) -> u128
     children.added_ticks() - old + ticks
 }
 
-/// The length of a child, or the other one where it is at the index.
+// The length of a child, or the other one where it is at the index.
 #[tactic(auto, using(crate::proofs::WayLemmas::other_here, crate::proofs::WayLemmas::own_there))]
 fn ticks_or(children: &Children, at: usize, index: usize, ticks: u128) -> u128
     requires few { count children.now < 2 ^ 32 }
@@ -145,14 +145,14 @@ fn ticks_or(children: &Children, at: usize, index: usize, ticks: u128) -> u128
     }
 }
 
-/// The greater of two numbers.
+// The greater of two numbers.
 fn greater(one: u128, other: u128) -> u128
     ensures { result ≡ max one other }
 {
     if one < other { other } else { one }
 }
 
-/// The greatest length of children, where that of one of them is another.
+// The greatest length of children, where that of one of them is another.
 #[tactic(auto, using(crate::proofs::WayLemmas::longest_next, crate::proofs::WayLemmas::longest_all))]
 fn longest_with(children: &Children, index: usize, ticks: u128) -> u128
     requires few { count children.now < 2 ^ 32 }
@@ -166,7 +166,7 @@ fn longest_with(children: &Children, index: usize, ticks: u128) -> u128
     longest
 }
 
-/// How much is available in a composition whose child at the index is so long.
+// How much is available in a composition whose child at the index is so long.
 fn available_with(item: &Item, index: usize, ticks: u128) -> u128
     requires few { count_of item.now < 2 ^ 32 }
     requires there { IfSome (children_of item.now) (λ l. index < length (items_of l)) }
@@ -180,8 +180,8 @@ fn available_with(item: &Item, index: usize, ticks: u128) -> u128
     }
 }
 
-/// How long an item is once the children of the track to which the rest of the place leads are so
-/// long together; `None` where it is too long, or one on the way.
+// How long an item is once the children of the track to which the rest of the place leads are so
+// long together; `None` where it is too long, or one on the way.
 fn way_ticks(item: &Item, place: &Place, depth: usize, sum: u128) -> Option<u128>
     requires few { count_of item.now < 2 ^ 32 }
     requires sound { IsFaultlessItem item.now }

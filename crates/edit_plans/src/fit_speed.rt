@@ -23,7 +23,7 @@ pub(crate) fn edit_speed(item: &Item) -> i64
     }
 }
 
-/// A quotient as a whole number, rounded half to even.
+// A quotient as a whole number, rounded half to even.
 fn half_even(dividend: u128, divisor: u128) -> u128
     requires divisor { 1 ≤ divisor }
     requires small { divisor ≤ 1000000000000000000000000000000 }

@@ -52,7 +52,7 @@ pub fn filling_ticks(mode: FillMode, item: &Item, room: i128) -> i128
     }
 }
 
-/// Whether an item can be cut at so many ticks from its start.
+// Whether an item can be cut at so many ticks from its start.
 fn is_whole_at(item: &Item, ticks: i128) -> bool
     requires item { IsEditItem item.now }
     requires low { pos 0 ≤ℤ ticks }
@@ -62,7 +62,7 @@ fn is_whole_at(item: &Item, ticks: i128) -> bool
     is_whole(ticks, edit_speed(item))
 }
 
-/// A copy of an item of this length, in ticks, that starts where it is told.
+// A copy of an item of this length, in ticks, that starts where it is told.
 fn sized(alloc: Global, item: &Item, start: i128, len: i128, rate: Rate) -> Result<Item, AllocError>
     requires start_low { (pos 0 -ℤ pos most_ticks) ≤ℤ start }
     requires start_high { start ≤ℤ pos most_ticks }
@@ -80,8 +80,8 @@ fn sized(alloc: Global, item: &Item, start: i128, len: i128, rate: Rate) -> Resu
     }
 }
 
-/// The item, or the piece of it that fills a gap where it is longer. [`FillFault::Phase`] comes
-/// where it can't be cut.
+// The item, or the piece of it that fills a gap where it is longer. [`FillFault::Phase`] comes
+// where it can't be cut.
 fn cut_to(alloc: Global, item: Item, room: i128, rate: Rate) -> Result<Item, FillFault>
     requires item { IsEditItem item }
     requires short { IsShort item }
@@ -107,7 +107,7 @@ fn cut_to(alloc: Global, item: Item, room: i128, rate: Rate) -> Result<Item, Fil
     }
 }
 
-/// Whether an item stands still, or passes 1000 times its speed on the way.
+// Whether an item stands still, or passes 1000 times its speed on the way.
 #[tactic(auto, using(crate::proofs::FitLemmas::still))]
 fn stands_still(item: &Item) -> bool
     ensures { result ≡ filled.stands_still item.now }
@@ -118,8 +118,8 @@ fn stands_still(item: &Item) -> bool
     }
 }
 
-/// The item where it moves. [`FillFault::Speed`] comes where it stands still, or where its speed
-/// passes 1000 times.
+// The item where it moves. [`FillFault::Speed`] comes where it stands still, or where its speed
+// passes 1000 times.
 fn moving(item: Item) -> Result<Item, FillFault>
     ensures same { IfOk result (λ made. made ≡ item) }
     ensures moves { IfOk result (λ _. filled.stands_still item ≡ false) }
@@ -133,8 +133,8 @@ fn moving(item: Item) -> Result<Item, FillFault>
     Ok(item)
 }
 
-/// The item with a last change of speed by which it is as long as the gap. [`FillFault::Speed`]
-/// comes where there is no such speed.
+// The item with a last change of speed by which it is as long as the gap. [`FillFault::Speed`]
+// comes where there is no such speed.
 fn fitted(alloc: Global, item: Item, room: i128) -> Result<Item, FillFault>
     requires item { IsEditItem item }
     requires short { IsShort item }
@@ -159,7 +159,7 @@ fn fitted(alloc: Global, item: Item, room: i128) -> Result<Item, FillFault>
     }
 }
 
-/// The item at the speed at which it is as long as the gap.
+// The item at the speed at which it is as long as the gap.
 fn fit_to(alloc: Global, item: Item, room: i128, rate: Rate) -> Result<Item, FillFault>
     requires item { IsEditItem item }
     requires short { IsShort item }

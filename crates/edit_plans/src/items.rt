@@ -19,7 +19,7 @@ use crate::child_at::{in_stack, in_track};
 use coord::{speed, trimmed_start};
 use otio_model::{Item, ItemOf};
 
-/// How far the children go in so many ticks at a speed in millionths.
+// How far the children go in so many ticks at a speed in millionths.
 fn played(speed: i64, ticks: i128) -> i128
     requires speed_low { (pos 0 -ℤ pos 1000000000) ≤ℤ speed }
     requires speed_high { speed ≤ℤ pos 1000000000 }
@@ -32,8 +32,8 @@ fn played(speed: i64, ticks: i128) -> i128
     (ticks * i128::from(speed)).div_euclid(1_000_000)
 }
 
+// Where the trimmed range of an item starts.
 #[tactic(auto, using(crate::proofs::Bounds::starts_near))]
-/// Where the trimmed range of an item starts.
 fn start_of(item: &Item) -> i128
     ensures value { result ≡ ranges.trimmed_start item.now }
     ensures low { (pos 0 -ℤ pos most_ticks) ≤ℤ result }
@@ -51,7 +51,7 @@ pub(crate) fn inner(item: &Item, ticks: i128) -> i128
     start_of(item) + played(speed(item), ticks)
 }
 
-/// Whether two kinds of track are the same.
+// Whether two kinds of track are the same.
 fn is_kind(own: &str, kind: &str) -> bool
     ensures { result ≡ bytes_eq own.now kind.now }
 {

@@ -22,8 +22,8 @@ pub(crate) struct Room {
     pub behind: i128,
 }
 
-/// How far before its start media are reached that so many millionths of a tick play, in whole
-/// ticks, rounded down: a negative number, or 0.
+// How far before its start media are reached that so many millionths of a tick play, in whole
+// ticks, rounded down: a negative number, or 0.
 fn reach_back(millionths: i128) -> i128
     requires least { (pos 0 -ℤ pos 1000000000000000000000000000000000) ≤ℤ millionths }
     requires most { millionths ≤ℤ pos 1000000000000000000000000000000000 }
@@ -34,8 +34,8 @@ fn reach_back(millionths: i128) -> i128
     0.min(millionths).div_euclid(1_000_000)
 }
 
-/// What of media lies before what is reached so far before an instant; negative where it begins
-/// later.
+// What of media lies before what is reached so far before an instant; negative where it begins
+// later.
 fn media_before(start: i128, instant: i128, reached: i128) -> i128
     requires start_low { (pos 0 -ℤ pos most_ticks) ≤ℤ start }
     requires start_high { start ≤ℤ pos most_ticks }
@@ -49,8 +49,8 @@ fn media_before(start: i128, instant: i128, reached: i128) -> i128
     instant + reached - start
 }
 
-/// What of media that end at an instant lies behind what is reached so far behind an instant;
-/// negative where they end earlier.
+// What of media that end at an instant lies behind what is reached so far behind an instant;
+// negative where they end earlier.
 fn media_behind(end: i128, instant: i128, reached: i128) -> i128
     requires end_low { (pos 0 -ℤ pos 2000000000000000000000000) ≤ℤ end }
     requires end_high { end ≤ℤ pos 2000000000000000000000000 }
@@ -64,7 +64,7 @@ fn media_behind(end: i128, instant: i128, reached: i128) -> i128
     end - instant + reached
 }
 
-/// Where media end.
+// Where media end.
 fn end_of(media: Span) -> i128
     ensures value { result ≡ (media.start.ticks +ℤ media.len.ticks) }
     ensures low { (pos 0 -ℤ pos 2000000000000000000000000) ≤ℤ result }
@@ -73,7 +73,7 @@ fn end_of(media: Span) -> i128
     media.end_ticks()
 }
 
-/// So much media, and 0 where that is negative.
+// So much media, and 0 where that is negative.
 fn at_least_none(media: i128) -> i128
     requires { media ≤ℤ pos 10000000000000000000000000 }
     ensures value { result ≡ int_max (pos 0) media }
@@ -82,7 +82,7 @@ fn at_least_none(media: i128) -> i128
     0.max(media)
 }
 
-/// The other way.
+// The other way.
 fn back(millionths: i128) -> i128
     requires least { (pos 0 -ℤ pos 1000000000000000000000000000000000) ≤ℤ millionths }
     requires most { millionths ≤ℤ pos 1000000000000000000000000000000000 }
@@ -93,7 +93,7 @@ fn back(millionths: i128) -> i128
     0 - millionths
 }
 
-/// What of media lies before what so many millionths of a tick play from a start.
+// What of media lies before what so many millionths of a tick play from a start.
 fn room_before(media: Span, start: i128, millionths: i128) -> i128
     requires start_low { (pos 0 -ℤ pos most_ticks) ≤ℤ start }
     requires start_high { start ≤ℤ pos most_ticks }
@@ -106,7 +106,7 @@ fn room_before(media: Span, start: i128, millionths: i128) -> i128
     at_least_none(media_before(media.start.ticks, start, reach_back(millionths)))
 }
 
-/// What of media lies behind it.
+// What of media lies behind it.
 fn room_behind(media: Span, start: i128, millionths: i128) -> i128
     requires start_low { (pos 0 -ℤ pos most_ticks) ≤ℤ start }
     requires start_high { start ≤ℤ pos most_ticks }
@@ -120,7 +120,7 @@ fn room_behind(media: Span, start: i128, millionths: i128) -> i128
     at_least_none(media_behind(end_of(media), start, reach_back(back(millionths))))
 }
 
-/// The unused media round so many ticks of a clip from a start, at a speed.
+// The unused media round so many ticks of a clip from a start, at a speed.
 fn room_in(media: Span, start: i128, ticks: i128, speed: i64) -> Room
     requires start_low { (pos 0 -ℤ pos most_ticks) ≤ℤ start }
     requires start_high { start ≤ℤ pos most_ticks }
@@ -156,7 +156,7 @@ pub(crate) fn media_room(item: &Item) -> Option<Room>
     }
 }
 
-/// How far so much media goes at a speed, in ticks of the item.
+// How far so much media goes at a speed, in ticks of the item.
 fn played(media: i128, speed: i128) -> i128
     requires media { IsRoom media }
     requires speed { pos 1 ≤ℤ speed }
@@ -165,8 +165,8 @@ fn played(media: i128, speed: i128) -> i128
     (media * 1_000_000).div_euclid(speed)
 }
 
-/// How far an edge can be moved outward, where so much media lies there that is played forward, and
-/// so much that is played backwards; none at speed 0, where there is no limit.
+// How far an edge can be moved outward, where so much media lies there that is played forward, and
+// so much that is played backwards; none at speed 0, where there is no limit.
 fn room_at(speed: i64, forward: i128, backward: i128) -> Option<i128>
     requires speed_low { (pos 0 -ℤ pos 1000000000) ≤ℤ speed }
     requires forward { IsRoom forward }
@@ -183,7 +183,7 @@ fn room_at(speed: i64, forward: i128, backward: i128) -> Option<i128>
     None
 }
 
-/// How far the head of an item can be moved outward; none where there is no limit.
+// How far the head of an item can be moved outward; none where there is no limit.
 fn head_room(item: &Item) -> Option<i128>
     requires { IsCuttable item.now }
     ensures { result ≡ edges.head_room item.now }
@@ -194,7 +194,7 @@ fn head_room(item: &Item) -> Option<i128>
     }
 }
 
-/// How far the tail of an item can be moved outward; none where there is no limit.
+// How far the tail of an item can be moved outward; none where there is no limit.
 fn tail_room(item: &Item) -> Option<i128>
     requires { IsCuttable item.now }
     ensures { result ≡ edges.tail_room item.now }

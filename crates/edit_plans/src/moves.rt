@@ -24,7 +24,7 @@ pub struct Moves {
     pub tail: i128,
 }
 
-/// How far a slip goes in so much unused media, in whole frames.
+// How far a slip goes in so much unused media, in whole frames.
 fn slip_in(frame: i128, room: Room, by: i128) -> i128
     requires frame { pos 1 ≤ℤ frame }
     requires before { IsRoom room.before }
@@ -57,7 +57,7 @@ pub fn slip_by(frame: i128, item: &Item, by: i128) -> i128
     }
 }
 
-/// The whole frames of so many ticks that can go, so that a tick or more is left.
+// The whole frames of so many ticks that can go, so that a tick or more is left.
 fn spare_of(frame: i128, length: i128) -> i128
     requires frame { pos 1 ≤ℤ frame }
     requires low { (pos 0 -ℤ pos 100000000000000000000000000000000000000) ≤ℤ length }
@@ -67,7 +67,7 @@ fn spare_of(frame: i128, length: i128) -> i128
     whole_frames(frame, length - 1)
 }
 
-/// The whole frames of an item that can go, so that a tick or more is left.
+// The whole frames of an item that can go, so that a tick or more is left.
 fn spare(frame: i128, item: &Item) -> i128
     requires frame { pos 1 ≤ℤ frame }
     requires item { IsCuttable item.now }
@@ -77,7 +77,7 @@ fn spare(frame: i128, item: &Item) -> i128
     spare_of(frame, sound_ticks(item))
 }
 
-/// What is left of an item of so many ticks whose head moves.
+// What is left of an item of so many ticks whose head moves.
 fn behind_head(length: i128, head: i128) -> i128
     requires low { pos 0 ≤ℤ length }
     requires high { length ≤ℤ pos most_ticks }
@@ -88,7 +88,7 @@ fn behind_head(length: i128, head: i128) -> i128
     length - head
 }
 
-/// The whole frames of an item whose head moves that can go, so that a tick or more is left.
+// The whole frames of an item whose head moves that can go, so that a tick or more is left.
 fn spare_behind(frame: i128, item: &Item, head: i128) -> i128
     requires frame { pos 1 ≤ℤ frame }
     requires item { IsCuttable item.now }
@@ -112,7 +112,7 @@ pub fn slide_by(frame: i128, before: &Item, by: i128) -> i128
     clamped(Some(spare(frame, before)), tail_limit(frame, before), by)
 }
 
-/// How far a ripple moves the head of an item.
+// How far a ripple moves the head of an item.
 fn ripple_head(frame: i128, item: &Item, by: i128) -> i128
     requires frame { pos 1 ≤ℤ frame }
     requires item { IsCuttable item.now }
@@ -124,7 +124,7 @@ fn ripple_head(frame: i128, item: &Item, by: i128) -> i128
     clamped(head_limit(frame, item), Some(spare(frame, item)), by)
 }
 
-/// How far a ripple moves the tail of an item whose head moves.
+// How far a ripple moves the tail of an item whose head moves.
 fn ripple_tail(frame: i128, item: &Item, head: i128, by: i128) -> i128
     requires frame { pos 1 ≤ℤ frame }
     requires item { IsCuttable item.now }
@@ -159,7 +159,7 @@ pub fn ripple_by(frame: i128, item: &Item, by: Moves) -> Moves
     Moves { head, tail }
 }
 
-/// How long an item is that is a gap, and 0 of another one.
+// How long an item is that is a gap, and 0 of another one.
 fn gap_ticks(item: &Item) -> i128
     requires { IsCuttable item.now }
     ensures value { result ≡ edges.gap_ticks item.now }
@@ -171,7 +171,7 @@ fn gap_ticks(item: &Item) -> i128
     }
 }
 
-/// How long the gap before an item is, where this stands before it.
+// How long the gap before an item is, where this stands before it.
 fn gap_before(before: Option<&Item>) -> i128
     requires { IfSome (option_copied before) IsCuttable }
     ensures { result ≡ gap_of_before (option_copied before.entry) }
@@ -182,7 +182,7 @@ fn gap_before(before: Option<&Item>) -> i128
     }
 }
 
-/// How long the gap behind an item is, where this stands behind it; none at the end of the track.
+// How long the gap behind an item is, where this stands behind it; none at the end of the track.
 fn gap_behind(behind: Option<&Item>) -> Option<i128>
     requires { IfSome (option_copied behind) IsCuttable }
     ensures { result ≡ option_map edges.gap_ticks (option_copied behind.entry) }
@@ -193,7 +193,7 @@ fn gap_behind(behind: Option<&Item>) -> Option<i128>
     }
 }
 
-/// How far a trim moves the head of an item, where this stands before it.
+// How far a trim moves the head of an item, where this stands before it.
 fn trim_head(frame: i128, before: Option<&Item>, item: &Item, by: i128) -> i128
     requires frame { pos 1 ≤ℤ frame }
     requires before { IfSome (option_copied before) IsCuttable }
@@ -213,7 +213,7 @@ fn trim_head(frame: i128, before: Option<&Item>, item: &Item, by: i128) -> i128
     )
 }
 
-/// How far a trim moves the tail of an item whose head moves, where this stands behind it.
+// How far a trim moves the tail of an item whose head moves, where this stands behind it.
 fn trim_tail(frame: i128, item: &Item, head: i128, behind: Option<&Item>, by: i128) -> i128
     requires frame { pos 1 ≤ℤ frame }
     requires item { IsCuttable item.now }
@@ -263,8 +263,8 @@ pub fn trim_by(
     Moves { head, tail }
 }
 
-/// How far the cut between two items moves that is asked to move so far: each keeps a tick or more,
-/// and no edge goes further than its unused media.
+// How far the cut between two items moves that is asked to move so far: each keeps a tick or more,
+// and no edge goes further than its unused media.
 fn cut_before(frame: i128, before: &Item, item: &Item, by: i128) -> i128
     requires frame { pos 1 ≤ℤ frame }
     requires before { IsCuttable before.now }
@@ -282,7 +282,7 @@ fn cut_before(frame: i128, before: &Item, item: &Item, by: i128) -> i128
     clamped(earlier, later, by)
 }
 
-/// The same of the cut behind an item whose head moves.
+// The same of the cut behind an item whose head moves.
 fn cut_behind(frame: i128, item: &Item, head: i128, behind: &Item, by: i128) -> i128
     requires frame { pos 1 ≤ℤ frame }
     requires item { IsCuttable item.now }
@@ -302,8 +302,8 @@ fn cut_behind(frame: i128, item: &Item, head: i128, behind: &Item, by: i128) -> 
     clamped(earlier, later, by)
 }
 
-/// How far a roll moves the head of an item, where this stands before it; not at all where nothing
-/// does.
+// How far a roll moves the head of an item, where this stands before it; not at all where nothing
+// does.
 fn roll_head(frame: i128, before: Option<&Item>, item: &Item, by: i128) -> i128
     requires frame { pos 1 ≤ℤ frame }
     requires before { IfSome (option_copied before) IsCuttable }
@@ -324,8 +324,8 @@ fn roll_head(frame: i128, before: Option<&Item>, item: &Item, by: i128) -> i128
     }
 }
 
-/// How far a roll moves the tail of an item whose head moves, where this stands behind it; not at
-/// all where nothing does.
+// How far a roll moves the tail of an item whose head moves, where this stands behind it; not at
+// all where nothing does.
 fn roll_tail(frame: i128, item: &Item, head: i128, behind: Option<&Item>, by: i128) -> i128
     requires frame { pos 1 ≤ℤ frame }
     requires item { IsCuttable item.now }

@@ -8,7 +8,7 @@ ghost use Rattle.edit_plans.specs.Neighbours.{IsAfter, IsBefore};
 
 use otio_model::{Children, Item, ItemOf};
 
-/// Whether an item is a transition.
+// Whether an item is a transition.
 fn is_transition(item: &Item) -> bool
     ensures { result ≡ trees.is_transition item.now }
 {

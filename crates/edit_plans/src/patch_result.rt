@@ -22,7 +22,7 @@ use crate::tracks::track_of;
 use limits::MOST_ITEMS;
 use otio_model::{EditFault, Items, Patch, Place, Timeline};
 
-/// So many ticks without those that go and with those that come, up to the greatest number.
+// So many ticks without those that go and with those that come, up to the greatest number.
 fn exchanged_ticks(all: u128, gone: u128, come: u128) -> u128
     requires { gone ≤ all }
     ensures { result ≡ capped ((all - gone) + come) }
@@ -30,7 +30,7 @@ fn exchanged_ticks(all: u128, gone: u128, come: u128) -> u128
     (all - gone).saturating_add(come)
 }
 
-/// So many items without those that go and with those that come, up to the greatest number.
+// So many items without those that go and with those that come, up to the greatest number.
 fn exchanged_items(all: usize, gone: usize, come: usize) -> usize
     requires { gone ≤ all }
     ensures { result ≡ capped_count ((all - gone) + come) }
@@ -38,8 +38,8 @@ fn exchanged_items(all: usize, gone: usize, come: usize) -> usize
     (all - gone).saturating_add(come)
 }
 
-/// What a middle makes of a track: how long its children are then together, and how many items the
-/// timeline has then.
+// What a middle makes of a track: how long its children are then together, and how many items the
+// timeline has then.
 fn result_of(timeline: &Timeline, place: &Place, middle: &Middle) -> Amount
     requires there { place_fault place.now timeline.now ≡ None }
     requires sound { IsSound timeline.now }
@@ -65,8 +65,8 @@ fn result_of(timeline: &Timeline, place: &Place, middle: &Middle) -> Amount
     }
 }
 
-/// Whether an item that comes is too long, or one on the way to the track, whose children are then
-/// so long together.
+// Whether an item that comes is too long, or one on the way to the track, whose children are then
+// so long together.
 fn is_too_long(timeline: &Timeline, place: &Place, middle: &Middle, sum: u128) -> bool
     requires sound { AreFaultless timeline.now.tracks.children }
     requires few { count timeline.now.tracks.children < 2 ^ 32 }

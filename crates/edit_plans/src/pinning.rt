@@ -45,7 +45,7 @@ pub(crate) fn source_range(item: &Item) -> Option<Span>
     }
 }
 
-/// Whether an item is a track.
+// Whether an item is a track.
 fn is_track(item: &Item) -> bool
     ensures { result ≡ refusals.is_track item.now }
 {
@@ -55,7 +55,7 @@ fn is_track(item: &Item) -> bool
     }
 }
 
-/// Whether a source_range pins an item that would change.
+// Whether a source_range pins an item that would change.
 fn own_range(item: &Item) -> Pin
     ensures { (place : List ℕ) → freedom place result ≡ refusals.own_range item.now }
 {
@@ -65,7 +65,7 @@ fn own_range(item: &Item) -> Pin
     }
 }
 
-/// What pins an item, where that is told of its child, to which so many indexes lead.
+// What pins an item, where that is told of its child, to which so many indexes lead.
 fn above(item: &Item, child: usize, pin: Pin) -> Pin
     ensures { (place : List ℕ) → freedom place result
         ≡ refusals.with_child (take child place) item.now (freedom place pin) }
@@ -82,7 +82,7 @@ fn above(item: &Item, child: usize, pin: Pin) -> Pin
     }
 }
 
-/// What pins the item to which so many indexes of the place lead.
+// What pins the item to which so many indexes of the place lead.
 fn pin_of(item: &Item, place: &Place, depth: usize) -> Pin
     requires depth { depth ≤ length place.now }
     requires short { length place.now < 2 ^ 64 }
@@ -101,7 +101,7 @@ fn pin_of(item: &Item, place: &Place, depth: usize) -> Pin
     }
 }
 
-/// The place of so many of the indexes.
+// The place of so many of the indexes.
 #[tactic(auto, using(crate::proofs::PinLemmas::front_next, crate::proofs::PinLemmas::front_same, crate::proofs::PinLemmas::front_all))]
 fn front(alloc: Global, place: &Place, len: usize) -> Result<Place, AllocError>
     ensures { IfOk result (λ front. front ≡ take len place.now) }

@@ -27,7 +27,7 @@ pub struct Middle {
     pub put: Vec<Item>,
 }
 
-/// Three lists in one.
+// Three lists in one.
 fn joined(front: Vec<Item>, put: Vec<Item>, back: Vec<Item>) -> Result<Vec<Item>, AllocError>
     ensures { IfOk result (λ all. all.items ≡ front.items ++ (put.items ++ back.items)) }
 {
@@ -39,8 +39,8 @@ fn joined(front: Vec<Item>, put: Vec<Item>, back: Vec<Item>) -> Result<Vec<Item>
     Ok(all)
 }
 
-/// The front of a list up to an instant, what is put, and the back of the list from another instant
-/// on.
+// The front of a list up to an instant, what is put, and the back of the list from another instant
+// on.
 fn between(
     alloc: Global,
     list: &[Item],
@@ -102,7 +102,7 @@ pub fn kept(
     Ok(kept)
 }
 
-/// An instant as seen from another one before it.
+// An instant as seen from another one before it.
 fn less(instant: i128, start: i128) -> i128
     requires low { pos 0 ≤ℤ start }
     requires high { start ≤ℤ instant }

@@ -10,7 +10,7 @@ use sequences::{NamedValues, Text};
 use std::alloc::{AllocError, Global};
 use tick_time::Scalar;
 
-/// The change to a speed in millionths.
+// The change to a speed in millionths.
 fn warp(alloc: Global, speed: u128) -> Result<Effect, AllocError>
     requires { speed ≤ 1000000000 }
     ensures { IfOk result (λ effect. effect ≡ edits.warp (pos speed)) }
@@ -25,7 +25,7 @@ fn warp(alloc: Global, speed: u128) -> Result<Effect, AllocError>
     Ok(Effect::Warp(Owned::of(alloc, warp)?))
 }
 
-/// The item with one effect more; a transition has none.
+// The item with one effect more; a transition has none.
 fn with_effect(item: Item, effect: Effect) -> Result<Item, AllocError>
     ensures { IfOk result (λ made. made ≡ edits.with_effect effect item) }
 {

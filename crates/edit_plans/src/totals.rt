@@ -17,7 +17,7 @@ pub(crate) struct Amount {
     pub(crate) items: usize,
 }
 
-/// How many items an item and all below it are.
+// How many items an item and all below it are.
 fn item_count(item: &Item) -> usize
     requires few { count_of item.now < 2 ^ 32 }
     ensures { result ≡ count_of item.now }
@@ -29,7 +29,7 @@ fn item_count(item: &Item) -> usize
     }
 }
 
-/// What one item more comes to.
+// What one item more comes to.
 fn with_item(amount: Amount, item: &Item) -> Amount
     requires few { count_of item.now < 2 ^ 32 }
     ensures { result ≡ more amount item.now }

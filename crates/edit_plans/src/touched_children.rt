@@ -34,7 +34,7 @@ pub struct Passed {
     pub ticks: i128,
 }
 
-/// Whether an instant is at or before another one.
+// Whether an instant is at or before another one.
 #[tactic(auto, using(crate::proofs::Passing::meets))]
 fn begins_by(at: i128, to: i128) -> bool
     ensures { result ≡ int_le (pos 0) (to -ℤ at) }
@@ -42,7 +42,7 @@ fn begins_by(at: i128, to: i128) -> bool
     at <= to
 }
 
-/// Whether what starts at an instant ends at or behind another one.
+// Whether what starts at an instant ends at or behind another one.
 #[tactic(auto, using(crate::proofs::Passing::meets))]
 fn ends_from(at: i128, ticks: i128, from: i128) -> bool
     requires low { pos 0 ≤ℤ at }
@@ -54,7 +54,7 @@ fn ends_from(at: i128, ticks: i128, from: i128) -> bool
     from <= at + ticks
 }
 
-/// Whether a zone meets an item of a length that starts at an instant, both ends included.
+// Whether a zone meets an item of a length that starts at an instant, both ends included.
 fn lies_on(at: i128, ticks: i128, from: i128, to: i128) -> bool
     requires low { pos 0 ≤ℤ at }
     requires high { at ≤ℤ pos 100000000000000000000000000000000000 }
@@ -76,7 +76,7 @@ pub fn is_met(item: &Item, at: i128, from: i128, to: i128) -> bool
     is_stripped(item, at, from, to) || lies_on(at, ticks_of(item), from, to)
 }
 
-/// How far the overlaps of children reach from their cuts at most, in ticks.
+// How far the overlaps of children reach from their cuts at most, in ticks.
 #[tactic(auto, using(crate::proofs::Clearing::reach_short))]
 fn reach(children: &Children) -> i128
     ensures value { result ≡ pos (reach_in (items_of children.now)) }
@@ -85,8 +85,8 @@ fn reach(children: &Children) -> i128
     children.overlap_reach() as i128
 }
 
-/// First children that no zone from an instant on touches, found by the child that holds the
-/// instant less the reach of the overlaps.
+// First children that no zone from an instant on touches, found by the child that holds the
+// instant less the reach of the overlaps.
 fn clear(children: &Children, from: i128) -> Passed
     requires few { count children.now < 2 ^ 32 }
     ensures { IsClear (items_of children.now) from result.count result.ticks }

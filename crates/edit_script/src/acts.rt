@@ -13,7 +13,7 @@ use otio_model::{FillMode, Place, RemoveMode};
 use sequences::Text;
 use std::alloc::{AllocError, Global};
 
-/// The word that is a line's only one.
+// The word that is a line's only one.
 #[tactic(auto, using(crate::proofs::ActLemmas::only_words))]
 fn only_word(line: &[u8]) -> Option<&[u8]>
     ensures { MatchOption result
@@ -24,7 +24,7 @@ fn only_word(line: &[u8]) -> Option<&[u8]>
     if has_ended(rest) { Some(word) } else { None }
 }
 
-/// The bytes as a text, where they are UTF-8.
+// The bytes as a text, where they are UTF-8.
 fn text_of(alloc: Global, bytes: &[u8]) -> Result<Option<Text>, AllocError>
     ensures { IfOk result (λ text. text ≡ acts.text bytes.now) }
 {
@@ -34,7 +34,7 @@ fn text_of(alloc: Global, bytes: &[u8]) -> Result<Option<Text>, AllocError>
     }
 }
 
-/// The last two words of a line as whole numbers.
+// The last two words of a line as whole numbers.
 #[tactic(auto, using(crate::proofs::ActLemmas::edges))]
 fn edges_of(line: &[u8]) -> Option<(i64, i64)>
     ensures { result ≡ option_and_then acts.edges_of (words_of line.now) }
@@ -44,7 +44,7 @@ fn edges_of(line: &[u8]) -> Option<(i64, i64)>
     Some((whole(head)?, whole(tail)?))
 }
 
-/// The only word of a line as a whole number.
+// The only word of a line as a whole number.
 #[tactic(auto, using(crate::proofs::ActLemmas::by_none))]
 fn by_of(line: &[u8]) -> Option<i64>
     ensures { result ≡ option_and_then acts.by_of (words_of line.now) }
@@ -52,7 +52,7 @@ fn by_of(line: &[u8]) -> Option<i64>
     whole(only_word(line)?)
 }
 
-/// The only word of a line as what comes in place of an item.
+// The only word of a line as what comes in place of an item.
 #[tactic(auto, using(crate::proofs::ActLemmas::mode_none))]
 fn mode_of(line: &[u8]) -> Option<RemoveMode>
     ensures { result ≡ option_and_then acts.mode_of (words_of line.now) }
@@ -60,7 +60,7 @@ fn mode_of(line: &[u8]) -> Option<RemoveMode>
     remove_of(only_word(line)?)
 }
 
-/// The clip that the words of a line behind `clip` say.
+// The clip that the words of a line behind `clip` say.
 #[tactic(auto, using(crate::proofs::ActLemmas::clips))]
 fn clip_of(alloc: Global, line: &[u8]) -> Result<Option<Put>, AllocError>
     ensures { IfOk result (λ put. put ≡ option_and_then acts.clip_words (words_of line.now)) }
@@ -97,7 +97,7 @@ fn clip_of(alloc: Global, line: &[u8]) -> Result<Option<Put>, AllocError>
     }))
 }
 
-/// The gap that the words of a line behind `gap` say.
+// The gap that the words of a line behind `gap` say.
 #[tactic(auto, using(crate::proofs::ActLemmas::gaps))]
 fn gap_of(line: &[u8]) -> Option<Put>
     ensures { result ≡ option_map Put.Gap (option_and_then acts.gap_words (words_of line.now)) }
@@ -111,7 +111,7 @@ fn gap_of(line: &[u8]) -> Option<Put>
     }
 }
 
-/// What the words of a line put in.
+// What the words of a line put in.
 #[tactic(auto, using(crate::proofs::ActLemmas::puts))]
 fn put_of(alloc: Global, line: &[u8]) -> Result<Option<Put>, AllocError>
     ensures { IfOk result (λ put. put ≡ option_and_then acts.put_of (words_of line.now)) }
@@ -128,7 +128,7 @@ fn put_of(alloc: Global, line: &[u8]) -> Result<Option<Put>, AllocError>
     Ok(None)
 }
 
-/// The fill and the item that the words of a line say.
+// The fill and the item that the words of a line say.
 #[tactic(auto, using(crate::proofs::ActLemmas::fillings))]
 fn filling_of(alloc: Global, line: &[u8]) -> Result<Option<(FillMode, Put)>, AllocError>
     ensures { IfOk result
@@ -146,7 +146,7 @@ fn filling_of(alloc: Global, line: &[u8]) -> Result<Option<(FillMode, Put)>, All
     }
 }
 
-/// The words of a line behind `overwrite PLACE AT`.
+// The words of a line behind `overwrite PLACE AT`.
 fn overwrite_of(
     alloc: Global,
     place: Place,
@@ -162,7 +162,7 @@ fn overwrite_of(
     }
 }
 
-/// The words of a line behind `insert PLACE AT`.
+// The words of a line behind `insert PLACE AT`.
 fn insert_of(alloc: Global, place: Place, at: i64, line: &[u8]) -> Result<Option<Act>, AllocError>
     ensures { IfOk result
         (λ act. act ≡ option_and_then (acts.edit_of Verb.Insert place at) (words_of line.now)) }
@@ -173,7 +173,7 @@ fn insert_of(alloc: Global, place: Place, at: i64, line: &[u8]) -> Result<Option
     }
 }
 
-/// The words of a line behind `slice PLACE AT`.
+// The words of a line behind `slice PLACE AT`.
 fn slice_of(place: Place, at: i64, line: &[u8]) -> Option<Act>
     ensures { result ≡ option_and_then (acts.edit_of Verb.Slice place at) (words_of line.now) }
 {
@@ -184,7 +184,7 @@ fn slice_of(place: Place, at: i64, line: &[u8]) -> Option<Act>
     }
 }
 
-/// The words of a line behind `fill PLACE AT`.
+// The words of a line behind `fill PLACE AT`.
 fn fill_edit_of(
     alloc: Global,
     place: Place,
@@ -205,7 +205,7 @@ fn fill_edit_of(
     }
 }
 
-/// The words of a line behind `remove PLACE AT`.
+// The words of a line behind `remove PLACE AT`.
 fn removal_of(place: Place, at: i64, line: &[u8]) -> Option<Act>
     ensures { result ≡ option_and_then (acts.edit_of Verb.Remove place at) (words_of line.now) }
 {
@@ -215,7 +215,7 @@ fn removal_of(place: Place, at: i64, line: &[u8]) -> Option<Act>
     }
 }
 
-/// The words of a line behind `trim PLACE AT`.
+// The words of a line behind `trim PLACE AT`.
 fn trim_of(place: Place, at: i64, line: &[u8]) -> Option<Act>
     ensures { result ≡ option_and_then (acts.edit_of Verb.Trim place at) (words_of line.now) }
 {
@@ -230,7 +230,7 @@ fn trim_of(place: Place, at: i64, line: &[u8]) -> Option<Act>
     }
 }
 
-/// The words of a line behind `ripple PLACE AT`.
+// The words of a line behind `ripple PLACE AT`.
 fn ripple_of(place: Place, at: i64, line: &[u8]) -> Option<Act>
     ensures { result ≡ option_and_then (acts.edit_of Verb.Ripple place at) (words_of line.now) }
 {
@@ -245,7 +245,7 @@ fn ripple_of(place: Place, at: i64, line: &[u8]) -> Option<Act>
     }
 }
 
-/// The words of a line behind `roll PLACE AT`.
+// The words of a line behind `roll PLACE AT`.
 fn roll_of(place: Place, at: i64, line: &[u8]) -> Option<Act>
     ensures { result ≡ option_and_then (acts.edit_of Verb.Roll place at) (words_of line.now) }
 {
@@ -260,7 +260,7 @@ fn roll_of(place: Place, at: i64, line: &[u8]) -> Option<Act>
     }
 }
 
-/// The words of a line behind `slip PLACE AT`.
+// The words of a line behind `slip PLACE AT`.
 fn slip_of(place: Place, at: i64, line: &[u8]) -> Option<Act>
     ensures { result ≡ option_and_then (acts.edit_of Verb.Slip place at) (words_of line.now) }
 {
@@ -270,7 +270,7 @@ fn slip_of(place: Place, at: i64, line: &[u8]) -> Option<Act>
     }
 }
 
-/// The words of a line behind `slide PLACE AT`.
+// The words of a line behind `slide PLACE AT`.
 fn slide_of(place: Place, at: i64, line: &[u8]) -> Option<Act>
     ensures { result ≡ option_and_then (acts.edit_of Verb.Slide place at) (words_of line.now) }
 {
@@ -280,7 +280,7 @@ fn slide_of(place: Place, at: i64, line: &[u8]) -> Option<Act>
     }
 }
 
-/// The edit of a word at a place, by the words of a line that follow.
+// The edit of a word at a place, by the words of a line that follow.
 fn edit_of(
     alloc: Global,
     verb: Verb,
@@ -305,7 +305,7 @@ fn edit_of(
     }
 }
 
-/// The edit of a word, by the words of a line that follow it.
+// The edit of a word, by the words of a line that follow it.
 #[tactic(auto, using(crate::proofs::ActLemmas::placings))]
 fn placed_of(alloc: Global, verb: Verb, line: &[u8]) -> Result<Option<Act>, AllocError>
     ensures { IfOk result
@@ -326,7 +326,7 @@ fn placed_of(alloc: Global, verb: Verb, line: &[u8]) -> Result<Option<Act>, Allo
     }
 }
 
-/// The step of that word.
+// The step of that word.
 fn step_word(word: &[u8]) -> Option<Act>
     ensures { result ≡ acts.meaning word.now acts.step_words }
 {
@@ -339,7 +339,7 @@ fn step_word(word: &[u8]) -> Option<Act>
     None
 }
 
-/// The step of a word that is a line's only one.
+// The step of a word that is a line's only one.
 fn step_of(word: &[u8], line: &[u8]) -> Option<Act>
     ensures { result ≡ option_and_then (acts.step_of word.now) (words_of line.now) }
 {

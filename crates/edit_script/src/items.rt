@@ -20,7 +20,7 @@ use sequences::{NamedValues, Text};
 use std::alloc::{AllocError, Global};
 use tick_time::{Rate, Span, Time};
 
-/// The row that is listed of a reel.
+// The row that is listed of a reel.
 fn row_of<'a>(media: Option<&'a MediaList>, reel: &Text) -> Option<&'a MediaRow>
     ensures row { option_copied result ≡ rows.row_of (option_copied media.entry) reel.now }
     ensures range { IfSome result (λ row. IsRowInRange row.now) }
@@ -41,7 +41,7 @@ pub(crate) fn is_far(rate: Rate, n: i64) -> bool
     }
 }
 
-/// Whether a count of frames of a rate is negative or passes a million seconds.
+// Whether a count of frames of a rate is negative or passes a million seconds.
 fn is_wrong(rate: Rate, n: i64) -> bool
     ensures { result ≡ items.is_wrong rate n }
 {
@@ -61,7 +61,7 @@ pub(crate) fn is_unlisted(media: Option<&MediaList>, put: &Put) -> bool
     }
 }
 
-/// Whether the start of a clip is wrong, by its reel's row.
+// Whether the start of a clip is wrong, by its reel's row.
 fn starts_wrong(row: Option<&MediaRow>, start: i64) -> bool
     ensures { result ≡ items.starts_wrong (option_copied row.entry) start }
 {
@@ -86,7 +86,7 @@ pub(crate) fn is_wrong_put(rate: Rate, media: Option<&MediaList>, put: &Put) -> 
     }
 }
 
-/// So many frames of a rate.
+// So many frames of a rate.
 fn frames(n: i64, rate: Rate) -> Time
     requires near { items.is_far rate n ≡ false }
     ensures { IsFrames rate n result }
@@ -97,7 +97,7 @@ fn frames(n: i64, rate: Rate) -> Time
     }
 }
 
-/// The span from so many frames of one rate on that is so many frames of another one long.
+// The span from so many frames of one rate on that is so many frames of another one long.
 fn span(start_rate: Rate, start: i64, length_rate: Rate, length: i64) -> Span
     requires starts { items.is_far start_rate start ≡ false }
     requires lasts { items.is_wrong length_rate length ≡ false }
@@ -109,7 +109,7 @@ fn span(start_rate: Rate, start: i64, length_rate: Rate, length: i64) -> Span
     }
 }
 
-/// The media that a row lists.
+// The media that a row lists.
 fn media_of(alloc: Global, row: &MediaRow) -> Result<Media, AllocError>
     requires { IsRowInRange row.now }
     ensures { IfOk result (λ media. (available : AnySpan) × IsSpan row.now.rate row.now.start
@@ -124,14 +124,14 @@ fn media_of(alloc: Global, row: &MediaRow) -> Result<Media, AllocError>
     }))
 }
 
-/// The media under the key that is used.
+// The media under the key that is used.
 fn references_of(alloc: Global, media: Media) -> Result<MediaMap, AllocError>
     ensures { IfOk result (λ map. map ≡ (codes "DEFAULT_MEDIA", media) ∷ []) }
 {
     NamedValues::one(alloc, "DEFAULT_MEDIA", media)
 }
 
-/// The clip of a name that shows a row's media from a frame on, so many record frames long.
+// The clip of a name that shows a row's media from a frame on, so many record frames long.
 fn clip_of(
     alloc: Global,
     rate: Rate,
@@ -161,7 +161,7 @@ fn clip_of(
     }))
 }
 
-/// A gap so many record frames long.
+// A gap so many record frames long.
 fn gap_of(alloc: Global, rate: Rate, length: i64) -> Result<Item, AllocError>
     requires { items.is_wrong rate length ≡ false }
     ensures { IfOk result (λ gap. made rate (new_gap_of (in_ticks rate length)) ≡ Some gap) }

@@ -11,7 +11,7 @@ use text_lines::{after, before, first_byte};
 /// How many digits a number has at most.
 const NUMBER_DIGITS: usize = 15;
 
-/// Whether each byte is a digit.
+// Whether each byte is a digit.
 #[tactic(auto, using(crate::proofs::Figures::all_digits))]
 fn are_digits(bytes: &[u8]) -> bool
     ensures { result ≡ numbers.are_digits bytes.now }
@@ -19,14 +19,14 @@ fn are_digits(bytes: &[u8]) -> bool
     are_within(bytes, b'0', b'9')
 }
 
-/// Whether each byte lies between these two.
+// Whether each byte lies between these two.
 fn are_within(bytes: &[u8], low: u8, high: u8) -> bool
     ensures { IsTrue result ↔ All (λ b. (low ≤ b) × (b ≤ high)) bytes.now }
 {
     bytes.iter().all(|b| low <= *b && *b <= high)
 }
 
-/// Whether the first of several bytes isn't `0`, and there is one.
+// Whether the first of several bytes isn't `0`, and there is one.
 fn is_unpadded(bytes: &[u8]) -> bool
     ensures { result ≡ numbers.is_unpadded bytes.now }
 {
@@ -37,14 +37,14 @@ fn is_unpadded(bytes: &[u8]) -> bool
     }
 }
 
-/// Whether a word is a number without a sign.
+// Whether a word is a number without a sign.
 fn is_natural(word: &[u8]) -> bool
     ensures { result ≡ numbers.is_natural word.now }
 {
     word.len() <= NUMBER_DIGITS && are_digits(word) && is_unpadded(word)
 }
 
-/// The number that at most fifteen digits write.
+// The number that at most fifteen digits write.
 fn value_of(digits: &[u8]) -> u64
     requires digits { AllDigits 10 digits.now }
     requires few { length digits.now ≤ 15 }
@@ -94,7 +94,7 @@ pub fn whole(word: &[u8]) -> Option<i64>
     }
 }
 
-/// The number behind `-`.
+// The number behind `-`.
 fn negative(digits: &[u8]) -> Option<i64>
     ensures { result ≡ numbers.negative (numbers.natural digits.now) }
 {
@@ -105,7 +105,7 @@ fn negative(digits: &[u8]) -> Option<i64>
     }
 }
 
-/// The index that a word is: a number below 2^32; none where the word is something else.
+// The index that a word is: a number below 2^32; none where the word is something else.
 fn index(word: &[u8]) -> Option<u32>
     ensures { result ≡ numbers.index word.now }
 {

@@ -38,21 +38,21 @@ pub(crate) fn is_unlisted(media: Option<&MediaList>, act: &Act) -> bool
     }
 }
 
-/// Whether one of three numbers of record frames is out of range.
+// Whether one of three numbers of record frames is out of range.
 fn are_far(rate: Rate, at: i64, head: i64, tail: i64) -> bool
     ensures { result ≡ acts.are_far rate at head tail }
 {
     is_far(rate, at) || (is_far(rate, head) || is_far(rate, tail))
 }
 
-/// Whether one of two numbers of record frames is out of range.
+// Whether one of two numbers of record frames is out of range.
 fn is_either_far(rate: Rate, at: i64, by: i64) -> bool
     ensures { result ≡ (items.is_far rate at || items.is_far rate by) }
 {
     is_far(rate, at) || is_far(rate, by)
 }
 
-/// Whether an item can't be put in at an instant, since one of the times is out of range.
+// Whether an item can't be put in at an instant, since one of the times is out of range.
 fn is_far_put(rate: Rate, media: Option<&MediaList>, at: i64, put: &Put) -> bool
     ensures { result ≡ (items.is_far rate at
         || items.is_wrong_put rate (option_copied media.entry) put.now) }
@@ -125,7 +125,7 @@ pub(crate) fn list_edit_of(
     }
 }
 
-/// The edit that moves cuts, as an act asks for.
+// The edit that moves cuts, as an act asks for.
 fn cut_edit_of(alloc: Global, act: &Act) -> Result<Edit, AllocError>
     requires { moves_cuts act.now ≡ true }
     ensures edit { IfOk result (λ edit. (rate : AnyRate) (media : MediaRows)

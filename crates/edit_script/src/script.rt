@@ -37,7 +37,7 @@ pub fn read_script(alloc: Global, bytes: &[u8]) -> Result<Vec<Command>, ScriptFa
     Err(ScriptFault::Many)
 }
 
-/// The commands of all lines, and no more than one above those that a script has.
+// The commands of all lines, and no more than one above those that a script has.
 fn commands_of(alloc: Global, bytes: &[u8]) -> Result<Vec<Command>, ScriptFault>
     requires { length bytes.now ≤ most_bytes }
     ensures kept { IfOk result (λ commands. Kept bytes.now commands.items) }
@@ -66,7 +66,7 @@ fn commands_of(alloc: Global, bytes: &[u8]) -> Result<Vec<Command>, ScriptFault>
     }
 }
 
-/// Takes what a line of that number says behind the commands before it.
+// Takes what a line of that number says behind the commands before it.
 fn take_line(
     alloc: Global,
     commands: &mut Vec<Command>,
@@ -85,7 +85,7 @@ fn take_line(
     }
 }
 
-/// The command on a line of that number; none where the line is skipped.
+// The command on a line of that number; none where the line is skipped.
 fn command_on(alloc: Global, line: &[u8], number: u32) -> Result<Option<Command>, ScriptFault>
     ensures says { IfOk result (λ command. says number line.now ≡ Some (one_or_none command)) }
     ensures fault { IfErr result (λ fault. (fault ≡ ScriptFault.Memory)
@@ -103,7 +103,7 @@ fn command_on(alloc: Global, line: &[u8], number: u32) -> Result<Option<Command>
     }
 }
 
-/// Puts a command last, where one more than a script has still fits.
+// Puts a command last, where one more than a script has still fits.
 fn keep(commands: &mut Vec<Command>, command: Command) -> Result<(), ScriptFault>
     ensures next { OnOk result
         (IsNext commands.old.items (command ∷ []) commands.new.items) }
@@ -116,14 +116,14 @@ fn keep(commands: &mut Vec<Command>, command: Command) -> Result<(), ScriptFault
     Ok(())
 }
 
-/// Whether a script may have so many commands.
+// Whether a script may have so many commands.
 fn are_few(count: usize) -> bool
     ensures { MatchBool result (count ≤ most_commands) (most_commands < count) }
 {
     count <= MOST_COMMANDS
 }
 
-/// Whether a line is UTF-8.
+// Whether a line is UTF-8.
 fn is_text(line: &[u8]) -> bool
     ensures { result ≡ is_utf8 line.now }
 {
@@ -133,7 +133,7 @@ fn is_text(line: &[u8]) -> bool
     }
 }
 
-/// Whether a line is empty or begins with `#`.
+// Whether a line is empty or begins with `#`.
 fn is_comment(line: &[u8]) -> bool
     ensures { result ≡ is_skipped line.now }
 {

@@ -27,7 +27,7 @@ use otio_model::{EditFault, Patch, Timeline};
 use std::alloc::Global;
 use undo_log::Log;
 
-/// The patch of an edit of a list that an act asks for.
+// The patch of an edit of a list that an act asks for.
 fn plan_in_list(
     alloc: Global,
     timeline: &Timeline,
@@ -49,7 +49,7 @@ fn plan_in_list(
     }
 }
 
-/// The patch of an edit of edges that an act asks for.
+// The patch of an edit of edges that an act asks for.
 fn plan_at_edges(
     alloc: Global,
     timeline: &Timeline,
@@ -71,7 +71,7 @@ fn plan_at_edges(
     }
 }
 
-/// The patch of the edit that an act asks for.
+// The patch of the edit that an act asks for.
 fn plan(
     alloc: Global,
     timeline: &Timeline,
@@ -103,7 +103,7 @@ fn plan(
     }
 }
 
-/// The fault of an edit as that of the command on a line.
+// The fault of an edit as that of the command on a line.
 fn at_line(line: u32, fault: EditFault) -> CommandFault
     ensures memory { fault ≡ EditFault.Memory → result ≡ CommandFault.Memory }
     ensures other { fault ≢ EditFault.Memory → result ≡ CommandFault.Edit line fault }
@@ -114,7 +114,7 @@ fn at_line(line: u32, fault: EditFault) -> CommandFault
     }
 }
 
-/// The patch of the edit that a command asks for, else why the command is refused.
+// The patch of the edit that a command asks for, else why the command is refused.
 fn patch_of(
     alloc: Global,
     timeline: &Timeline,
@@ -146,7 +146,7 @@ fn patch_of(
     }
 }
 
-/// Makes a change that is planned, and keeps it in the log.
+// Makes a change that is planned, and keeps it in the log.
 fn commit(timeline: &mut Timeline, log: &mut Log, patch: Patch) -> Result<(), CommandFault>
     requires ready { IsReady log.old timeline.old }
     requires fits { IsFit patch timeline.old }
@@ -168,7 +168,7 @@ fn commit(timeline: &mut Timeline, log: &mut Log, patch: Patch) -> Result<(), Co
     }
 }
 
-/// Makes the edit that a command asks for.
+// Makes the edit that a command asks for.
 fn edit(
     alloc: Global,
     timeline: &mut Timeline,
@@ -193,7 +193,7 @@ fn edit(
     }
 }
 
-/// Takes the last edit back.
+// Takes the last edit back.
 fn undo(timeline: &mut Timeline, log: &mut Log, line: u32) -> Result<(), CommandFault>
     requires ready { IsReady log.old timeline.old }
     ensures done { OnOk result ((media : MediaRows)
@@ -212,7 +212,7 @@ fn undo(timeline: &mut Timeline, log: &mut Log, line: u32) -> Result<(), Command
     }
 }
 
-/// Brings the edit back that was taken back last.
+// Brings the edit back that was taken back last.
 fn redo(timeline: &mut Timeline, log: &mut Log, line: u32) -> Result<(), CommandFault>
     requires ready { IsReady log.old timeline.old }
     ensures done { OnOk result ((media : MediaRows)

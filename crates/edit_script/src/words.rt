@@ -24,7 +24,7 @@ pub fn next_word(line: &[u8]) -> Option<(&[u8], &[u8])>
     Some(plain_word(rest))
 }
 
-/// Whether a quote stands at the front.
+// Whether a quote stands at the front.
 fn is_quoted(line: &[u8]) -> bool
     ensures { result ≡ begins_with_quote line.now }
 {
@@ -42,7 +42,7 @@ pub fn has_ended(line: &[u8]) -> bool
     trim_front(line).is_empty()
 }
 
-/// The plain word that a line begins with, and what follows the blank behind it.
+// The plain word that a line begins with, and what follows the blank behind it.
 #[tactic(auto, using(crate::proofs::WordLemmas::plain_words))]
 fn plain_word(line: &[u8]) -> (&[u8], &[u8])
     requires some { 0 < length line.now }
@@ -56,8 +56,8 @@ fn plain_word(line: &[u8]) -> (&[u8], &[u8])
     }
 }
 
-/// The word up to the next quote, and what follows the blank behind it; none where no quote
-/// follows, or another byte stands behind it.
+// The word up to the next quote, and what follows the blank behind it; none where no quote
+// follows, or another byte stands behind it.
 #[tactic(auto, using(crate::proofs::WordLemmas::quoted_words))]
 fn quoted_word(inner: &[u8]) -> Option<(&[u8], &[u8])>
     ensures { MatchOption result
@@ -73,7 +73,7 @@ fn quoted_word(inner: &[u8]) -> Option<(&[u8], &[u8])>
     }
 }
 
-/// What follows the blank behind a quote; none where another byte stands there.
+// What follows the blank behind a quote; none where another byte stands there.
 fn behind_quote(rest: &[u8]) -> Option<&[u8]>
     ensures { MatchOption result (scan Closed rest.now ≡ None)
         (λ more. scan Closed rest.now ≡ words_of more.now) }

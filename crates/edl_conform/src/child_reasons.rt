@@ -32,7 +32,7 @@ use edl_frames::Why;
 use media_rows::MediaRow;
 use otio_model::{Item, ItemOf};
 
-/// Whether the item is a clip or a gap.
+// Whether the item is a clip or a gap.
 fn is_item(item: &Item) -> bool
     ensures { result ≡ seats.is_item item.now }
 {
@@ -43,7 +43,7 @@ fn is_item(item: &Item) -> bool
     }
 }
 
-/// Whether the record labels of the event that a child gives aren't both of the day.
+// Whether the record labels of the event that a child gives aren't both of the day.
 fn is_past_record(job: &Job<'_>, seat: &Seat<'_>) -> bool
     requires seated { IsSeated seat.now }
     requires past { IsOpenPast seat.now.past }
@@ -60,7 +60,7 @@ fn is_past_record(job: &Job<'_>, seat: &Seat<'_>) -> bool
     }
 }
 
-/// Whether no tenths give the speed of a clip.
+// Whether no tenths give the speed of a clip.
 fn has_no_tenths(job: &Job<'_>, shot: &Shot<'_>) -> bool
     requires { IsShot shot.now }
     ensures { result ≡ not (seats.is_there (jobs.tenths_of
@@ -73,7 +73,7 @@ fn has_no_tenths(job: &Job<'_>, shot: &Shot<'_>) -> bool
     }
 }
 
-/// What is tested of the sides of a clip that is shown.
+// What is tested of the sides of a clip that is shown.
 fn test_clip(
     job: &Job<'_>,
     seat: &Seat<'_>,
@@ -94,14 +94,14 @@ fn test_clip(
     test_parts(job, shot, seat.start, row, event, lap_part(job, behind))
 }
 
-/// Whether a source stands between two frames at another speed than the rate's own.
+// Whether a source stands between two frames at another speed than the rate's own.
 fn is_phase(speed: i64, is_between: bool) -> bool
     ensures { result ≡ (not (int_eq speed (pos 1000000)) && is_between) }
 {
     both(speed != 1_000_000, is_between)
 }
 
-/// Why a clip whose own tests don't hold isn't carried, by where its sources stand.
+// Why a clip whose own tests don't hold isn't carried, by where its sources stand.
 fn source_reason(shot: &Shot<'_>, tested: Tested) -> Option<Why>
     requires { IsShot shot.now }
     ensures { result ≡ source_reason_by (sides.speed_in (clip_of shot.now)) tested }
@@ -118,7 +118,7 @@ fn source_reason(shot: &Shot<'_>, tested: Tested) -> Option<Why>
     None
 }
 
-/// Why a clip that is shown isn't carried.
+// Why a clip that is shown isn't carried.
 fn clip_reason(
     job: &Job<'_>,
     seat: &Seat<'_>,
@@ -149,7 +149,7 @@ fn clip_reason(
     source_reason(shot, test_clip(job, seat, shot, behind, row))
 }
 
-/// Why an item isn't carried, by what is tested of clips that are shown.
+// Why an item isn't carried, by what is tested of clips that are shown.
 fn shown_reason(job: &Job<'_>, seat: &Seat<'_>) -> Option<Why>
     requires seated { IsSeated seat.now }
     requires past { IsOpenPast seat.now.past }
@@ -169,7 +169,7 @@ fn shown_reason(job: &Job<'_>, seat: &Seat<'_>) -> Option<Why>
     }
 }
 
-/// Whether a clip is shown in some frame, or goes out over this overlap behind it.
+// Whether a clip is shown in some frame, or goes out over this overlap behind it.
 fn is_shown(seat: &Seat<'_>, behind: Option<Lap<'_>>) -> bool
     requires seated { IsSeated seat.now }
     requires past { IsOpenPast seat.now.past }
@@ -185,7 +185,7 @@ fn is_shown(seat: &Seat<'_>, behind: Option<Lap<'_>>) -> bool
     )
 }
 
-/// The reason, or where there is none that of record labels past the day.
+// The reason, or where there is none that of record labels past the day.
 fn or_record(reason: Option<Why>, is_past: bool) -> Option<Why>
     ensures { result ≡ or_record_day reason is_past }
 {
@@ -195,7 +195,7 @@ fn or_record(reason: Option<Why>, is_past: bool) -> Option<Why>
     }
 }
 
-/// Why an item isn't carried.
+// Why an item isn't carried.
 fn item_reason(job: &Job<'_>, seat: &Seat<'_>) -> Option<Why>
     requires seated { IsSeated seat.now }
     requires past { IsOpenPast seat.now.past }
@@ -211,7 +211,7 @@ fn item_reason(job: &Job<'_>, seat: &Seat<'_>) -> Option<Why>
     or_record(shown_reason(job, seat), is_past_record(job, seat))
 }
 
-/// Where the item behind a transition ends, and the cut where there is none.
+// Where the item behind a transition ends, and the cut where there is none.
 fn end_behind(seat: &Seat<'_>) -> i128
     requires seated { IsSeated seat.now }
     ensures { result ≡ reasons.end_behind seat.now.start
@@ -223,7 +223,7 @@ fn end_behind(seat: &Seat<'_>) -> i128
     }
 }
 
-/// Whether the overlap of a transition reaches further than it may, or is too long.
+// Whether the overlap of a transition reaches further than it may, or is too long.
 fn is_bad_lap(job: &Job<'_>, seat: &Seat<'_>, overlap: Overlap<'_>) -> bool
     requires seated { IsSeated seat.now }
     requires overlap { IsOverlap overlap }
@@ -239,7 +239,7 @@ fn is_bad_lap(job: &Job<'_>, seat: &Seat<'_>, overlap: Overlap<'_>) -> bool
     )
 }
 
-/// Whether a transition's cut, and its overlap's start and end, are starts of record frames.
+// Whether a transition's cut, and its overlap's start and end, are starts of record frames.
 fn is_whole(job: &Job<'_>, seat: &Seat<'_>, overlap: Overlap<'_>) -> bool
     requires seated { IsSeated seat.now }
     requires overlap { IsOverlap overlap }
@@ -252,7 +252,7 @@ fn is_whole(job: &Job<'_>, seat: &Seat<'_>, overlap: Overlap<'_>) -> bool
     both(is_on_frame(job, seat.start), both(begins, ends))
 }
 
-/// Whether a transition has an overlap that isn't empty, and makes no dissolve or wipe.
+// Whether a transition has an overlap that isn't empty, and makes no dissolve or wipe.
 fn has_other_kind(seat: &Seat<'_>, overlap: Overlap<'_>) -> bool
     requires seated { IsSeated seat.now }
     requires overlap { IsOverlap overlap }
@@ -265,7 +265,7 @@ fn has_other_kind(seat: &Seat<'_>, overlap: Overlap<'_>) -> bool
     )
 }
 
-/// Why a transition isn't carried.
+// Why a transition isn't carried.
 fn transition_reason(job: &Job<'_>, seat: &Seat<'_>, overlap: Overlap<'_>) -> Option<Why>
     requires seated { IsSeated seat.now }
     requires past { IsOpenPast seat.now.past }

@@ -28,7 +28,7 @@ pub(crate) struct Stop {
     pub(crate) why: Why,
 }
 
-/// Puts the event of a child behind the others, where it gives one.
+// Puts the event of a child behind the others, where it gives one.
 fn put_event(
     alloc: Global,
     job: &Job<'_>,

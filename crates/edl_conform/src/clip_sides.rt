@@ -61,7 +61,7 @@ pub(crate) fn event_part(job: &Job<'_>, begin: i128, end: i128) -> Option<Part>
     }
 }
 
-/// The side that goes out over this overlap.
+// The side that goes out over this overlap.
 fn going_part(job: &Job<'_>, lap: Lap<'_>) -> Part
     requires { IsOpen lap }
     ensures part { stated_part result ≡ going_side (stated_job job.now) (stated_lap lap.entry) }
@@ -87,7 +87,7 @@ pub(crate) fn lap_part(job: &Job<'_>, lap: Option<Lap<'_>>) -> Option<Part>
     }
 }
 
-/// So much behind a start, in millionths of a tick.
+// So much behind a start, in millionths of a tick.
 fn reached(start: i128, run: i128) -> i128
     requires low { (pos 0 -ℤ pos 705600000000000000000000) ≤ℤ start }
     requires high { start ≤ℤ pos 705600000000000000000000 }
@@ -98,7 +98,7 @@ fn reached(start: i128, run: i128) -> i128
     start * 1_000_000 + run
 }
 
-/// A frame in millionths of a tick.
+// A frame in millionths of a tick.
 fn frame_of(job: &Job<'_>) -> i128
     ensures value { result ≡ ticks_of (stated_job job.now) *ℤ pos 1000000 }
     ensures some { pos 1 ≤ℤ result }
@@ -106,7 +106,7 @@ fn frame_of(job: &Job<'_>) -> i128
     job.ticks * 1_000_000
 }
 
-/// Whether so much is a whole number of pieces.
+// Whether so much is a whole number of pieces.
 fn is_whole(run: i128, piece: i128) -> bool
     requires { pos 1 ≤ℤ piece }
     ensures { result ≡ int_eq (int_rem_euclid run piece) (pos 0) }
@@ -114,7 +114,7 @@ fn is_whole(run: i128, piece: i128) -> bool
     run.rem_euclid(piece) == 0
 }
 
-/// Whether the source stands between two frames where the side begins.
+// Whether the source stands between two frames where the side begins.
 fn is_between(job: &Job<'_>, shot: &Shot<'_>, start: i128, part: Part) -> bool
     requires shot { IsShot shot.now }
     requires start { IsNear most_ticks start }
@@ -126,7 +126,7 @@ fn is_between(job: &Job<'_>, shot: &Shot<'_>, start: i128, part: Part) -> bool
     !is_whole(reached(shot.start, run), frame_of(job))
 }
 
-/// Whether a source label of the side isn't in the day.
+// Whether a source label of the side isn't in the day.
 fn is_past_day(job: &Job<'_>, shot: &Shot<'_>, start: i128, part: Part) -> bool
     requires shot { IsShot shot.now }
     requires start { IsNear most_ticks start }
@@ -139,7 +139,7 @@ fn is_past_day(job: &Job<'_>, shot: &Shot<'_>, start: i128, part: Part) -> bool
     !both(is_in_day(job, first), is_in_day(job, end))
 }
 
-/// Whether a frame that the side shows lies outside the listed ones.
+// Whether a frame that the side shows lies outside the listed ones.
 fn is_outside(
     job: &Job<'_>,
     shot: &Shot<'_>,
@@ -163,7 +163,7 @@ fn is_outside(
     }
 }
 
-/// What is tested of a side.
+// What is tested of a side.
 fn test_one(
     job: &Job<'_>,
     shot: &Shot<'_>,
@@ -184,7 +184,7 @@ fn test_one(
     }
 }
 
-/// What is tested of a side, where there is one.
+// What is tested of a side, where there is one.
 fn test_part(
     job: &Job<'_>,
     shot: &Shot<'_>,
@@ -208,7 +208,7 @@ fn test_part(
     }
 }
 
-/// What is tested of one side or another.
+// What is tested of one side or another.
 fn either(a: Tested, b: Tested) -> Tested
     ensures { result ≡ tested_either a b }
 {

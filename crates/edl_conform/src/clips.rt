@@ -58,7 +58,7 @@ pub(crate) fn is_other_kind(type_name: &Text) -> bool
     }
 }
 
-/// Whether an effect has no meaning in a list.
+// Whether an effect has no meaning in a list.
 fn is_other_effect(effect: &Effect) -> bool
     ensures { result ≡ reasons.is_other_effect effect.now }
 {
@@ -80,7 +80,7 @@ pub(crate) fn has_other_effect(clip: &Clip) -> bool
         .any(|effect| is_other_effect(effect))
 }
 
-/// The URL of the clip's media, where they are external.
+// The URL of the clip's media, where they are external.
 fn url_of(clip: &Clip) -> Option<&Text>
     ensures { option_copied result ≡ sides.url_in (active_media clip.now) }
 {
@@ -104,8 +104,8 @@ pub(crate) fn row_of<'a>(job: &Job<'a>, clip: &Clip) -> Option<&'a MediaRow>
     }
 }
 
+// Whether a name is one of a reel.
 #[tactic(auto, using(crate::proofs::ReelTests::is_named, crate::proofs::ReelTests::not_named))]
-/// Whether a name is one of a reel.
 fn is_reel(name: &Text) -> bool
     ensures { result ≡ is_reel_name name.now }
 {
@@ -115,14 +115,14 @@ fn is_reel(name: &Text) -> bool
     }
 }
 
-/// Whether a name is one of a reel, and its column has room for it.
+// Whether a name is one of a reel, and its column has room for it.
 fn fits(layout: Layout, name: &Text) -> bool
     ensures { result ≡ fits_name layout name.now }
 {
     both(is_reel(name), name.as_str().len() <= layout.reel_width)
 }
 
-/// The name, where it is one of a reel and its column has room for it.
+// The name, where it is one of a reel and its column has room for it.
 fn if_reel<'a>(layout: Layout, name: Option<&'a Text>) -> Option<&'a Text>
     ensures { option_copied result ≡ sides.if_reel layout (option_copied name.entry) }
 {
@@ -132,7 +132,7 @@ fn if_reel<'a>(layout: Layout, name: Option<&'a Text>) -> Option<&'a Text>
     }
 }
 
-/// The reel of a row, where there is one.
+// The reel of a row, where there is one.
 fn listed_reel(row: Option<&MediaRow>) -> Option<&Text>
     ensures { option_copied result ≡ sides.reel_in (option_copied row.entry) }
 {
@@ -170,14 +170,14 @@ pub(crate) fn has_no_reel(job: &Job<'_>, clip: &Clip, row: Option<&MediaRow>) ->
     }
 }
 
-/// Whether two rates are the same.
+// Whether two rates are the same.
 fn is_rate(a: Rate, b: Rate) -> bool
     ensures { result ≡ reasons.is_rate (keys.frame_rate a) (keys.frame_rate b) }
 {
     both(a.num == b.num, a.den == b.den)
 }
 
-/// Whether the clip's media are counted at the record rate.
+// Whether the clip's media are counted at the record rate.
 fn has_rate(job: &Job<'_>, clip: &Clip) -> bool
     ensures { result ≡ reasons.has_rate (stated_job job.now) (keys.media_rate clip.now) }
 {
@@ -187,7 +187,7 @@ fn has_rate(job: &Job<'_>, clip: &Clip) -> bool
     }
 }
 
-/// Whether the listed rate is another one than the record rate.
+// Whether the listed rate is another one than the record rate.
 fn row_differs(job: &Job<'_>, row: Option<&MediaRow>) -> bool
     ensures { result ≡ reasons.row_differs (stated_job job.now) (option_copied row.entry) }
 {

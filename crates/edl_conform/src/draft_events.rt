@@ -49,7 +49,7 @@ pub(crate) fn shown_before<'a>(past: &Past<'a>) -> Option<Shown<'a>>
     }
 }
 
-/// The event to black over an overlap, where what goes out isn't black.
+// The event to black over an overlap, where what goes out isn't black.
 fn black_draft<'a>(past: &Past<'a>, lap: Option<Lap<'a>>) -> Option<Draft<'a>>
     requires past { IfSome past.now.item IsItemAt }
     requires lap { IfSome lap IsOpen }
@@ -73,7 +73,7 @@ fn black_draft<'a>(past: &Past<'a>, lap: Option<Lap<'a>>) -> Option<Draft<'a>>
     }
 }
 
-/// The event of a clip, where it has a length.
+// The event of a clip, where it has a length.
 fn clip_draft<'a>(seat: &Seat<'a>, shot: Shot<'a>) -> Option<Draft<'a>>
     requires seated { IsSeated seat.now }
     requires past { IsOpenPast seat.now.past }

@@ -77,7 +77,7 @@ pub fn homes(alloc: Global, timeline: &Timeline, list: &EventList) -> Result<Vec
     Ok(homes)
 }
 
-/// The place of a child.
+// The place of a child.
 fn place_at(alloc: Global, spots: &[Spot], index: usize) -> Result<Place, AllocError>
     requires { index < length spots.now }
     ensures { IfOk result (λ place. place ≡ home_at spots.now index) }
@@ -86,7 +86,7 @@ fn place_at(alloc: Global, spots: &[Spot], index: usize) -> Result<Place, AllocE
     child_place(alloc, spot.track, spot.child)
 }
 
-/// The place of the next child that gives an event of a channel.
+// The place of the next child that gives an event of a channel.
 fn next_place(
     alloc: Global,
     givers: &Givers,
@@ -104,7 +104,7 @@ fn next_place(
     }
 }
 
-/// These, and one more event of the channel.
+// These, and one more event of the channel.
 fn after_one(channel: Channel, given: Given) -> Given
     requires { given_on channel given < 2 ^ 63 }
     ensures { result ≡ given_behind channel given }
@@ -128,7 +128,7 @@ fn after_one(channel: Channel, given: Given) -> Given
     }
 }
 
-/// The children that give the events of each channel.
+// The children that give the events of each channel.
 fn givers_of(alloc: Global, tracks: &Children) -> Result<Givers, AllocError>
     requires few { count tracks.now < 2 ^ 32 }
     requires sound { AreFaultless tracks.now }
@@ -147,8 +147,8 @@ fn givers_of(alloc: Global, tracks: &Children) -> Result<Givers, AllocError>
     Ok(givers)
 }
 
-/// Puts the children of a root child that give an event after the others of their channel, and
-/// answers which tracks have a channel then.
+// Puts the children of a root child that give an event after the others of their channel, and
+// answers which tracks have a channel then.
 fn put_root(index: u32, item: &Item, taken: Taken, givers: &mut Givers) -> Result<Taken, AllocError>
     requires few { count_of item.now < 2 ^ 32 }
     requires sound { IsFaultlessItem item.now }
@@ -167,7 +167,7 @@ fn put_root(index: u32, item: &Item, taken: Taken, givers: &mut Givers) -> Resul
     }
 }
 
-/// Puts the children of a track of a channel that give an event after the others of the channel.
+// Puts the children of a track of a channel that give an event after the others of the channel.
 fn put_on(
     index: u32,
     channel: Channel,
@@ -188,8 +188,8 @@ fn put_on(
     Ok(())
 }
 
-/// Puts the children of a track that give an event after the others; of one that is disabled
-/// there are none.
+// Puts the children of a track that give an event after the others; of one that is disabled
+// there are none.
 fn put_track(index: u32, track: &Track, spots: &mut Vec<Spot>) -> Result<(), AllocError>
     requires few { count track.now.children < 2 ^ 32 }
     requires sound { IsFaultlessItem (items.Track track.now) }
@@ -202,7 +202,7 @@ fn put_track(index: u32, track: &Track, spots: &mut Vec<Spot>) -> Result<(), All
     put_spots(index, &track.children, spots)
 }
 
-/// Puts a child after the others, where it gives an event.
+// Puts a child after the others, where it gives an event.
 fn put_spot(
     track: u32,
     child: u32,
@@ -221,7 +221,7 @@ fn put_spot(
     Ok(())
 }
 
-/// Puts the children that give an event after the others.
+// Puts the children that give an event after the others.
 fn put_spots(track: u32, children: &Children, spots: &mut Vec<Spot>) -> Result<(), AllocError>
     requires few { count children.now < 2 ^ 32 }
     requires sound { AreFaultless children.now }

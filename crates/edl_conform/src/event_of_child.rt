@@ -22,7 +22,7 @@ use owned::Owned;
 use sequences::Text;
 use std::alloc::{AllocError, Global};
 
-/// The side that comes in from one instant to another: that of a clip that is shown, else black.
+// The side that comes in from one instant to another: that of a clip that is shown, else black.
 fn side_in(
     alloc: Global,
     job: &Job<'_>,
@@ -42,7 +42,7 @@ fn side_in(
     }
 }
 
-/// The side that goes out at an instant.
+// The side that goes out at an instant.
 fn side_out(alloc: Global, job: &Job<'_>, past: &Past<'_>, at: i128) -> Result<Side, AllocError>
     requires past { IfSome past.now.item IsItemAt }
     requires at { IsNear (2 * most_ticks) at }
@@ -55,7 +55,7 @@ fn side_out(alloc: Global, job: &Job<'_>, past: &Past<'_>, at: i128) -> Result<S
     }
 }
 
-/// How an event begins that crosses from a side over so many frames, by its transition's type.
+// How an event begins that crosses from a side over so many frames, by its transition's type.
 fn crossing(alloc: Global, kind: &Text, frames: u16, from: Side) -> Result<Cross, AllocError>
     ensures { IfOk result (λ cross. cross ≡ sides.crossing (kind_of kind.now) frames from) }
 {
@@ -73,7 +73,7 @@ fn crossing(alloc: Global, kind: &Text, frames: u16, from: Side) -> Result<Cross
     }
 }
 
-/// A count of frames of an overlap.
+// A count of frames of an overlap.
 fn small(frames: i128) -> u16
     requires low { pos 0 ≤ℤ frames }
     requires high { frames ≤ℤ pos 999 }
@@ -82,7 +82,7 @@ fn small(frames: i128) -> u16
     frames as u16
 }
 
-/// How many frames an overlap has.
+// How many frames an overlap has.
 fn lap_frames(job: &Job<'_>, lap: &Lap<'_>) -> u16
     requires open { IsOpen lap.now }
     requires short { IsShort job.now.ticks lap.now }
@@ -92,7 +92,7 @@ fn lap_frames(job: &Job<'_>, lap: &Lap<'_>) -> u16
     small(frames_in(job, lap.end - lap.begin))
 }
 
-/// How an event behind an overlap begins.
+// How an event behind an overlap begins.
 fn cross_in(
     alloc: Global,
     job: &Job<'_>,
@@ -114,7 +114,7 @@ fn cross_in(
     }
 }
 
-/// The event that a draft stands for.
+// The event that a draft stands for.
 fn write(
     alloc: Global,
     job: &Job<'_>,

@@ -46,7 +46,7 @@ pub(crate) fn channel_behind(taken: Taken, track: &Track) -> Option<Channel>
     None
 }
 
-/// The channel of an Audio track behind these.
+// The channel of an Audio track behind these.
 fn sound_channel(taken: Taken) -> Option<Channel>
     ensures { result ≡ walk.sound_behind taken }
 {
@@ -79,14 +79,14 @@ pub(crate) fn after(channel: Channel, taken: Taken) -> Taken
     }
 }
 
-/// Whether a track has neither a source range nor effects.
+// Whether a track has neither a source range nor effects.
 fn is_plain(track: &Track) -> bool
     ensures { result ≡ carried.is_plain track.now }
 {
     track.source_range.is_none() && track.effects.as_slice().is_empty()
 }
 
-/// Puts the events of a track behind the others; of one that is disabled there are none.
+// Puts the events of a track behind the others; of one that is disabled there are none.
 fn put_track(
     alloc: Global,
     job: &Job<'_>,
@@ -115,7 +115,7 @@ fn put_track(
     }
 }
 
-/// Puts the events of a root child behind the others, and answers which tracks have a channel then.
+// Puts the events of a root child behind the others, and answers which tracks have a channel then.
 fn put_root(
     alloc: Global,
     job: &Job<'_>,

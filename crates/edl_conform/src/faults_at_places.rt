@@ -17,7 +17,7 @@ pub(crate) fn at_root(alloc: Global, why: Why) -> NotCarried
     }
 }
 
-/// The place of a root child.
+// The place of a root child.
 fn track_place(alloc: Global, track: u32) -> Result<Place, AllocError>
     ensures { IfOk result (λ place. place ≡ track ∷ []) }
 {

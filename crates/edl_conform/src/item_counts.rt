@@ -20,7 +20,7 @@ use tick_time::Rate;
 /// A count that is above the most items anyway.
 const TOO_MANY: usize = MOST_ITEMS + 1;
 
-/// The sum of two counts, at most `TOO_MANY`.
+// The sum of two counts, at most `TOO_MANY`.
 fn add(a: usize, b: usize) -> usize
     requires a { a ≤ most_items + 1 }
     requires b { b ≤ most_items + 1 }
@@ -33,7 +33,7 @@ fn add(a: usize, b: usize) -> usize
     TOO_MANY
 }
 
-/// What stands before the item of a pair.
+// What stands before the item of a pair.
 fn pair_count(rate: Rate, before: Option<&Event>, at: i64, from: &Side) -> usize
     requires timecode { 1 ≤ count_of rate }
     requires before { FitsBefore rate (option_copied before) }
@@ -47,7 +47,7 @@ fn pair_count(rate: Rate, before: Option<&Event>, at: i64, from: &Side) -> usize
     2
 }
 
-/// What stands before the item of an event.
+// What stands before the item of an event.
 fn lead_count(rate: Rate, before: Option<&Event>, event: &Event) -> usize
     requires before { FitsBefore rate (option_copied before) }
     requires event { FitsEvent rate event.now }
@@ -62,7 +62,7 @@ fn lead_count(rate: Rate, before: Option<&Event>, event: &Event) -> usize
     }
 }
 
-/// A gap, where the event begins later.
+// A gap, where the event begins later.
 fn gap_count(at: i64, event: &Event) -> usize
     ensures count { result ≡ counted.gap_count at event.now }
     ensures few { result ≤ 1 }
@@ -73,7 +73,7 @@ fn gap_count(at: i64, event: &Event) -> usize
     0
 }
 
-/// The items of an event.
+// The items of an event.
 fn event_count(rate: Rate, before: Option<&Event>, at: i64, event: &Event) -> usize
     requires { FitsAt rate (option_copied before) at event.now }
     ensures count { result ≡ counted.event_count rate (option_copied before.entry) at event.now }
@@ -82,7 +82,7 @@ fn event_count(rate: Rate, before: Option<&Event>, at: i64, event: &Event) -> us
     gap_count(at, event) + lead_count(rate, before, event) + 1
 }
 
-/// The items of a channel's events, as far as they count.
+// The items of a channel's events, as far as they count.
 fn channel_count(rate: Rate, events: &[Event], channel: Channel, first: i64) -> usize
     requires { AreAhead rate None first (on_channel channel events.now) }
     ensures count { result ≡ saturated
@@ -102,7 +102,7 @@ fn channel_count(rate: Rate, events: &[Event], channel: Channel, first: i64) -> 
     count
 }
 
-/// A channel's track and its items, as far as they count.
+// A channel's track and its items, as far as they count.
 fn track_count(list: &EventList, channel: Channel, first: i64) -> usize
     requires first { first ≡ conformed.first_record list.now.events }
     requires ahead { AreAhead list.now.rate None first (on_channel channel list.now.events) }

@@ -56,7 +56,7 @@ pub(crate) fn transition_of(alloc: Global, rate: Rate, kind: Text, count: u16) -
     })
 }
 
-/// The members that tell of a reel.
+// The members that tell of a reel.
 fn reel_members(alloc: Global, reel: &Text) -> Result<Members, AllocError>
     ensures { IfOk result (TellsReel reel.now) }
 {
@@ -65,7 +65,7 @@ fn reel_members(alloc: Global, reel: &Text) -> Result<Members, AllocError>
     NamedValues::one(alloc, "cmx_3600", Json::Map(inner))
 }
 
-/// A still.
+// A still.
 fn still(alloc: Global) -> Result<Effect, AllocError>
     ensures { IfOk result (λ effect. effect ≡ a_still) }
 {
@@ -79,7 +79,7 @@ fn still(alloc: Global) -> Result<Effect, AllocError>
     Ok(Effect::Freeze(Owned::of(alloc, freeze)?))
 }
 
-/// A change to a speed in millionths.
+// A change to a speed in millionths.
 fn warp(alloc: Global, speed: i64) -> Result<Effect, AllocError>
     requires low { pos 0 ≤ℤ speed }
     requires high { speed ≤ℤ pos 1000000000 }
@@ -95,7 +95,7 @@ fn warp(alloc: Global, speed: i64) -> Result<Effect, AllocError>
     Ok(Effect::Warp(Owned::of(alloc, warp)?))
 }
 
-/// One effect, in memory for no more.
+// One effect, in memory for no more.
 fn one_effect(alloc: Global, effect: Effect) -> Result<Effects, AllocError>
     ensures { IfOk result (λ effects. effects ≡ effect ∷ []) }
 {
@@ -104,8 +104,8 @@ fn one_effect(alloc: Global, effect: Effect) -> Result<Effects, AllocError>
     Ok(Effects::of(Sequence::of(list)))
 }
 
-/// What a speed in millionths wants of effects: nothing at the rate's own speed, a still at 0, else
-/// a change of speed.
+// What a speed in millionths wants of effects: nothing at the rate's own speed, a still at 0, else
+// a change of speed.
 fn effects_of(alloc: Global, speed: i64) -> Result<Effects, AllocError>
     requires low { pos 0 ≤ℤ speed }
     requires high { speed ≤ℤ pos 1000000000 }
@@ -120,7 +120,7 @@ fn effects_of(alloc: Global, speed: i64) -> Result<Effects, AllocError>
     one_effect(alloc, warp(alloc, speed)?)
 }
 
-/// The media of a reel: what the row lists, or none that are known.
+// The media of a reel: what the row lists, or none that are known.
 fn reference_of(alloc: Global, row: Option<&MediaRow>) -> Result<Media, AllocError>
     requires { IfSome row (λ r. IsRowInRange r.now) }
     ensures { IfOk result (IsReference (option_copied row.entry)) }
@@ -142,7 +142,7 @@ fn reference_of(alloc: Global, row: Option<&MediaRow>) -> Result<Media, AllocErr
     }
 }
 
-/// The name of a side's clip: that of its note, else its reel.
+// The name of a side's clip: that of its note, else its reel.
 fn name_of(alloc: Global, side: &Side, reel: &Text) -> Result<Text, AllocError>
     ensures { IfOk result (λ name. name ≡ unwrap_or side.now.name reel.now) }
 {
@@ -152,7 +152,7 @@ fn name_of(alloc: Global, side: &Side, reel: &Text) -> Result<Text, AllocError>
     }
 }
 
-/// The reference to the media of a reel under the key that is used.
+// The reference to the media of a reel under the key that is used.
 fn references_of(alloc: Global, reference: Media) -> Result<MediaMap, AllocError>
     ensures { IfOk result (λ map. map ≡ (codes "DEFAULT_MEDIA", reference) ∷ []) }
 {

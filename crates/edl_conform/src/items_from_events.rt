@@ -26,7 +26,7 @@ use sequences::Text;
 use std::alloc::{AllocError, Global};
 use tick_time::Rate;
 
-/// The item of a side, so many frames of the record long: a gap for black, else a clip.
+// The item of a side, so many frames of the record long: a gap for black, else a clip.
 fn item_of(
     alloc: Global,
     rate: Rate,
@@ -55,7 +55,7 @@ fn item_of(
     }
 }
 
-/// Puts a gap up to a record frame behind the items, where it lies behind.
+// Puts a gap up to a record frame behind the items, where it lies behind.
 fn put_space(
     alloc: Global,
     rate: Rate,
@@ -75,8 +75,8 @@ fn put_space(
     Ok(())
 }
 
-/// Puts what stands before the item of a pair behind the items: the outgoing side, where nothing
-/// serves as it, and the transition.
+// Puts what stands before the item of a pair behind the items: the outgoing side, where nothing
+// serves as it, and the transition.
 fn put_pair(
     alloc: Global,
     rate: Rate,
@@ -106,14 +106,14 @@ fn put_pair(
     Ok(())
 }
 
-/// The type of a dissolve.
+// The type of a dissolve.
 fn dissolve_type(alloc: Global) -> Result<Text, AllocError>
     ensures { IfOk result (λ kind. kind ≡ codes "SMPTE_Dissolve") }
 {
     Text::of(alloc, "SMPTE_Dissolve")
 }
 
-/// Puts what stands before an event's item behind the items.
+// Puts what stands before an event's item behind the items.
 fn put_lead(
     alloc: Global,
     rate: Rate,
@@ -163,7 +163,7 @@ fn put_lead(
     }
 }
 
-/// Puts what stands for an event behind the items, where the track has come to a record frame.
+// Puts what stands for an event behind the items, where the track has come to a record frame.
 fn put_event(
     alloc: Global,
     rate: Rate,

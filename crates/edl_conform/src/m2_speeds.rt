@@ -7,7 +7,7 @@ ghost use Rattle.edl_conform.specs.Tenths.{nearest_tenths};
 
 use edl_list::half_even;
 
-/// The tenths of a frame a second that are nearest to a speed in millionths.
+// The tenths of a frame a second that are nearest to a speed in millionths.
 fn nearest(count: u64, speed: u64) -> u64
     requires count { count ≤ 60 }
     requires speed { speed ≤ 1000000000 }

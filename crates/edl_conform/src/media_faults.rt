@@ -23,7 +23,7 @@ use media_list::MediaList;
 use media_rows::MediaRow;
 use tick_time::Rate;
 
-/// Whether there is no row.
+// Whether there is no row.
 fn is_none(row: Option<&MediaRow>) -> bool
     ensures { result ≡ refused.is_none (option_copied row.entry) }
 {
@@ -33,7 +33,7 @@ fn is_none(row: Option<&MediaRow>) -> bool
     }
 }
 
-/// Whether there is a media list that doesn't list the side's reel, whose row this is.
+// Whether there is a media list that doesn't list the side's reel, whose row this is.
 fn is_unlisted(media: Option<&MediaList>, side: &Side, row: Option<&MediaRow>) -> bool
     requires row { option_copied row ≡ refused.reel_row (option_copied media) side.now.reel }
     ensures { (frames : ℤ) → result ≡
@@ -48,14 +48,14 @@ fn is_unlisted(media: Option<&MediaList>, side: &Side, row: Option<&MediaRow>) -
     }
 }
 
-/// Whether two rates are the same.
+// Whether two rates are the same.
 fn is_same_rate(a: Rate, b: Rate) -> bool
     ensures { result ≡ refused.is_same_rate a b }
 {
     a.num == b.num && a.den == b.den
 }
 
-/// Whether there is a row, and its rate is another one.
+// Whether there is a row, and its rate is another one.
 fn has_other_rate(rate: Rate, row: Option<&MediaRow>) -> bool
     ensures { result ≡ refused.if_listed (λ row. not (refused.is_same_rate row.rate rate))
         (option_copied row.entry) }
@@ -66,7 +66,7 @@ fn has_other_rate(rate: Rate, row: Option<&MediaRow>) -> bool
     }
 }
 
-/// How far a source has come in so many frames, at a speed in millionths.
+// How far a source has come in so many frames, at a speed in millionths.
 fn advance(k: i64, speed: i64) -> i128
     requires k { IsSmall k }
     requires speed { IsSmall speed }
@@ -76,7 +76,7 @@ fn advance(k: i64, speed: i64) -> i128
     product(k, speed).div_euclid(1_000_000)
 }
 
-/// So much behind a number.
+// So much behind a number.
 fn behind(from: i64, more: i128) -> i128
     requires more { IsLess more }
     ensures { result ≡ from +ℤ more }
@@ -84,7 +84,7 @@ fn behind(from: i64, more: i128) -> i128
     i128::from(from) + more
 }
 
-/// The source frame that a side shows in a frame from where it begins.
+// The source frame that a side shows in a frame from where it begins.
 fn source_frame(rate: Rate, side: &Side, k: i64) -> i128
     requires timecode { 1 ≤ count_of rate }
     requires side { FitsSide rate side.now }
@@ -94,7 +94,7 @@ fn source_frame(rate: Rate, side: &Side, k: i64) -> i128
     behind(side.src_in, advance(k, speed_of(rate, side)))
 }
 
-/// The last of so many frames.
+// The last of so many frames.
 fn last_of(frames: i64) -> i64
     requires { IsShown frames }
     ensures value { result ≡ frames -ℤ pos 1 }
@@ -103,7 +103,7 @@ fn last_of(frames: i64) -> i64
     frames - 1
 }
 
-/// How many frames of the record an event takes.
+// How many frames of the record an event takes.
 fn length_of(event: &Event) -> i64
     requires low { pos 0 ≤ℤ event.now.rec_in }
     requires high { event.now.rec_out ≤ℤ pos 5184000 }
@@ -114,7 +114,7 @@ fn length_of(event: &Event) -> i64
     event.rec_out - event.rec_in
 }
 
-/// How many frames a dissolve or wipe takes.
+// How many frames a dissolve or wipe takes.
 fn count_of_frames(rate: Rate, frames: u16) -> i64
     requires some { 1 ≤ frames }
     requires timed { IsTimed rate (pos frames) }
@@ -124,7 +124,7 @@ fn count_of_frames(rate: Rate, frames: u16) -> i64
     i64::from(frames)
 }
 
-/// Whether a frame that a side shows lies outside the media of the row, where there is one.
+// Whether a frame that a side shows lies outside the media of the row, where there is one.
 fn is_outside(rate: Rate, side: &Side, row: Option<&MediaRow>, frames: i64) -> bool
     requires timecode { 1 ≤ count_of rate }
     requires side { FitsSide rate side.now }
@@ -143,7 +143,7 @@ fn is_outside(rate: Rate, side: &Side, row: Option<&MediaRow>, frames: i64) -> b
     }
 }
 
-/// The first reason that holds, for an event at a line.
+// The first reason that holds, for an event at a line.
 fn first_reason(line: u32, unlisted: bool, other_rate: bool, outside: bool) -> Option<ConformFault>
     ensures { result ≡ uses.first_reason line unlisted other_rate outside }
 {
@@ -159,7 +159,7 @@ fn first_reason(line: u32, unlisted: bool, other_rate: bool, outside: bool) -> O
     None
 }
 
-/// Why an event of one side, shown in so many frames, isn't held.
+// Why an event of one side, shown in so many frames, isn't held.
 fn cut_fault(
     rate: Rate,
     media: Option<&MediaList>,
@@ -182,21 +182,21 @@ fn cut_fault(
     )
 }
 
-/// One test.
+// One test.
 fn alone(a: bool) -> bool
     ensures { result ≡ (a || false) }
 {
     a
 }
 
-/// Either test.
+// Either test.
 fn either(a: bool, b: bool) -> bool
     ensures { result ≡ (a || (b || false)) }
 {
     a || b
 }
 
-/// Why an event of two sides, each shown in so many frames, isn't held.
+// Why an event of two sides, each shown in so many frames, isn't held.
 fn pair_fault(
     rate: Rate,
     media: Option<&MediaList>,
@@ -230,7 +230,7 @@ fn pair_fault(
     )
 }
 
-/// Why an event isn't held. Each reel is looked up once.
+// Why an event isn't held. Each reel is looked up once.
 fn event_fault(rate: Rate, media: Option<&MediaList>, event: &Event) -> Option<ConformFault>
     requires { FitsEvent rate event.now }
     ensures { result ≡ refused.event_fault rate (option_copied media.entry) event.now }

@@ -13,7 +13,7 @@ use crate::speeds::speed_of;
 use edl_list::{Event, Reel, Side};
 use tick_time::Rate;
 
-/// Whether two reels are one.
+// Whether two reels are one.
 fn is_same_reel(a: &Reel, b: &Reel) -> bool
     ensures { result ≡ conformed.is_same_reel a.now b.now }
 {
@@ -29,7 +29,7 @@ fn is_same_reel(a: &Reel, b: &Reel) -> bool
     }
 }
 
-/// Whether the reel is black.
+// Whether the reel is black.
 fn is_black(reel: &Reel) -> bool
     ensures { result ≡ conformed.is_black reel.now }
 {
@@ -49,7 +49,7 @@ pub(crate) fn product(a: i64, b: i64) -> i128
     i128::from(a) * i128::from(b)
 }
 
-/// Whether the sum of two products is a third one.
+// Whether the sum of two products is a third one.
 fn is_sum(a: i128, b: i128, c: i128) -> bool
     requires a { IsLess a }
     requires b { IsLess b }
@@ -59,8 +59,8 @@ fn is_sum(a: i128, b: i128, c: i128) -> bool
     a + b == c
 }
 
-/// Whether a source that plays so many frames of the record from a frame on, at a speed in
-/// millionths, has come to another frame.
+// Whether a source that plays so many frames of the record from a frame on, at a speed in
+// millionths, has come to another frame.
 fn has_come(from: i64, count: i64, speed: i64, to: i64) -> bool
     requires from { IsSmall from }
     requires count { IsSmall count }
@@ -75,7 +75,7 @@ fn has_come(from: i64, count: i64, speed: i64, to: i64) -> bool
     )
 }
 
-/// Whether two numbers are equal.
+// Whether two numbers are equal.
 fn is_same(a: i64, b: i64) -> bool
     ensures { result ≡ int_eq a b }
 {
@@ -96,8 +96,8 @@ fn all_four(a: bool, b: bool, c: bool, d: bool) -> bool
     a && b && c && d
 }
 
-/// Whether an event that ends at a frame goes on as a side: with the same reel and speed, and its
-/// source has come to that of the side.
+// Whether an event that ends at a frame goes on as a side: with the same reel and speed, and its
+// source has come to that of the side.
 fn goes_on(rate: Rate, before: &Event, speed: i64, at: i64, side: &Side, side_speed: i64) -> bool
     requires speed { speed ≡ pos (speeds.side_speed rate before.now.to) }
     requires side_speed { side_speed ≡ pos (speeds.side_speed rate side.now) }
@@ -120,7 +120,7 @@ fn goes_on(rate: Rate, before: &Event, speed: i64, at: i64, side: &Side, side_sp
     )
 }
 
-/// Whether what stands before is a gap: the event ends earlier, or is black.
+// Whether what stands before is a gap: the event ends earlier, or is black.
 fn leaves_gap(before: &Event, at: i64) -> bool
     ensures { result ≡ conformed.leaves_gap before.now at }
 {

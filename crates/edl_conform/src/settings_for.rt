@@ -13,8 +13,8 @@ use media_list::MediaList;
 use otio_model::Timeline;
 use tick_time::Rate;
 
-/// How many frame numbers drop-frame leaves out of a minute whose number is not a multiple of ten:
-/// none where it isn't asked for. `None` where it is, and the rate has no drop-frame.
+// How many frame numbers drop-frame leaves out of a minute whose number is not a multiple of ten:
+// none where it isn't asked for. `None` where it is, and the rate has no drop-frame.
 fn dropped_of(rate: Rate, drop: bool, count: i64) -> Option<i64>
     requires { nominal rate.num rate.den ≡ Some count }
     ensures mode { IsDropped rate drop count result }
@@ -31,7 +31,7 @@ fn dropped_of(rate: Rate, drop: bool, count: i64) -> Option<i64>
     }
 }
 
-/// The count by which timecode numbers the frames of a second.
+// The count by which timecode numbers the frames of a second.
 fn counted(rate: Rate) -> Option<i64>
     ensures count { result ≡ nominal rate.num rate.den }
     ensures range { IfSome result IsCounted }
@@ -39,7 +39,7 @@ fn counted(rate: Rate) -> Option<i64>
     rate.nominal()
 }
 
-/// The frame numbers of a day.
+// The frame numbers of a day.
 fn day_of(count: i64, dropped: i64) -> i128
     requires low { pos 1 ≤ℤ count }
     requires high { count ≤ℤ pos 60 }

@@ -18,7 +18,7 @@ use otio_model::Clip;
 use sequences::Text;
 use std::alloc::{AllocError, Global};
 
-/// The reel of a clip, and black where it has none.
+// The reel of a clip, and black where it has none.
 fn reel(alloc: Global, job: &Job<'_>, clip: &Clip) -> Result<Reel, AllocError>
     ensures { IfOk result (λ reel. reel ≡ sides.reel_named
         (sides.clip_reel job.now.layout (stated_job job.now).media clip.now)) }
@@ -29,7 +29,7 @@ fn reel(alloc: Global, job: &Job<'_>, clip: &Clip) -> Result<Reel, AllocError>
     }
 }
 
-/// A name that isn't empty.
+// A name that isn't empty.
 fn name_of(alloc: Global, name: &Text) -> Result<Option<Text>, AllocError>
     ensures { IfOk result (λ copy. copy ≡ sides.name_in name.now) }
 {
@@ -39,7 +39,7 @@ fn name_of(alloc: Global, name: &Text) -> Result<Option<Text>, AllocError>
     Ok(Some(Text::of(alloc, name.as_str())?))
 }
 
-/// The speed of a clip in tenths of a frame a second, none at the rate's own.
+// The speed of a clip in tenths of a frame a second, none at the rate's own.
 fn speed_of(job: &Job<'_>, shot: &Shot<'_>) -> Option<u16>
     requires { IsShot shot.now }
     ensures { result ≡

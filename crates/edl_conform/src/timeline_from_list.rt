@@ -21,7 +21,7 @@ use otio_model::{Children, Effects, Item, ItemOf, Markers, Stack, StackOf, Timel
 use sequences::{Sequence, Text};
 use std::alloc::{AllocError, Global};
 
-/// The name of a channel's track.
+// The name of a channel's track.
 fn channel_name(alloc: Global, channel: Channel) -> Result<Text, AllocError>
     ensures { IfOk result (λ name. name ≡ conformed.channel_name channel) }
 {
@@ -32,7 +32,7 @@ fn channel_name(alloc: Global, channel: Channel) -> Result<Text, AllocError>
     }
 }
 
-/// The kind of a channel's track.
+// The kind of a channel's track.
 fn channel_kind(alloc: Global, channel: Channel) -> Result<Text, AllocError>
     ensures { IfOk result (λ kind. kind ≡ conformed.channel_kind channel) }
 {
@@ -64,7 +64,7 @@ fn either(a: bool, b: bool) -> bool
     a || b
 }
 
-/// The children of a channel's track.
+// The children of a channel's track.
 fn children_on(
     alloc: Global,
     list: &EventList,
@@ -89,7 +89,7 @@ fn children_on(
     Ok(children)
 }
 
-/// The track of a channel.
+// The track of a channel.
 fn track_of(
     alloc: Global,
     list: &EventList,
@@ -119,7 +119,7 @@ fn track_of(
     }))
 }
 
-/// Puts the track of a channel behind the others, where it has one.
+// Puts the track of a channel behind the others, where it has one.
 fn put_track(
     alloc: Global,
     list: &EventList,
@@ -142,7 +142,7 @@ fn put_track(
     Ok(())
 }
 
-/// The tracks of a list.
+// The tracks of a list.
 fn tracks_of(
     alloc: Global,
     list: &EventList,
@@ -161,7 +161,7 @@ fn tracks_of(
     Ok(tracks)
 }
 
-/// The root stack of these tracks.
+// The root stack of these tracks.
 fn root_of(alloc: Global, tracks: Vec<Item>) -> Result<Stack, AllocError>
     ensures { IfOk result (HasTrackItems tracks.items) }
 {
@@ -179,14 +179,14 @@ fn root_of(alloc: Global, tracks: Vec<Item>) -> Result<Stack, AllocError>
     })
 }
 
-/// Where an event begins in the record.
+// Where an event begins in the record.
 fn rec_in_of(event: &Event) -> i64
     ensures { result ≡ event.now.rec_in }
 {
     event.rec_in
 }
 
-/// The least record in of events in order, and 0 without events.
+// The least record in of events in order, and 0 without events.
 fn first_of(events: &[Event]) -> i64
     requires { AllPairs AreInOrder events.now }
     ensures { result ≡ conformed.first_record events.now }

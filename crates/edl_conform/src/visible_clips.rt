@@ -59,7 +59,7 @@ pub(crate) fn product(ticks: i128, speed: i64) -> i128
     ticks * i128::from(speed)
 }
 
-/// Millionths of a tick as whole ticks.
+// Millionths of a tick as whole ticks.
 fn whole(run: i128) -> i128
     requires low { (pos 0 -ℤ pos 2116800000000000000000000000000000) ≤ℤ run }
     requires high { run ≤ℤ pos 2116800000000000000000000000000000 }
@@ -89,7 +89,7 @@ pub(crate) fn gone(count: i128, speed: i64) -> i128
     whole(product(count, speed))
 }
 
-/// The instant of the media that is reached in so many ticks from a start.
+// The instant of the media that is reached in so many ticks from a start.
 fn media_at(start: i128, speed: i64, ticks: i128) -> i128
     requires start { IsNear most_ticks start }
     requires ticks { IsNear (3 * most_ticks) ticks }

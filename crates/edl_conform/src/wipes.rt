@@ -6,7 +6,7 @@ ghost use Rattle.edl_frames.specs.Conformed as conformed;
 use sequences::Text;
 use std::alloc::{AllocError, Global};
 
-/// The digit of a number below ten.
+// The digit of a number below ten.
 fn digit(n: u16) -> char
     requires { n ≤ 9 }
     ensures { result ≡ n + 48 }

@@ -5,14 +5,14 @@ ghost use Rattle.edl_frames.specs.Refused as refused;
 
 use media_rows::MediaRow;
 
-/// Whether a frame lies before another one.
+// Whether a frame lies before another one.
 fn is_before(a: i128, b: i64) -> bool
     ensures { result ≡ int_lt a b }
 {
     a < i128::from(b)
 }
 
-/// Whether a frame lies behind so many frames from one on.
+// Whether a frame lies behind so many frames from one on.
 fn is_past(start: i64, count: i64, frame: i128) -> bool
     ensures { result ≡ int_le (start +ℤ count) frame }
 {

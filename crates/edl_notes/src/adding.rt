@@ -40,7 +40,7 @@ pub fn add_notes(
     Ok(noted)
 }
 
-/// The least record in of events that stand in order; 0 where there are none.
+// The least record in of events that stand in order; 0 where there are none.
 fn first_record(events: &[Event]) -> i64
     requires { AllPairs AreInOrder events.now }
     ensures { result ≡ least_record events.now }

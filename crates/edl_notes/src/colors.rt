@@ -34,7 +34,7 @@ pub(crate) fn put_colors(
     put_cdl(alloc, metadata, colors)
 }
 
-/// Puts a member `cdl` with these members, where there are any.
+// Puts a member `cdl` with these members, where there are any.
 fn put_cdl(alloc: Global, metadata: &mut Members, colors: Members) -> Result<(), AllocError>
     ensures { IfOk result (λ _. metadata.new ≡ with_colors colors metadata.old) }
 {
@@ -44,7 +44,7 @@ fn put_cdl(alloc: Global, metadata: &mut Members, colors: Members) -> Result<(),
     metadata.put(Text::of(alloc, "cdl")?, Json::Map(colors))
 }
 
-/// The last slope, offset and power among the notes.
+// The last slope, offset and power among the notes.
 fn last_correction<'a>(notes: &[&'a Note]) -> Option<Correction<'a>>
     ensures { option_map correction result ≡ last_sop None (said_by notes.now) }
 {
@@ -55,7 +55,7 @@ fn last_correction<'a>(notes: &[&'a Note]) -> Option<Correction<'a>>
     last
 }
 
-/// Slope, offset and power that a note says, else these.
+// Slope, offset and power that a note says, else these.
 fn later_correction<'a>(last: Option<Correction<'a>>, said: &'a Said) -> Option<Correction<'a>>
     ensures { option_map correction result
         ≡ last_sop (option_map correction last.entry) (said.now ∷ []) }
@@ -85,7 +85,7 @@ fn words_of(numerals: &Triple) -> Words<'_>
     }
 }
 
-/// The last saturation among the notes.
+// The last saturation among the notes.
 fn last_saturation<'a>(notes: &[&'a Note]) -> Option<&'a str>
     ensures { option_map (λ s. Num s.now) result ≡ last_sat None (said_by notes.now) }
 {
@@ -96,7 +96,7 @@ fn last_saturation<'a>(notes: &[&'a Note]) -> Option<&'a str>
     last
 }
 
-/// The saturation that a note says, else this.
+// The saturation that a note says, else this.
 fn later_saturation<'a>(last: Option<&'a str>, said: &'a Said) -> Option<&'a str>
     ensures { option_map (λ s. Num s.now) result
         ≡ last_sat (option_map (λ s. Num s.now) last.entry) (said.now ∷ []) }
@@ -108,7 +108,7 @@ fn later_saturation<'a>(last: Option<&'a str>, said: &'a Said) -> Option<&'a str
     }
 }
 
-/// The members for color corrections.
+// The members for color corrections.
 fn colors_of(
     alloc: Global,
     sop: Option<Correction<'_>>,
@@ -129,7 +129,7 @@ fn colors_of(
     }
 }
 
-/// The member for slope, offset and power, where there are any.
+// The member for slope, offset and power, where there are any.
 fn correction_member(alloc: Global, sop: Option<Correction<'_>>) -> Result<Members, AllocError>
     ensures { IfOk result (λ made. made
         ≡ member_if (codes "asc_sop") (option_map correction sop.entry)) }
@@ -143,7 +143,7 @@ fn correction_member(alloc: Global, sop: Option<Correction<'_>>) -> Result<Membe
     }
 }
 
-/// The lists `slope`, `offset` and `power`.
+// The lists `slope`, `offset` and `power`.
 fn correction_json(alloc: Global, sop: Correction<'_>) -> Result<Json, AllocError>
     ensures { IfOk result (λ made. made ≡ correction sop.entry) }
 {
@@ -153,7 +153,7 @@ fn correction_json(alloc: Global, sop: Correction<'_>) -> Result<Json, AllocErro
     Ok(Json::Map(lists))
 }
 
-/// Three numerals as a list.
+// Three numerals as a list.
 fn list_json(alloc: Global, words: Words<'_>) -> Result<Json, AllocError>
     ensures { IfOk result (λ made. made ≡ triple_json (triple words.entry)) }
 {

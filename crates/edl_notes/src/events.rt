@@ -57,7 +57,7 @@ pub(crate) fn noted_children(
     Ok(made)
 }
 
-/// A child with the notes of the event at a place, where it is the item of one.
+// A child with the notes of the event at a place, where it is the item of one.
 fn noted_child(
     alloc: Global,
     item: &Item,
@@ -83,8 +83,8 @@ fn noted_child(
     }
 }
 
-/// The place of the event whose item a child of a channel's track is, from that of the next event
-/// of the channel and the ticks before the child.
+// The place of the event whose item a child of a channel's track is, from that of the next event
+// of the channel and the ticks before the child.
 fn event_at(work: Work<'_>, channel: Channel, item: &Item, at: usize, start: u128) -> Option<usize>
     requires few { count_of item.now < 2 ^ 32 }
     requires work { IsWork work }
@@ -110,7 +110,7 @@ fn event_at(work: Work<'_>, channel: Channel, item: &Item, at: usize, start: u12
     }
 }
 
-/// Whether an item has a length above 0.
+// Whether an item has a length above 0.
 fn lasts(item: &Item) -> bool
     requires { count_of item.now < 2 ^ 32 }
     ensures { result ≡ nat_lt 0 (or_zero (length_of item.now)) }
@@ -118,7 +118,7 @@ fn lasts(item: &Item) -> bool
     ticks_of(item) > 0
 }
 
-/// How long an item is, in ticks; 0 where it has no length.
+// How long an item is, in ticks; 0 where it has no length.
 fn ticks_of(item: &Item) -> u128
     requires { count_of item.now < 2 ^ 32 }
     ensures { result ≡ or_zero (length_of item.now) }
@@ -126,7 +126,7 @@ fn ticks_of(item: &Item) -> u128
     item.length_or_zero().unsigned_abs()
 }
 
-/// The event at a place.
+// The event at a place.
 fn event_in(list: &EventList, index: usize) -> &Event
     requires { index < length list.now.events }
     ensures { slice_get list.now.events index ≡ Some result.now }
@@ -137,8 +137,8 @@ fn event_in(list: &EventList, index: usize) -> &Event
     }
 }
 
-/// The place of the first event of a channel, from this one on, that begins so many ticks after the
-/// start of the track or later; that after all events where there is none.
+// The place of the first event of a channel, from this one on, that begins so many ticks after the
+// start of the track or later; that after all events where there is none.
 fn next_event(work: Work<'_>, channel: Channel, from: usize, start: u128) -> usize
     requires work { IsWork work }
     requires earlier { AreEarlier work.list.now channel start from }
@@ -154,8 +154,8 @@ fn next_event(work: Work<'_>, channel: Channel, from: usize, start: u128) -> usi
     at
 }
 
-/// Whether an event is on another channel, or begins less than so many ticks after the start of the
-/// track.
+// Whether an event is on another channel, or begins less than so many ticks after the start of the
+// track.
 fn is_earlier(work: Work<'_>, channel: Channel, event: &Event, start: u128) -> bool
     requires first { walks.HasFirst work }
     requires timed { IsTimed work.list.now.rate (event.now.rec_in -ℤ work.first) }
@@ -164,7 +164,7 @@ fn is_earlier(work: Work<'_>, channel: Channel, event: &Event, start: u128) -> b
     !is_on(channel, event) || ticks_before(work, event) < start
 }
 
-/// The ticks from the start of a track to the record in of an event.
+// The ticks from the start of a track to the record in of an event.
 fn ticks_before(work: Work<'_>, event: &Event) -> u128
     requires first { walks.HasFirst work }
     requires timed { IsTimed work.list.now.rate (event.now.rec_in -ℤ work.first) }
@@ -175,7 +175,7 @@ fn ticks_before(work: Work<'_>, event: &Event) -> u128
         .unsigned_abs()
 }
 
-/// Whether an event is on a channel.
+// Whether an event is on a channel.
 fn is_on(channel: Channel, event: &Event) -> bool
     ensures { result ≡ is_on_channel channel event.now }
 {

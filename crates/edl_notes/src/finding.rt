@@ -45,7 +45,7 @@ pub fn notes_of(alloc: Global, timeline: &Timeline, list: &EventList) -> Result<
     Ok(Notes::of(notes))
 }
 
-/// Puts the notes of the event whose item stands at a place at the end of the notes.
+// Puts the notes of the event whose item stands at a place at the end of the notes.
 fn put_notes(
     alloc: Global,
     timeline: &Timeline,
@@ -69,7 +69,7 @@ fn put_notes(
     }
 }
 
-/// The clip that an event shows, where its incoming side isn't black.
+// The clip that an event shows, where its incoming side isn't black.
 fn clip_at<'a>(timeline: &'a Timeline, place: &Place, event: &Event) -> Option<&'a Clip>
     ensures { option_copied result
         ≡ shown_clip event.now (item_at place.now timeline.now.tracks.children) }
@@ -83,7 +83,7 @@ fn clip_at<'a>(timeline: &'a Timeline, place: &Place, event: &Event) -> Option<&
     }
 }
 
-/// Puts the notes of a clip at the end of the notes: its color corrections, and then its markers.
+// Puts the notes of a clip at the end of the notes: its color corrections, and then its markers.
 fn put_clip(
     alloc: Global,
     clip: &Clip,
@@ -102,7 +102,7 @@ fn put_clip(
     Ok(())
 }
 
-/// Puts slope, offset and power at the end of the notes, where metadata have them.
+// Puts slope, offset and power at the end of the notes, where metadata have them.
 fn put_correction(
     alloc: Global,
     index: usize,
@@ -126,7 +126,7 @@ fn put_correction(
     }
 }
 
-/// Puts the saturation at the end of the notes, where metadata have one.
+// Puts the saturation at the end of the notes, where metadata have one.
 fn put_saturation(
     alloc: Global,
     index: usize,
@@ -145,7 +145,7 @@ fn put_saturation(
     }
 }
 
-/// Puts a note of an event at the end of the notes.
+// Puts a note of an event at the end of the notes.
 fn put_spoken(
     alloc: Global,
     index: usize,

@@ -38,7 +38,7 @@ pub(crate) fn noted_item(
     }
 }
 
-/// The clip of an event with the event's notes.
+// The clip of an event with the event's notes.
 fn noted_clip(
     alloc: Global,
     clip: Clip,
@@ -58,7 +58,7 @@ fn noted_clip(
     Ok(clip)
 }
 
-/// The gap of an event with the event's notes.
+// The gap of an event with the event's notes.
 fn noted_gap(
     alloc: Global,
     gap: Gap,

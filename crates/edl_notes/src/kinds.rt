@@ -31,14 +31,14 @@ pub(crate) fn channel_of(kinds: Kinds, track: &Track) -> Option<Channel>
     None
 }
 
-/// The channel of a Video track after so many.
+// The channel of a Video track after so many.
 fn picture_channel(before: usize) -> Option<Channel>
     ensures { result ≡ kinds_of.picture_channel before }
 {
     if before == 0 { Some(Channel::V) } else { None }
 }
 
-/// The channel of an Audio track after so many.
+// The channel of an Audio track after so many.
 fn sound_channel(before: usize) -> Option<Channel>
     ensures { result ≡ kinds_of.sound_channel before }
 {
@@ -64,7 +64,7 @@ pub(crate) fn with_one(kinds: Kinds, item: &Item) -> Kinds
     }
 }
 
-/// 1 for a track of the kind, else 0.
+// 1 for a track of the kind, else 0.
 fn of_kind(item: &Item, kind: &str) -> usize
     ensures { result ≡ kinds_of.one_of kind.now item.now }
 {

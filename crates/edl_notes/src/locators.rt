@@ -50,7 +50,7 @@ pub(crate) fn put_locators(
     Ok(())
 }
 
-/// Puts the locator of a marker at the end of the notes, where it has one.
+// Puts the locator of a marker at the end of the notes, where it has one.
 fn put_locator(
     alloc: Global,
     marker: &Marker,
@@ -69,7 +69,7 @@ fn put_locator(
     }
 }
 
-/// Puts the locator of a mark at the end of the notes, where the event shows its frame.
+// Puts the locator of a mark at the end of the notes, where the event shows its frame.
 fn put_mark(
     alloc: Global,
     mark: &Mark,
@@ -95,7 +95,7 @@ fn put_mark(
     }
 }
 
-/// The first record frame of an event that shows the source frame in which a mark's range begins.
+// The first record frame of an event that shows the source frame in which a mark's range begins.
 fn frame_of(mark: &Mark, event: &Event, rate: Rate) -> Option<i64>
     requires timecode { 1 ≤ count_of rate }
     requires event { IsEvent (day_of rate) event.now }
@@ -113,7 +113,7 @@ fn frame_of(mark: &Mark, event: &Event, rate: Rate) -> Option<i64>
     }
 }
 
-/// The locator of a mark at a record frame.
+// The locator of a mark at a record frame.
 fn locator_of(alloc: Global, at: i64, mark: &Mark) -> Result<Said, AllocError>
     ensures { IfOk result (λ said. (event : AnyEvent) (rate : Rate) →
         SaysAt rate event mark.now at → SaysMark rate event mark.now (said ∷ [])) }
@@ -125,7 +125,7 @@ fn locator_of(alloc: Global, at: i64, mark: &Mark) -> Result<Said, AllocError>
     })
 }
 
-/// The color of a mark.
+// The color of a mark.
 fn color_in(mark: &Mark) -> &str
     ensures { IsColorOf mark.now result.now }
 {
@@ -141,7 +141,7 @@ fn color_in(mark: &Mark) -> &str
     }
 }
 
-/// The characters of the member `color` of a mark.
+// The characters of the member `color` of a mark.
 fn own_color(mark: &Mark) -> Option<&str>
     ensures { option_map (λ s. s.now) result ≡ color_text mark.now }
 {
@@ -151,7 +151,7 @@ fn own_color(mark: &Mark) -> Option<&str>
     }
 }
 
-/// The characters of a string.
+// The characters of a string.
 fn text_in(value: &Json) -> Option<&str>
     ensures { option_map (λ s. s.now) result ≡ keys.text_in (out-Json value.now) }
 {

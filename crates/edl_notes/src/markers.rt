@@ -39,7 +39,7 @@ pub(crate) fn put_markers(
     Ok(())
 }
 
-/// Puts the marker of what a note says at the end of the markers, where that is a locator.
+// Puts the marker of what a note says at the end of the markers, where that is a locator.
 fn put_marker(
     alloc: Global,
     markers: &mut Markers,
@@ -65,7 +65,7 @@ fn put_marker(
     Ok(())
 }
 
-/// The marker of a source frame with a name and a color.
+// The marker of a source frame with a name and a color.
 fn marker_of(
     alloc: Global,
     frame: i64,
@@ -86,7 +86,7 @@ fn marker_of(
     Ok(Marker::Known(Owned::of(alloc, mark)?))
 }
 
-/// One frame of the rate.
+// One frame of the rate.
 fn frame_span(frame: i64, rate: Rate) -> Span
     requires { IsInRange (frame *ℤ pos (ticks_of rate.num rate.den)) }
     ensures { IsSpanOf rate frame (pos 1) result }

@@ -51,14 +51,14 @@ pub(crate) fn saturation_in(metadata: &Members) -> Option<&str>
     numeral_in(value)
 }
 
-/// The value of that name in the member `cdl` of metadata.
+// The value of that name in the member `cdl` of metadata.
 fn color_member<'a>(metadata: &'a Members, name: &str) -> Option<&'a Json>
     ensures { option_copied result ≡ color_in name.now metadata.now }
 {
     member_in(metadata.get("cdl")?, name)
 }
 
-/// The value of that name, where the other value is an object.
+// The value of that name, where the other value is an object.
 fn member_in<'a>(value: &'a Json, name: &str) -> Option<&'a Json>
     ensures { option_copied result ≡ keys.member_in name.now (out-Json value.now) }
 {
@@ -68,7 +68,7 @@ fn member_in<'a>(value: &'a Json, name: &str) -> Option<&'a Json>
     }
 }
 
-/// Three numerals that the member of that name is.
+// Three numerals that the member of that name is.
 fn triple_in<'a>(sop: &'a Json, name: &str) -> Option<Words<'a>>
     ensures { MatchOption result ((t : AnyTriple) → IsTripleOf name.now sop.now t → ⊥)
         (λ found. IsTripleOf name.now sop.now (triple found)) }
@@ -79,7 +79,7 @@ fn triple_in<'a>(sop: &'a Json, name: &str) -> Option<Words<'a>>
     numerals_in(value)
 }
 
-/// The three numerals that a list is.
+// The three numerals that a list is.
 fn numerals_in(value: &Json) -> Option<Words<'_>>
     ensures { MatchOption result ((t : AnyTriple) → AreNumeralsOf value.now t → ⊥)
         (λ found. AreNumeralsOf value.now (triple found)) }
@@ -102,7 +102,7 @@ fn numerals_in(value: &Json) -> Option<Words<'_>>
     Some(Words { r, g, b })
 }
 
-/// The numeral that a value is.
+// The numeral that a value is.
 fn numeral_in(value: &Json) -> Option<&str>
     ensures { MatchOption result ((spelled : List ℕ) → IsNumeralOf (Some value.now) spelled → ⊥)
         (λ spelled. IsNumeralOf (Some value.now) spelled.now) }

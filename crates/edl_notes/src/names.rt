@@ -22,14 +22,14 @@ pub(crate) fn cleaned_text(alloc: Global, name: &Text) -> Result<Text, AllocErro
     }
 }
 
-/// A byte as it is written: a control byte as a space.
+// A byte as it is written: a control byte as a space.
 fn written_byte(byte: u8) -> u8
     ensures { result ≡ written byte }
 {
     if is_control(byte) { b' ' } else { byte }
 }
 
-/// Whether a byte is a control byte.
+// Whether a byte is a control byte.
 fn is_control(byte: u8) -> bool
     ensures { result ≡ control byte }
 {

@@ -40,7 +40,7 @@ pub(crate) fn noted_tracks(
     Ok(made)
 }
 
-/// A root child with the notes of its channel, where it has one after tracks of so many kinds.
+// A root child with the notes of its channel, where it has one after tracks of so many kinds.
 fn noted_root(alloc: Global, item: &Item, work: Work<'_>, kinds: Kinds) -> Result<Item, AllocError>
     requires few { count_of item.now < 2 ^ 32 }
     requires work { IsWork work }
@@ -55,7 +55,7 @@ fn noted_root(alloc: Global, item: &Item, work: Work<'_>, kinds: Kinds) -> Resul
     }
 }
 
-/// A track with the notes of its channel, where it has one.
+// A track with the notes of its channel, where it has one.
 fn noted_track(
     alloc: Global,
     track: Track,

@@ -15,7 +15,7 @@ use source_files::{
 use std::alloc::Global;
 use std::process::Abort;
 
-/// Sends what is told of a fault.
+// Sends what is told of a fault.
 fn send(out: &mut MemOut, reason: &Option<Reason>) -> Result<(), WriteFault> {
     let mut buffer = OutBuffer::new();
     if let Some(reason) = reason {
@@ -32,7 +32,7 @@ fn tells(rt: &impl Abort, alloc: Global, reason: Option<Reason>, wanted: &str) {
     drop(out);
 }
 
-/// The place of these indices.
+// The place of these indices.
 fn place_of(rt: &impl Abort, alloc: Global, indices: &[u32]) -> Place {
     let mut place = Place::new(alloc);
     for index in indices {

@@ -14,7 +14,7 @@ pub fn text_of(rt: &impl Abort, alloc: Global, text: &str) -> Text {
     Text::of(alloc, text).expect(rt, "a text")
 }
 
-/// Forty-eight frames of a reel, from a frame on.
+// Forty-eight frames of a reel, from a frame on.
 fn side(rt: &impl Abort, alloc: Global, reel: &str, src_in: i64) -> Side
     requires { src_in ≤ℤ pos 1000000 }
 {
@@ -28,7 +28,7 @@ fn side(rt: &impl Abort, alloc: Global, reel: &str, src_in: i64) -> Side
     }
 }
 
-/// Twenty-four frames of black, at twice the speed.
+// Twenty-four frames of black, at twice the speed.
 fn black() -> Side {
     Side {
         reel: Reel::Black,
@@ -55,7 +55,7 @@ fn wipe(rt: &impl Abort, alloc: Global) -> Cross {
     }
 }
 
-/// An event of forty-eight frames that begins in this way.
+// An event of forty-eight frames that begins in this way.
 fn event(rt: &impl Abort, alloc: Global, channel: Channel, cross: Cross) -> Event {
     Event {
         line: 3,

@@ -58,7 +58,7 @@ const ROWS: [(&str, &str, i64, i64); 7] = [
     ("A1\t2.5e1\t1\t2\ta\r", "25.0", 1, 2),
 ];
 
-/// The fault of bytes.
+// The fault of bytes.
 fn fault_of(alloc: Global, bytes: &[u8]) -> Option<MediaFault> {
     MediaList::read(alloc, bytes).err()
 }
@@ -67,7 +67,7 @@ fn fault_is(rt: &impl Abort, alloc: Global, bytes: &[u8], wanted: MediaFault) {
     assert!(rt; fault_of(alloc, bytes) == Some(wanted), "{bytes:?}");
 }
 
-/// Whether the row of the reel `A1`, or the only row, has this rate, start and count.
+// Whether the row of the reel `A1`, or the only row, has this rate, start and count.
 fn is_row(rows: &[MediaRow], rate: &str, start: i64, count: i64) -> bool {
     match rows {
         [row] => row.rate.text().as_str() == rate && row.start == start && row.count == count,
@@ -75,14 +75,14 @@ fn is_row(rows: &[MediaRow], rate: &str, start: i64, count: i64) -> bool {
     }
 }
 
-/// Checks that a text is a list of one such row.
+// Checks that a text is a list of one such row.
 fn row_is(rt: &impl Abort, alloc: Global, text: &str, rate: &str, start: i64, count: i64) {
     let list = MediaList::read(alloc, text.as_bytes()).expect(rt, "a list");
     assert!(rt; is_row(list.rows(), rate, start, count), "{text}");
     drop(list);
 }
 
-/// The text of a list of so many rows, of which each starts at its index.
+// The text of a list of so many rows, of which each starts at its index.
 fn text_of(alloc: Global, count: u32) -> Result<String, AllocError> {
     let mut text = String::new(alloc);
     for index in 0..count {
@@ -140,7 +140,7 @@ fn list_of(rt: &impl Abort, alloc: Global, count: u32) -> MediaList {
     list.expect(rt, "a list")
 }
 
-/// Checks the number that the row of a key starts at.
+// Checks the number that the row of a key starts at.
 fn row_starts_at(rt: &impl Abort, key: &str, row: Option<&MediaRow>, start: Option<i64>) {
     assert!(rt; row.map(|row| row.start) == start, "{key}");
 }
@@ -177,7 +177,7 @@ fn looks_up_among_many(rt: HostRuntime) {
     drop(list);
 }
 
-/// The list or the fault of a text that is fed in pieces of so many bytes.
+// The list or the fault of a text that is fed in pieces of so many bytes.
 fn read_in_pieces(alloc: Global, text: &[u8], size: usize) -> Result<MediaList, MediaFault>
     requires { 0 < size }
 {
@@ -188,14 +188,14 @@ fn read_in_pieces(alloc: Global, text: &[u8], size: usize) -> Result<MediaList, 
     reader.finish()
 }
 
-/// The fault of a text in pieces.
+// The fault of a text in pieces.
 fn fault_in_pieces(alloc: Global, text: &[u8], size: usize) -> Option<MediaFault>
     requires { 0 < size }
 {
     read_in_pieces(alloc, text, size).err()
 }
 
-/// Checks how many rows a text in pieces says.
+// Checks how many rows a text in pieces says.
 fn count_in_pieces_is(rt: &impl Abort, alloc: Global, text: &[u8], size: usize, count: usize)
     requires { 0 < size }
 {

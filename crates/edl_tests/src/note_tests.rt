@@ -40,7 +40,7 @@ fn is_triple(triple: &Triple, wanted: Three<'_>) -> bool {
     triple.r.as_str() == wanted.r && triple.g.as_str() == wanted.g && triple.b.as_str() == wanted.b
 }
 
-/// Whether a locator of this frame, color and name is wanted.
+// Whether a locator of this frame, color and name is wanted.
 fn is_locator(at: i64, color: &Text, name: &Text, wanted: Wanted<'_>) -> bool {
     match wanted {
         Wanted::Loc(frame, shade, title) => {
@@ -51,7 +51,7 @@ fn is_locator(at: i64, color: &Text, name: &Text, wanted: Wanted<'_>) -> bool {
     }
 }
 
-/// Whether this slope, offset and power are wanted.
+// Whether this slope, offset and power are wanted.
 fn is_correction(slope: &Triple, offset: &Triple, power: &Triple, wanted: Wanted<'_>) -> bool {
     match wanted {
         Wanted::Loc(..) => false,
@@ -62,7 +62,7 @@ fn is_correction(slope: &Triple, offset: &Triple, power: &Triple, wanted: Wanted
     }
 }
 
-/// Whether a saturation of this numeral is wanted.
+// Whether a saturation of this numeral is wanted.
 fn is_saturation(numeral: &Text, wanted: Wanted<'_>) -> bool {
     match wanted {
         Wanted::Loc(..) => false,
@@ -71,7 +71,7 @@ fn is_saturation(numeral: &Text, wanted: Wanted<'_>) -> bool {
     }
 }
 
-/// Whether a note says what is wanted.
+// Whether a note says what is wanted.
 fn is_said(said: &Said, wanted: Wanted<'_>) -> bool {
     match said {
         Said::Loc { at, color, name } => is_locator(*at, color, name, wanted),
@@ -94,7 +94,7 @@ pub fn listed(alloc: Global, rate: Rate, text: &[u8]) -> Result<EventList, EdlFa
     reader.finish()
 }
 
-/// The notes of a text, which comes in pieces of that size, for its list.
+// The notes of a text, which comes in pieces of that size, for its list.
 fn heard(
     alloc: Global,
     list: &EventList,
@@ -137,7 +137,7 @@ pub fn has_notes(
     drop(list);
 }
 
-/// The cut, and this line after it.
+// The cut, and this line after it.
 fn after_cut(rt: &impl Abort, alloc: Global, line: &[u8]) -> Vec<u8> {
     let mut text = Vec::new(alloc);
     text.extend_from_slice(CUT.as_bytes()).expect(rt, "a line");

@@ -16,7 +16,7 @@ use std::mem;
 use std::process::Abort;
 use tick_time::Rate;
 
-/// The notes of a text for its list.
+// The notes of a text for its list.
 fn noted(alloc: Global, text: &[u8], list: &EventList) -> Result<Notes, AllocError>
     requires formed { IsWellFormed list.now }
     requires list { IsList list.now.rate text.now list.now }
@@ -25,7 +25,7 @@ fn noted(alloc: Global, text: &[u8], list: &EventList) -> Result<Notes, AllocErr
     read_notes(alloc, text, list)
 }
 
-/// Sends a list with those of its notes that are below the day.
+// Sends a list with those of its notes that are below the day.
 fn send(rt: &impl Abort, list: &EventList, notes: Notes, drop: bool, out: &mut MemOut)
     requires formed { IsWellFormed list.now }
     requires notes { All (IsNoteFor list.now) notes }
@@ -44,7 +44,7 @@ fn send(rt: &impl Abort, list: &EventList, notes: Notes, drop: bool, out: &mut M
     mem::drop(notes);
 }
 
-/// A text and its notes are written so.
+// A text and its notes are written so.
 fn is_written(rt: &impl Abort, alloc: Global, rate: Rate, text: &[u8], drop: bool, wanted: &[u8]) {
     let list = listed(alloc, rate, text).expect(rt, "a list");
     let notes = noted(alloc, text, &list).expect(rt, "notes");
@@ -55,7 +55,7 @@ fn is_written(rt: &impl Abort, alloc: Global, rate: Rate, text: &[u8], drop: boo
     mem::drop(out);
 }
 
-/// The same text, whatever notes are written from it.
+// The same text, whatever notes are written from it.
 fn is_kept(rt: &impl Abort, alloc: Global, rate: Rate, text: &str) {
     is_written(rt, alloc, rate, text.as_bytes(), false, text.as_bytes());
 }
@@ -144,7 +144,7 @@ fn labels_of_either_mode(rt: HostRuntime) {
     is_written(&rt, rt.alloc(), rate, text, true, drop);
 }
 
-/// The events of notes of saturation, each with its numeral, are these.
+// The events of notes of saturation, each with its numeral, are these.
 fn are_in_turn(rt: &impl Abort, notes: &Notes, wanted: &[(usize, &str)]) {
     assert!(rt; notes.len() == wanted.len());
     for (note, (event, spelled)) in notes.as_slice().iter().zip(wanted) {

@@ -15,7 +15,7 @@ pub fn rate_of(rt: &impl Abort, numeral: &str) -> Rate {
     Rate::of(&decimal).expect(rt, "a rate")
 }
 
-/// The reader fed a text in pieces of that size, and the piece of a fault twice.
+// The reader fed a text in pieces of that size, and the piece of a fault twice.
 fn feed_pieces(reader: &mut EdlReader, text: &str, size: usize) -> Result<(), EdlFault>
     requires { 0 < size }
 {
@@ -31,7 +31,7 @@ fn feed_pieces(reader: &mut EdlReader, text: &str, size: usize) -> Result<(), Ed
     Ok(())
 }
 
-/// The list of a text that comes in pieces of that size.
+// The list of a text that comes in pieces of that size.
 fn read(alloc: Global, rate: Rate, text: &str, size: usize) -> Result<EventList, EdlFault>
     requires { 0 < size }
 {
@@ -40,14 +40,14 @@ fn read(alloc: Global, rate: Rate, text: &str, size: usize) -> Result<EventList,
     reader.finish()
 }
 
-/// The list of a text that has one.
+// The list of a text that has one.
 fn list_of(rt: &impl Abort, alloc: Global, rate: Rate, text: &str, size: usize) -> EventList
     requires { 0 < size }
 {
     read(alloc, rate, text, size).expect(rt, "a list")
 }
 
-/// The fault of a text, the same in pieces of each size.
+// The fault of a text, the same in pieces of each size.
 fn fault_of(alloc: Global, rate: Rate, text: &str) -> Option<EdlFault> {
     let whole = read(alloc, rate, text, 4096).err();
     for size in [1usize, 2, 7] {
@@ -58,7 +58,7 @@ fn fault_of(alloc: Global, rate: Rate, text: &str) -> Option<EdlFault> {
     whole
 }
 
-/// Whether the event has this line, these frames and this reel.
+// Whether the event has this line, these frames and this reel.
 fn is_event(event: &Event, line: u32, frames: [i64; 4], reel: &str) -> bool {
     let named = match &event.to.reel {
         Reel::Black => reel == "BL",
@@ -77,7 +77,7 @@ fn fault_is(rt: &impl Abort, alloc: Global, rate: Rate, text: &str, wanted: EdlF
     assert!(rt; fault_of(alloc, rate, text) == Some(wanted), "{text}");
 }
 
-/// Whether the side has this name, these frames and this speed.
+// Whether the side has this name, these frames and this speed.
 fn is_side(side: &Side, name: &str, frames: [i64; 2], speed: u16) -> bool {
     let named = match &side.name {
         Some(found) => found.as_str() == name,
@@ -262,7 +262,7 @@ fn faults_of_order(rt: HostRuntime) {
     fault_is(&rt, rt.alloc(), rate, over, EdlFault::Overlap(2));
 }
 
-/// The reader fed the label of a frame and the bytes behind it.
+// The reader fed the label of a frame and the bytes behind it.
 fn feed_label(reader: &mut EdlReader, rate: Rate, n: u32, end: &[u8]) -> Result<(), EdlFault> {
     match label(i64::from(n), rate, false) {
         Ok(bytes) => reader.feed(bytes.as_slice())?,
@@ -271,7 +271,7 @@ fn feed_label(reader: &mut EdlReader, rate: Rate, n: u32, end: &[u8]) -> Result<
     reader.feed(end)
 }
 
-/// The reader fed so many cuts, each of one frame.
+// The reader fed so many cuts, each of one frame.
 fn feed_cuts(reader: &mut EdlReader, rate: Rate, count: u32) -> Result<(), EdlFault> {
     for n in 0..count {
         reader.feed(b"001 TAPE1 V C 00:00:00:00 00:00:00:01 ")?;
@@ -281,7 +281,7 @@ fn feed_cuts(reader: &mut EdlReader, rate: Rate, count: u32) -> Result<(), EdlFa
     Ok(())
 }
 
-/// The list of so many cuts.
+// The list of so many cuts.
 fn read_cuts(alloc: Global, rate: Rate, count: u32) -> Result<EventList, EdlFault> {
     let mut reader = EdlReader::new(alloc, rate);
     feed_cuts(&mut reader, rate, count)?;

@@ -16,7 +16,7 @@ use std::alloc::Global;
 use std::process::Abort;
 use tick_time::Rate;
 
-/// Two seconds of black at twice the speed.
+// Two seconds of black at twice the speed.
 fn black(name: Text, rate: Rate) -> Event
     requires num { rate.num ≡ pos 24 }
     requires den { rate.den ≡ pos 1 }

@@ -9,8 +9,8 @@ use std::alloc::{AllocError, Global};
 // The record span of an event, and its line.
 type Span = ((i64, i64), u32);
 
-// Whether no two events on the channel share a frame, as their spans show in order. Where it
-// answers `false` nothing is known.
+/// Whether no two events on the channel share a frame, as their spans show in order. Where it
+/// answers `false` nothing is known.
 pub(crate) fn are_apart(
     alloc: Global,
     channel: Channel,
@@ -37,7 +37,7 @@ fn spans_on(alloc: Global, channel: Channel, events: &[Event]) -> Result<Vec<Spa
     Ok(spans)
 }
 
-// Whether the event is on the channel.
+/// Whether the event is on the channel.
 pub(crate) fn is_on(event: &Event, channel: Channel) -> bool
     ensures { IsTrue result ↔ (event.now.channel ≡ channel) }
 {

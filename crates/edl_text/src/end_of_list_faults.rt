@@ -11,7 +11,7 @@ use crate::overlap::first_overlap;
 use edl_list::Event;
 use std::alloc::{AllocError, Global};
 
-/// Whether the source is as long as the record.
+// Whether the source is as long as the record.
 fn is_even(event: &Event) -> bool
     ensures { MatchBool result (IsEven event.now) (IsEven event.now → ⊥) }
 {
@@ -20,7 +20,7 @@ fn is_even(event: &Event) -> bool
     source == record
 }
 
-/// Whether source and record length differ, and the side that is shown has no M2 line.
+// Whether source and record length differ, and the side that is shown has no M2 line.
 fn is_unequal(event: &Event) -> bool
     ensures { MatchBool result (IsUnequal event.now) (IsEqual event.now) }
 {
@@ -30,7 +30,7 @@ fn is_unequal(event: &Event) -> bool
     }
 }
 
-/// The line of the first event that is unequal.
+// The line of the first event that is unequal.
 fn first_unequal(events: &[Event]) -> Option<u32>
     ensures { MatchOption result (All IsEqual events.now) (IsFirstUnequal events.now) }
 {
@@ -42,7 +42,7 @@ fn first_unequal(events: &[Event]) -> Option<u32>
     None
 }
 
-/// The fault of the lesser of two lines, on one line that of unequal lengths.
+// The fault of the lesser of two lines, on one line that of unequal lengths.
 fn late_of(unequal: Option<u32>, overlap: Option<u32>) -> Option<EdlFault>
     ensures { result ≡ late_by unequal overlap }
 {

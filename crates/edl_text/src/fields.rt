@@ -7,7 +7,7 @@ ghost use Rattle.edl_text.specs.StateLines.{duration_in, labels_in};
 use crate::statement_types::Labels;
 use text_lines::{is_text, split_field};
 
-// The first field of a line; empty where it has none.
+/// The first field of a line; empty where it has none.
 pub(crate) fn first_field(line: &[u8]) -> &[u8]
     ensures { result.now ≡ first_of (fields_of line.now) }
 {
@@ -17,7 +17,7 @@ pub(crate) fn first_field(line: &[u8]) -> &[u8]
     }
 }
 
-// The fourth field of a line; empty where it has fewer.
+/// The fourth field of a line; empty where it has fewer.
 pub(crate) fn fourth_field(line: &[u8]) -> &[u8]
     ensures { result.now ≡ fourth_of (fields_of line.now) }
 {
@@ -35,7 +35,7 @@ fn behind_field(line: &[u8]) -> &[u8]
     }
 }
 
-// Whether the line has these fields and no other.
+/// Whether the line has these fields and no other.
 pub(crate) fn has_fields(line: &[u8], fields: &[&[u8]]) -> bool
     ensures { IsTrue result ↔ (fields_of line.now ≡ map (λ field. field.now) fields.now) }
 {
@@ -62,7 +62,7 @@ pub(crate) struct EventFields<'a> {
 impl<'a> EventFields<'a> {
     ghost use Rattle.edl_text.specs.StateLines.{fields_in};
 
-    // The fields of a line that has eight or nine.
+    /// The fields of a line that has eight or nine.
     pub(crate) fn of(line: &'a [u8]) -> Option<EventFields<'a>>
         ensures { MatchOption result
             ((length (fields_of line.now) ≢ 8) × (length (fields_of line.now) ≢ 9))
@@ -133,7 +133,7 @@ pub(crate) struct SpeedFields<'a> {
 impl<'a> SpeedFields<'a> {
     ghost use Rattle.edl_text.specs.StateLines.{speed_fields_in};
 
-    // The fields of a line that has four.
+    /// The fields of a line that has four.
     pub(crate) fn of(line: &'a [u8]) -> Option<SpeedFields<'a>>
         ensures { MatchOption result
             (length (fields_of line.now) ≢ 4)

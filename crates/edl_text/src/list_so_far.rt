@@ -71,7 +71,7 @@ impl Said {
         }
     }
 
-    /// Takes what the next line says.
+    // Takes what the next line says.
     fn take(&mut self, statement: Statement<'_>) -> Result<(), EdlFault>
         ensures { (rate : RateSaid) (past : List plain.Statement) → StandsAtNext rate past self.old
             → Takes result rate past (view statement.entry) self.new }
@@ -87,7 +87,7 @@ impl Said {
         }
     }
 
-    /// Takes a title, the first of which counts.
+    // Takes a title, the first of which counts.
     fn take_title(&mut self, title: &[u8]) -> Result<(), EdlFault>
         ensures { (rate : RateSaid) (past : List plain.Statement) → StandsAtNext rate past self.old
             → Takes result rate past (plain.Title title.now) self.new }
@@ -104,7 +104,7 @@ impl Said {
         }
     }
 
-    /// Takes the frame code mode.
+    // Takes the frame code mode.
     fn take_mode(&mut self, drop: bool) -> Result<(), EdlFault>
         ensures { (rate : RateSaid) (past : List plain.Statement) → StandsAtNext rate past self.old
             → Takes result rate past (plain.Mode drop) self.new }
@@ -113,7 +113,7 @@ impl Said {
         Ok(())
     }
 
-    /// Takes an M2 line.
+    // Takes an M2 line.
     fn take_speed(&mut self, speed: SpeedLine<'_>) -> Result<(), EdlFault>
         ensures { (rate : RateSaid) (past : List plain.Statement) → StandsAtNext rate past self.old
             → Takes result rate past (plain.Speed (speed_said speed.entry)) self.new }
@@ -135,7 +135,7 @@ impl Said {
         Ok(())
     }
 
-    /// Takes a note of the name of the clip that an event comes from.
+    // Takes a note of the name of the clip that an event comes from.
     fn take_from(&mut self, name: &str) -> Result<(), EdlFault>
         ensures { (rate : RateSaid) (past : List plain.Statement) → StandsAtNext rate past self.old
             → Takes result rate past (plain.FromName name.now) self.new }
@@ -147,7 +147,7 @@ impl Said {
         Ok(())
     }
 
-    /// Takes a note of the name of the clip that an event goes to.
+    // Takes a note of the name of the clip that an event goes to.
     fn take_to(&mut self, name: &str) -> Result<(), EdlFault>
         ensures { (rate : RateSaid) (past : List plain.Statement) → StandsAtNext rate past self.old
             → Takes result rate past (plain.ToName name.now) self.new }
@@ -159,7 +159,7 @@ impl Said {
         Ok(())
     }
 
-    /// Takes an event line.
+    // Takes an event line.
     fn take_event(&mut self, event: EventLine<'_>) -> Result<(), EdlFault>
         ensures { (rate : RateSaid) (past : List plain.Statement) → StandsAtNext rate past self.old
             → Takes result rate past (plain.Event (event_said event.entry)) self.new }
@@ -210,7 +210,7 @@ impl Said {
         })
     }
 
-    /// Whether this is a `D` or `W` line without the first line of its pair.
+    // Whether this is a `D` or `W` line without the first line of its pair.
     fn is_lone(&self, event: &EventLine<'_>) -> bool
         ensures { result ≡ (not (is_cut_kind event.now.kind)
             && not (is_first_line self.now.pending event.now.number event.now.channels)) }
@@ -218,7 +218,7 @@ impl Said {
         !is_cut(event.kind) && !self.has_first_line(event)
     }
 
-    /// Whether the latest event line is a `C` line of the number and channels of this one.
+    // Whether the latest event line is a `C` line of the number and channels of this one.
     fn has_first_line(&self, event: &EventLine<'_>) -> bool
         ensures { result ≡ is_first_line self.now.pending event.now.number event.now.channels }
     {
@@ -232,8 +232,8 @@ impl Said {
         }
     }
 
-    /// Whether a line of this kind doesn't meet the latest event line in the record, or lasts
-    /// longer than its record length.
+    // Whether a line of this kind doesn't meet the latest event line in the record, or lasts
+    // longer than its record length.
     fn misses(&self, kind: Kind, frames: &Frames) -> bool
         ensures { result ≡ misses_by self.now.pending kind frames.now }
     {
@@ -248,7 +248,7 @@ impl Said {
         }
     }
 
-    /// Makes an event line the latest one.
+    // Makes an event line the latest one.
     fn begin(&mut self, event: EventLine<'_>, frames: Frames) -> Result<(), AllocError>
         ensures { OnOk result (Begins (event_said event.entry) frames self.old self.new) }
     {
@@ -269,8 +269,8 @@ impl Said {
         Ok(())
     }
 
-    /// Adds the events of the latest event line, and gives the outgoing side that it is for a line
-    /// of this kind.
+    // Adds the events of the latest event line, and gives the outgoing side that it is for a line
+    // of this kind.
     fn close(&mut self, kind: Kind) -> Result<Option<Side>, AllocError>
         ensures from { IfOk result (λ from. from ≡ closed_from self.old.pending kind) }
         ensures events { OnOk result (self.new.events.items ≡ self.old.events.items
@@ -290,7 +290,7 @@ impl Said {
     }
 }
 
-/// The title, empty where there is none.
+// The title, empty where there is none.
 fn title_of(title: Option<Text>) -> Text
     ensures { result ≡ unwrap_or title [] }
 {
@@ -300,7 +300,7 @@ fn title_of(title: Option<Text>) -> Text
     }
 }
 
-/// The side of an event line before any note on it.
+// The side of an event line before any note on it.
 fn side_of(reel: Reel, frames: Frames) -> Side
     ensures { result ≡ new_side reel frames }
 {
@@ -313,7 +313,7 @@ fn side_of(reel: Reel, frames: Frames) -> Side
     }
 }
 
-/// The fault of a line that says nothing that a list may say.
+// The fault of a line that says nothing that a list may say.
 fn named(fault: LineFault, line: u32) -> EdlFault
     ensures { result ≡ named_by fault line }
 {

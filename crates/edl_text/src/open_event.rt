@@ -27,7 +27,7 @@ pub(crate) struct Pending {
     pub(crate) from: Option<Side>,
 }
 
-/// How an event of this kind begins, with its outgoing side.
+// How an event of this kind begins, with its outgoing side.
 fn begun(alloc: Global, kind: Kind, from: Option<Side>) -> Result<Cross, AllocError>
     ensures { IfOk result (λ cross. cross ≡ begun_by kind from) }
 {
@@ -37,7 +37,7 @@ fn begun(alloc: Global, kind: Kind, from: Option<Side>) -> Result<Cross, AllocEr
     }
 }
 
-/// How an event of this kind begins from this side.
+// How an event of this kind begins from this side.
 fn begun_from(alloc: Global, kind: Kind, from: Side) -> Result<Cross, AllocError>
     ensures { IfOk result (λ cross. cross ≡ begun_by kind (Some from)) }
 {
@@ -54,7 +54,7 @@ fn begun_from(alloc: Global, kind: Kind, from: Side) -> Result<Cross, AllocError
     }
 }
 
-/// A copy of an outgoing side.
+// A copy of an outgoing side.
 fn copy_from(alloc: Global, from: &Option<Side>) -> Result<Option<Side>, AllocError>
     ensures { IfOk result (λ copy. copy ≡ from.now) }
 {
@@ -64,7 +64,7 @@ fn copy_from(alloc: Global, from: &Option<Side>) -> Result<Option<Side>, AllocEr
     }
 }
 
-/// The side at that speed, where it has the reel and no speed yet.
+// The side at that speed, where it has the reel and no speed yet.
 fn sped(side: Side, reel: ReelName<'_>, tenths: u16) -> Option<Side>
     ensures { MatchOption result
         (wants (reel_named (reel_said reel.entry)) side ≡ false)
@@ -80,7 +80,7 @@ fn sped(side: Side, reel: ReelName<'_>, tenths: u16) -> Option<Side>
     }
 }
 
-/// The outgoing side at that speed, where there is one that has the reel and no speed yet.
+// The outgoing side at that speed, where there is one that has the reel and no speed yet.
 fn given(from: Option<Side>, reel: ReelName<'_>, tenths: u16) -> Option<Side>
     ensures { result ≡ given_by (reel_named (reel_said reel.entry)) tenths from }
 {
@@ -132,7 +132,7 @@ impl Pending {
         }
     }
 
-    /// The line with a speed for the reel of its own side.
+    // The line with a speed for the reel of its own side.
     fn with_incoming_speed(self, reel: ReelName<'_>, tenths: u16) -> Option<Pending>
         ensures { result ≡ sped_by self.to.speed (reel_named (reel_said reel.entry)) tenths self }
     {
@@ -188,7 +188,7 @@ impl Pending {
         Ok(side)
     }
 
-    /// The event of the line on one channel.
+    // The event of the line on one channel.
     fn event(&self, alloc: Global, channel: Channel) -> Result<Event, AllocError>
         ensures { IfOk result (λ event. event ≡ event_of self.now channel) }
     {
@@ -202,7 +202,7 @@ impl Pending {
         })
     }
 
-    /// Adds the event of the line on a channel that it has.
+    // Adds the event of the line on a channel that it has.
     fn push_on(
         &self,
         alloc: Global,
@@ -220,7 +220,7 @@ impl Pending {
         Ok(())
     }
 
-    /// Adds the events of the line on the channels before a second sound.
+    // Adds the events of the line on the channels before a second sound.
     fn push_before(&self, alloc: Global, events: &mut Vec<Event>) -> Result<(), AllocError>
         ensures { OnOk result (events.new.items ≡ events.old.items
             ++ map (event_of self.now) (where_set self.now.channels.picture Channel.V)
@@ -231,7 +231,7 @@ impl Pending {
         Ok(())
     }
 
-    /// The event of the line on one channel, in the same memory.
+    // The event of the line on one channel, in the same memory.
     fn into_event(self, alloc: Global, channel: Channel) -> Result<Event, AllocError>
         ensures { IfOk result (λ event. event ≡ event_of self channel) }
     {
@@ -245,7 +245,7 @@ impl Pending {
         })
     }
 
-    /// Adds the event of the line on its last channel, in the same memory.
+    // Adds the event of the line on its last channel, in the same memory.
     fn push_last(
         self,
         alloc: Global,

@@ -5,7 +5,7 @@ ghost use Rattle.edl_text.specs.Notes.{IsBehind, IsNote};
 
 use text_lines::{strip_front, trim_blanks, trim_front};
 
-// The text of a note for this side, `FROM` or `TO`.
+/// The text of a note for this side, `FROM` or `TO`.
 pub(crate) fn note_of<'a>(line: &'a [u8], side: &[u8]) -> Option<&'a [u8]>
     ensures { MatchOption result
         ((text : List ℕ) → IsNote side.now line.now text → ⊥)
@@ -33,7 +33,7 @@ fn behind_word<'a>(line: &'a [u8], word: &[u8]) -> Option<&'a [u8]>
     }
 }
 
-// The name that a text gives.
+/// The name that a text gives.
 pub(crate) fn name_of(text: &[u8]) -> Option<&str>
     ensures { MatchOption result
         (IsUtf8 (trimmed text.now) → ⊥)

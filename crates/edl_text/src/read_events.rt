@@ -14,7 +14,7 @@ use crate::read_numbers::{
 use crate::statement_types::{Channels, EventLine, Kind};
 use text_lines::{is_text, strip_front};
 
-// The event of a line.
+/// The event of a line.
 #[tactic(auto, using(crate::proofs::EventParts::no_length))]
 pub(crate) fn event_of(line: &[u8]) -> Option<EventLine<'_>>
     ensures { MatchOption result

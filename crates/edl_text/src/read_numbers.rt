@@ -20,7 +20,7 @@ pub(crate) const CODE_DIGITS: usize = 3;
 /// How many digits stand at most before the point of a speed.
 pub(crate) const SPEED_DIGITS: usize = 3;
 
-// The number that a field of digits writes, at most so many.
+/// The number that a field of digits writes, at most so many.
 #[tactic(auto, using(crate::proofs::Figures::is_number, crate::proofs::Figures::below))]
 pub(crate) fn number_of(field: &[u8], most: usize) -> Option<u32>
     requires { most ≤ 6 }
@@ -36,7 +36,7 @@ pub(crate) fn number_of(field: &[u8], most: usize) -> Option<u32>
     }
 }
 
-// The number that a field of digits writes, at most so many, in sixteen bits.
+/// The number that a field of digits writes, at most so many, in sixteen bits.
 #[tactic(auto, using(crate::proofs::Figures::fits_short))]
 pub(crate) fn short_number_of(field: &[u8], most: usize) -> Option<u16>
     requires { most ≤ 4 }
@@ -72,7 +72,7 @@ fn value_of(digits: &[u8]) -> u32
     number
 }
 
-// The reel of a field.
+/// The reel of a field.
 pub(crate) fn reel_of(field: &[u8]) -> Option<ReelName<'_>>
     ensures { MatchOption result
         ((reel : Reel) → IsReel field.now reel → ⊥)

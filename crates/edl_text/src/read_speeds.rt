@@ -11,7 +11,7 @@ use crate::read_numbers::{SPEED_DIGITS, reel_of, short_number_of};
 use crate::statement_types::SpeedLine;
 use text_lines::{after, before, first_byte, is_text, strip_front};
 
-// The speed of a line.
+/// The speed of a line.
 #[tactic(auto, using(crate::proofs::SpeedParts::no_four))]
 pub(crate) fn speed_of(line: &[u8]) -> Option<SpeedLine<'_>>
     ensures { MatchOption result

@@ -115,7 +115,7 @@ impl EdlReader {
         }
     }
 
-    /// Keeps a fault, which every later call then answers.
+    // Keeps a fault, which every later call then answers.
     fn failed(&mut self, fault: EdlFault) -> EdlFault
         ensures fault { result ≡ fault }
         ensures failed { HasFailed result self.new }
@@ -124,7 +124,7 @@ impl EdlReader {
         fault
     }
 
-    /// Reads the next bytes where no fault came before.
+    // Reads the next bytes where no fault came before.
     fn take(&mut self, piece: &[u8]) -> Result<(), EdlFault>
         ensures read { OnOk result (GoesOn piece.now self.old self.new) }
         ensures live { OnOk result (StaysLive piece.now self.old) }
@@ -143,7 +143,7 @@ impl EdlReader {
         Ok(())
     }
 
-    /// Reads bytes that there is room for.
+    // Reads bytes that there is room for.
     fn take_within(&mut self, piece: &[u8]) -> Result<(), EdlFault>
         requires { self.old.taken + length piece.now ≤ most_bytes }
         ensures read { OnOk result (GoesOn piece.now self.old self.new) }
@@ -164,7 +164,7 @@ impl EdlReader {
         }
     }
 
-    /// Reads bytes of a line without its end.
+    // Reads bytes of a line without its end.
     fn hold(&mut self, piece: &[u8]) -> Result<(), EdlFault>
         requires none { HasNone 10 piece.now }
         requires room { self.old.taken + length piece.now ≤ most_bytes }
@@ -177,7 +177,7 @@ impl EdlReader {
         Ok(())
     }
 
-    /// Reads the rest of a line with the line feed behind it.
+    // Reads the rest of a line with the line feed behind it.
     fn end_line(&mut self, piece: &[u8]) -> Result<(), EdlFault>
         requires none { HasNone 10 piece.now }
         requires room { self.old.taken + length piece.now < most_bytes }
@@ -200,7 +200,7 @@ impl EdlReader {
     }
 }
 
-/// The first bytes, so many, or all where there are fewer.
+// The first bytes, so many, or all where there are fewer.
 fn first(bytes: &[u8], count: usize) -> &[u8]
     ensures { result.now ≡ bytes_before count bytes.now }
 {

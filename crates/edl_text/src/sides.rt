@@ -30,7 +30,7 @@ pub(crate) fn is_reel(name: ReelName<'_>, reel: &Reel) -> bool
     }
 }
 
-/// A copy of a reel.
+// A copy of a reel.
 fn copy_reel(alloc: Global, reel: &Reel) -> Result<Reel, AllocError>
     ensures { IfOk result (λ copy. copy ≡ reel.now) }
 {
@@ -40,7 +40,7 @@ fn copy_reel(alloc: Global, reel: &Reel) -> Result<Reel, AllocError>
     }
 }
 
-/// A copy of a name.
+// A copy of a name.
 fn copy_name(alloc: Global, name: &Option<Text>) -> Result<Option<Text>, AllocError>
     ensures { IfOk result (λ copy. copy ≡ name.now) }
 {

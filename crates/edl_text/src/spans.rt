@@ -8,8 +8,8 @@ use edl_list::Event;
 use std::alloc::AllocError;
 use std::collections::BTreeMap;
 
-// Whether the record span of an event shares a frame with one that is kept, where no two of those
-// share one: of those that start before its end only the last can.
+/// Whether the record span of an event shares a frame with one that is kept, where no two of those
+/// share one: of those that start before its end only the last can.
 pub(crate) fn meets(spans: &BTreeMap<i64, i64>, event: &Event) -> bool
     ensures { AreSpansApart spans.now → MatchBool result
         (Meets spans.now event.now.rec_in event.now.rec_out)
@@ -27,7 +27,7 @@ fn is_below(a: &i64, b: &i64) -> bool
     *a < *b
 }
 
-// Keeps the record span of an event too.
+/// Keeps the record span of an event too.
 pub(crate) fn keep(spans: &mut BTreeMap<i64, i64>, event: &Event) -> Result<(), AllocError>
     ensures { OnOk result (Updates int_cmp spans.old spans.new event.now.rec_in
         (Some event.now.rec_out)) }

@@ -39,7 +39,7 @@ pub fn concatenated(alloc: Global, inputs: &[Timeline]) -> Result<Timeline, Tool
     }
 }
 
-/// The timeline, where it has no fault.
+// The timeline, where it has no fault.
 fn checked(alloc: Global, timeline: Timeline) -> Result<Timeline, ToolFault>
     requires few { count timeline.tracks.children < 2 ^ 32 }
     ensures same { IfOk result (λ found. found ≡ timeline) }
@@ -55,7 +55,7 @@ fn checked(alloc: Global, timeline: Timeline) -> Result<Timeline, ToolFault>
     }
 }
 
-/// The timelines one after another, where that is sound.
+// The timelines one after another, where that is sound.
 fn concatenated_soundly(alloc: Global, inputs: &[Timeline]) -> Result<Timeline, ToolFault>
     requires some { inputs.now ≢ [] }
     requires ready { All IsReady inputs.now }
@@ -73,7 +73,7 @@ fn concatenated_soundly(alloc: Global, inputs: &[Timeline]) -> Result<Timeline, 
     }
 }
 
-/// How many items timelines have together, up to the greatest number of 64 bits.
+// How many items timelines have together, up to the greatest number of 64 bits.
 fn items_in(inputs: &[Timeline]) -> usize
     ensures { result ≡ capped_count (gathers.items_in inputs.now) }
 {
@@ -84,7 +84,7 @@ fn items_in(inputs: &[Timeline]) -> usize
     items
 }
 
-/// Whether timelines have more than 100 000 items together.
+// Whether timelines have more than 100 000 items together.
 fn are_many(inputs: &[Timeline]) -> bool
     ensures { MatchBool result (most_items < gathers.items_in inputs.now)
         (gathers.items_in inputs.now ≤ most_items) }
@@ -92,8 +92,8 @@ fn are_many(inputs: &[Timeline]) -> bool
     items_in(inputs) > MOST_ITEMS
 }
 
-/// The timelines above each other, with at most 100 000 items. Their items are counted before
-/// anything is copied.
+// The timelines above each other, with at most 100 000 items. Their items are counted before
+// anything is copied.
 fn stacked(alloc: Global, inputs: &[Timeline]) -> Result<Timeline, ToolFault>
     requires some { inputs.now ≢ [] }
     requires ready { All IsReady inputs.now }
@@ -110,7 +110,7 @@ fn stacked(alloc: Global, inputs: &[Timeline]) -> Result<Timeline, ToolFault>
     }
 }
 
-/// The one timeline that there is.
+// The one timeline that there is.
 fn the_one(inputs: Vec<Timeline>) -> Timeline
     requires { length inputs.items ≡ 1 }
     ensures { inputs.items ≡ result ∷ [] }
@@ -122,7 +122,7 @@ fn the_one(inputs: Vec<Timeline>) -> Timeline
     }
 }
 
-/// The timelines as one, one after another or above each other.
+// The timelines as one, one after another or above each other.
 fn joined_by(alloc: Global, inputs: &[Timeline], joining: Joining) -> Result<Timeline, ToolFault>
     requires some { inputs.now ≢ [] }
     requires ready { All IsReady inputs.now }

@@ -11,7 +11,7 @@ use crate::input_tracks::{part_at, seat_at};
 use crate::inputs::{Part, Seat};
 use crate::joined_tracks::{own_children, pad_ticks};
 
-/// How many items an input gives to a joined track, at all levels.
+// How many items an input gives to a joined track, at all levels.
 fn own_count<'a>(part: &Part<'a>, seat: Seat<'a>) -> usize
     requires { IsPart part.now }
     ensures value { result ≡ counts_by count (given (slot_of seat.entry) part.now) }
@@ -23,7 +23,7 @@ fn own_count<'a>(part: &Part<'a>, seat: Seat<'a>) -> usize
     }
 }
 
-/// 1 where a gap stands behind what an input gives, else 0.
+// 1 where a gap stands behind what an input gives, else 0.
 fn pad_count<'a>(part: &Part<'a>, seat: Seat<'a>) -> usize
     requires { IsPart part.now }
     ensures value { result ≡ child_counts (pad_behind (slot_of seat.entry) part.now) }
@@ -35,8 +35,8 @@ fn pad_count<'a>(part: &Part<'a>, seat: Seat<'a>) -> usize
     0
 }
 
-/// How many items the input of an index gives to a joined track, the gap behind them with them;
-/// none stands behind the last.
+// How many items the input of an index gives to a joined track, the gap behind them with them;
+// none stands behind the last.
 fn part_count<'a>(parts: &[Part<'a>], index: usize, seat: Seat<'a>) -> usize
     requires parts { AreParts parts.now }
     requires there { index < length parts.now }
@@ -53,8 +53,8 @@ fn part_count<'a>(parts: &[Part<'a>], index: usize, seat: Seat<'a>) -> usize
     own
 }
 
-/// How many more items may stand once a joined track stands, where so many may before; `None`
-/// where too few may.
+// How many more items may stand once a joined track stands, where so many may before; `None`
+// where too few may.
 fn room_behind<'a>(parts: &[Part<'a>], seat: Seat<'a>, room: usize) -> Option<usize>
     requires { AreParts parts.now }
     ensures some { IfSome result

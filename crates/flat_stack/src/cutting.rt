@@ -24,7 +24,7 @@ pub(crate) fn cuts_at(item: &Item, ticks: i128) -> bool
     is_whole_at(item, ticks)
 }
 
-/// What stands of an item up to so many ticks from its start, as a copy.
+// What stands of an item up to so many ticks from its start, as a copy.
 fn up_to(alloc: Global, item: &Item, ticks: i128, rate: Rate) -> Result<Item, AllocError>
     requires cuttable { IsCuttable item.now }
     requires low { pos 0 <ℤ ticks }
@@ -45,7 +45,7 @@ fn up_to(alloc: Global, item: &Item, ticks: i128, rate: Rate) -> Result<Item, Al
     }
 }
 
-/// What stands of an item from so many ticks from its start on.
+// What stands of an item from so many ticks from its start on.
 fn from_on(alloc: Global, item: Item, ticks: i128, rate: Rate) -> Result<Item, AllocError>
     requires cuttable { IsCuttable item }
     requires high { pos 0 <ℤ ticks → ticks <ℤ children.ticks item }

@@ -18,7 +18,7 @@ pub struct Spot {
     pub child: Option<usize>,
 }
 
-/// The place of a spot.
+// The place of a spot.
 fn place_of(alloc: Global, spot: Spot) -> Result<Place, AllocError>
     requires { IsNear spot }
     ensures { IfOk result (λ place. place ≡ spot_place spot) }

@@ -25,7 +25,7 @@ pub(crate) fn input_at(inputs: &[Timeline], index: usize) -> &Timeline
     }
 }
 
-/// The fault of an input that tells of a spot in it; want of memory tells input 0.
+// The fault of an input that tells of a spot in it; want of memory tells input 0.
 fn told(alloc: Global, input: usize, spot: Spot) -> FlatAt
     requires { IsNear spot }
     ensures said { IsSaid spot result.fault }

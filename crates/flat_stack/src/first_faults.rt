@@ -5,7 +5,7 @@ ghost use Rattle.flat_stack.specs.Sought as sought;
 
 use crate::fault_places::Spot;
 
-/// Whether one child of a root child, or itself, stands before another.
+// Whether one child of a root child, or itself, stands before another.
 fn child_before(first: Option<usize>, second: Option<usize>) -> bool
     ensures { result ≡ sought.child_before first second }
 {
@@ -18,7 +18,7 @@ fn child_before(first: Option<usize>, second: Option<usize>) -> bool
     }
 }
 
-/// Whether one spot stands before another in document order.
+// Whether one spot stands before another in document order.
 fn is_before(first: Spot, second: Spot) -> bool
     ensures { result ≡ sought.is_before first second }
 {

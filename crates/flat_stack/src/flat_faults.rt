@@ -24,7 +24,7 @@ use flat::Cause;
 use otio_model::{Children, Item, ItemOf};
 use sequences::Text;
 
-/// What is wrong with a child of a track that is flattened.
+// What is wrong with a child of a track that is flattened.
 fn child_cause(item: &Item) -> Option<Cause>
     ensures { result ≡ misfits.child_cause item.now }
 {
@@ -36,7 +36,7 @@ fn child_cause(item: &Item) -> Option<Cause>
     }
 }
 
-/// Whether an item is a track.
+// Whether an item is a track.
 fn is_track(item: &Item) -> bool
     ensures { result ≡ roots.is_track item.now }
 {
@@ -46,7 +46,7 @@ fn is_track(item: &Item) -> bool
     }
 }
 
-/// The first child with which something is wrong, and what.
+// The first child with which something is wrong, and what.
 fn first_misfit(children: &Children) -> Option<(usize, Cause)>
     ensures found { IfSome result (λ found. IsMisfit (items_of children.now) found.0 found.1) }
     ensures none { IfNone result (AreFit (items_of children.now) (length (items_of children.now))) }
@@ -60,8 +60,8 @@ fn first_misfit(children: &Children) -> Option<(usize, Cause)>
     None
 }
 
-/// What is wrong with the root child of an index: it is no track, or it is flattened and isn't
-/// plain or has a first child with which something is wrong.
+// What is wrong with the root child of an index: it is no track, or it is flattened and isn't
+// plain or has a first child with which something is wrong.
 fn layer_fault(item: &Item, kind: &Text, track: usize) -> Option<Spot>
     requires few { count_of item.now < 2 ^ 32 }
     requires near { track < 2 ^ 32 }
@@ -103,8 +103,8 @@ fn layer_fault(item: &Item, kind: &Text, track: usize) -> Option<Spot>
     }
 }
 
-/// The first place, in document order, at which something is wrong with root children that are
-/// flattened, whatever their parts are.
+// The first place, in document order, at which something is wrong with root children that are
+// flattened, whatever their parts are.
 fn root_misfit(children: &Children, kind: &Text) -> Option<Spot>
     requires few { count children.now < 2 ^ 32 }
     ensures near { IfSome result IsNear }

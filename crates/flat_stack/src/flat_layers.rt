@@ -16,7 +16,7 @@ use pieces::sound_ticks;
 use sequences::Text;
 use std::alloc::{AllocError, Global};
 
-/// The longer of a length and an item's, where the item is an enabled track of a kind.
+// The longer of a length and an item's, where the item is an enabled track of a kind.
 fn with_layer(item: &Item, kind: &Text, end: i128) -> i128
     requires cuttable { IsCuttable item.now }
     requires low { pos 0 ≤ℤ end }
@@ -35,7 +35,7 @@ fn with_layer(item: &Item, kind: &Text, end: i128) -> i128
     end
 }
 
-/// How long the longest enabled track of a kind is, in ticks; 0 where there is none.
+// How long the longest enabled track of a kind is, in ticks; 0 where there is none.
 fn longest_track(children: &Children, kind: &Text) -> i128
     requires few { count children.now < 2 ^ 32 }
     requires faultless { AreFaultless children.now }

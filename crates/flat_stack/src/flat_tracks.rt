@@ -34,7 +34,7 @@ pub(crate) fn first_of(children: &Children, kind: &Text) -> Option<usize>
     None
 }
 
-/// Copies of the children before an index.
+// Copies of the children before an index.
 fn copy_front(alloc: Global, children: &Children, end: usize) -> Result<Vec<Item>, AllocError>
     requires { end ≤ length (items_of children.now) }
     ensures { IfOk result (λ front. front.items ≡ take end (items_of children.now)) }
@@ -46,7 +46,7 @@ fn copy_front(alloc: Global, children: &Children, end: usize) -> Result<Vec<Item
     Ok(front)
 }
 
-/// Adds copies of the children from an index on that are no track of a kind.
+// Adds copies of the children from an index on that are no track of a kind.
 fn copy_others(
     alloc: Global,
     children: &Children,

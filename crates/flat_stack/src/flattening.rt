@@ -32,7 +32,7 @@ use sequences::Text;
 use std::alloc::{AllocError, Global};
 use tick_time::Rate;
 
-/// A gap as long as a part.
+// A gap as long as a part.
 fn part_gap(alloc: Global, ticks: i128, rate: Rate) -> Result<Item, AllocError>
     requires low { pos 0 ≤ℤ ticks }
     requires high { ticks ≤ℤ pos 705600000000000000000000 }
@@ -45,7 +45,7 @@ fn part_gap(alloc: Global, ticks: i128, rate: Rate) -> Result<Item, AllocError>
     }
 }
 
-/// The item that a part becomes: a piece of its clip, or a gap.
+// The item that a part becomes: a piece of its clip, or a gap.
 fn part_item(alloc: Global, children: &Children, part: Part, rate: Rate) -> Result<Item, AllocError>
     requires few { count children.now < 2 ^ 32 }
     requires faultless { AreFaultless children.now }
@@ -70,7 +70,7 @@ fn part_item(alloc: Global, children: &Children, part: Part, rate: Rate) -> Resu
     }
 }
 
-/// The items that all parts become.
+// The items that all parts become.
 fn part_items(
     alloc: Global,
     children: &Children,
@@ -93,7 +93,7 @@ fn part_items(
     Ok(done)
 }
 
-/// Copies of the children, with a flat track behind them or in place of the tracks of its kind.
+// Copies of the children, with a flat track behind them or in place of the tracks of its kind.
 fn with_flat(
     alloc: Global,
     children: &Children,
@@ -114,8 +114,8 @@ fn with_flat(
     Ok(all)
 }
 
-/// A copy of the timeline with a flat track made of these parts; a plain one where no track is of
-/// the kind.
+// A copy of the timeline with a flat track made of these parts; a plain one where no track is of
+// the kind.
 fn flat_copy(
     alloc: Global,
     timeline: &Timeline,

@@ -31,7 +31,7 @@ pub(crate) fn seat_at<'a>(seats: &[Seat<'a>], index: usize) -> Seat<'a>
     }
 }
 
-/// Whether none of so many inputs has a track of a seat's kind and index.
+// Whether none of so many inputs has a track of a seat's kind and index.
 fn is_new<'a>(parts: &[Part<'a>], count: usize, seat: Seat<'a>) -> bool
     requires parts { AreParts parts.now }
     requires there { count ≤ length parts.now }
@@ -47,7 +47,7 @@ fn is_new<'a>(parts: &[Part<'a>], count: usize, seat: Seat<'a>) -> bool
     true
 }
 
-/// Adds the tracks of an input that none before it has.
+// Adds the tracks of an input that none before it has.
 fn add_new<'a>(parts: &[Part<'a>], at: usize, all: &mut Vec<Seat<'a>>) -> Result<(), AllocError>
     requires parts { AreParts parts.now }
     requires there { at < length parts.now }

@@ -52,7 +52,7 @@ pub(crate) fn kind_of(item: &Item) -> &str
     }
 }
 
-/// The item of an index that isn't past the end.
+// The item of an index that isn't past the end.
 fn item_at<'b, 'a>(items: &'b [&'a Item], index: usize) -> &'b &'a Item
     requires { index < length items.now }
     ensures { slice_get items.now index ≡ Some result.now }
@@ -79,7 +79,7 @@ pub(crate) fn track_at<'b, 'a>(tracks: &'b Tracks<'a>, kind: &str, index: usize)
     }
 }
 
-/// Takes the tracks of a kind out.
+// Takes the tracks of a kind out.
 fn taken<'a>(alloc: Global, tracks: &mut Tracks<'a>, kind: &str) -> Vec<&'a Item>
     ensures value { lent (Some result) ≡ tracks_at kind.now tracks.old }
     ensures gone { Updates kind.now None tracks.old tracks.new }
@@ -90,7 +90,7 @@ fn taken<'a>(alloc: Global, tracks: &mut Tracks<'a>, kind: &str) -> Vec<&'a Item
     }
 }
 
-/// Adds a track behind those of its kind, and tells how many these are.
+// Adds a track behind those of its kind, and tells how many these are.
 fn add_track<'a>(
     alloc: Global,
     tracks: &mut Tracks<'a>,

@@ -22,8 +22,8 @@ use flat::Cause;
 use otio_model::{Children, Item, ItemOf, offset_ticks};
 use pieces::sound_ticks;
 
-/// Whether an item is a transition that begins before its list or as its first child, where it
-/// stands at an index and starts at an instant.
+// Whether an item is a transition that begins before its list or as its first child, where it
+// stands at an index and starts at an instant.
 fn begins_early(item: &Item, index: usize, at: i128) -> bool
     ensures { result ≡ early_by index at (overlap_of item.now) }
 {
@@ -33,8 +33,8 @@ fn begins_early(item: &Item, index: usize, at: i128) -> bool
     }
 }
 
-/// Whether an item is a transition that ends behind its list or as its last child, where so many
-/// children of so many ticks stand behind it.
+// Whether an item is a transition that ends behind its list or as its last child, where so many
+// children of so many ticks stand behind it.
 fn ends_late(item: &Item, left: usize, rest: i128) -> bool
     ensures { result ≡ late_by left rest (overlap_of item.now) }
 {
@@ -46,21 +46,21 @@ fn ends_late(item: &Item, left: usize, rest: i128) -> bool
     }
 }
 
-/// Whether an item begins too early, of an input that isn't the first.
+// Whether an item begins too early, of an input that isn't the first.
 fn blocks_start(item: &Item, index: usize, at: i128, is_first: bool) -> bool
     ensures { result ≡ (not is_first && early_by index at (overlap_of item.now)) }
 {
     !is_first && begins_early(item, index, at)
 }
 
-/// Whether an item ends too late, of an input that isn't the last.
+// Whether an item ends too late, of an input that isn't the last.
 fn blocks_end(item: &Item, left: usize, rest: i128, is_last: bool) -> bool
     ensures { result ≡ (not is_last && late_by left rest (overlap_of item.now)) }
 {
     !is_last && ends_late(item, left, rest)
 }
 
-/// The first transition of a track that may not stand where it does.
+// The first transition of a track that may not stand where it does.
 fn first_crossing(children: &Children, is_first: bool, is_last: bool) -> Option<usize>
     requires few { count children.now < 2 ^ 32 }
     requires cuttable { AreCuttable (items_of children.now) }
@@ -85,8 +85,8 @@ fn first_crossing(children: &Children, is_first: bool, is_last: bool) -> Option<
     None
 }
 
-/// The first transition that may not stand where it does in a root child that is a plain track; a
-/// disabled one has none.
+// The first transition that may not stand where it does in a root child that is a plain track; a
+// disabled one has none.
 fn inner_crossing(item: &Item, is_first: bool, is_last: bool) -> Option<usize>
     requires few { count_of item.now < 2 ^ 32 }
     requires faultless { IsFaultlessItem item.now }
@@ -112,8 +112,8 @@ fn inner_crossing(item: &Item, is_first: bool, is_last: bool) -> Option<usize>
     }
 }
 
-/// What is wrong with the root child of an index: it is no plain track, or else has a transition
-/// that may not stand where it does.
+// What is wrong with the root child of an index: it is no plain track, or else has a transition
+// that may not stand where it does.
 fn track_fault(item: &Item, track: usize, is_first: bool, is_last: bool) -> Option<Spot>
     requires few { count_of item.now < 2 ^ 32 }
     requires faultless { IsFaultlessItem item.now }

@@ -23,7 +23,7 @@ use pieces::{RangedFault, new_gap};
 use std::alloc::{AllocError, Global};
 use tick_time::Rate;
 
-/// The children of a track, where it is enabled.
+// The children of a track, where it is enabled.
 fn enabled_children(item: &Item) -> Option<&Children>
     ensures there { IfSome result (λ c. children_of item.now ≡ Some c.now) }
     ensures some { IfSome result (λ c. items_of c.now ≡ joined.own_items (Some item.now)) }
@@ -59,7 +59,7 @@ pub(crate) fn own_children<'b, 'a>(part: &'b Part<'a>, seat: Seat<'a>) -> Option
     }
 }
 
-/// How long the children are that an input gives, in ticks.
+// How long the children are that an input gives, in ticks.
 fn own_ticks<'a>(part: &Part<'a>, seat: Seat<'a>) -> i128
     requires { IsPart part.now }
     ensures value { result ≡
@@ -84,7 +84,7 @@ pub(crate) fn pad_ticks<'a>(part: &Part<'a>, seat: Seat<'a>) -> i128
     part.stretch - own_ticks(part, seat)
 }
 
-/// Adds copies of what an input gives.
+// Adds copies of what an input gives.
 fn put_own<'a>(
     alloc: Global,
     part: &Part<'a>,
@@ -101,7 +101,7 @@ fn put_own<'a>(
     }
 }
 
-/// A gap of so many ticks, at a rate.
+// A gap of so many ticks, at a rate.
 fn gap(alloc: Global, ticks: i128, rate: Rate) -> Result<Item, AllocError>
     requires low { pos 0 <ℤ ticks }
     requires high { ticks ≤ℤ pos most_ticks }
@@ -114,7 +114,7 @@ fn gap(alloc: Global, ticks: i128, rate: Rate) -> Result<Item, AllocError>
     }
 }
 
-/// Adds the gap behind what an input gives, up to the next input.
+// Adds the gap behind what an input gives, up to the next input.
 fn put_pad<'a>(
     alloc: Global,
     part: &Part<'a>,
@@ -136,7 +136,7 @@ fn put_pad<'a>(
     Ok(())
 }
 
-/// Adds what the input of an index gives, and the gap behind it where more inputs follow.
+// Adds what the input of an index gives, and the gap behind it where more inputs follow.
 fn put_part<'a>(
     alloc: Global,
     parts: &[Part<'a>],
@@ -160,7 +160,7 @@ fn put_part<'a>(
     Ok(())
 }
 
-/// The children of a joined track.
+// The children of a joined track.
 fn seat_items<'a>(
     alloc: Global,
     parts: &[Part<'a>],
@@ -178,7 +178,7 @@ fn seat_items<'a>(
     Ok(all)
 }
 
-/// A copy of a track, enabled, with other children.
+// A copy of a track, enabled, with other children.
 fn joined_with(alloc: Global, first: &Item, items: Vec<Item>) -> Result<Item, AllocError>
     ensures { IfOk result (λ track. track ≡ joined.joined_with first.now items.items) }
 {
@@ -196,7 +196,7 @@ fn joined_with(alloc: Global, first: &Item, items: Vec<Item>) -> Result<Item, Al
     }
 }
 
-/// The joined track of a seat.
+// The joined track of a seat.
 fn seat_track<'a>(
     alloc: Global,
     parts: &[Part<'a>],

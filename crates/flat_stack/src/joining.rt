@@ -22,7 +22,7 @@ use otio_model::Timeline;
 use std::alloc::{AllocError, Global};
 use tick_time::Rate;
 
-/// The inputs with their tracks by kind, at a record rate.
+// The inputs with their tracks by kind, at a record rate.
 fn parts_of<'a>(
     alloc: Global,
     inputs: &'a [Timeline],
@@ -48,7 +48,7 @@ fn parts_of<'a>(
     Ok(parts)
 }
 
-/// The inputs joined, from what is kept of them.
+// The inputs joined, from what is kept of them.
 fn joined_of<'a>(
     alloc: Global,
     first: &Timeline,
@@ -64,7 +64,7 @@ fn joined_of<'a>(
     copy_with(alloc, first, tracks)
 }
 
-/// The inputs joined, where that has so many items at most; `None` where it has more.
+// The inputs joined, where that has so many items at most; `None` where it has more.
 fn joined_within(
     alloc: Global,
     inputs: &[Timeline],
@@ -98,7 +98,7 @@ fn joined_within(
     }
 }
 
-/// Want of memory, which tells no input.
+// Want of memory, which tells no input.
 fn no_memory() -> FlatAt
     ensures { result ≡ record { input = 0; fault = FlatFault.Memory } }
 {

@@ -25,7 +25,7 @@ pub(crate) fn total_ticks(children: &Children) -> i128
     children.added_ticks() as i128
 }
 
-/// How long the longest of some root children is, in ticks. It takes no step for each.
+// How long the longest of some root children is, in ticks. It takes no step for each.
 #[tactic(auto, using(crate::proofs::MeasureLemmas::longests))]
 fn longest_ticks(children: &Children) -> u128
     requires few { count children.now < 2 ^ 32 }
@@ -36,7 +36,7 @@ fn longest_ticks(children: &Children) -> u128
     children.longest_ticks()
 }
 
-/// So many ticks up to whole frames of so many.
+// So many ticks up to whole frames of so many.
 fn rounded_up(frame: u128, ticks: u128) -> u128
     requires positive { 0 < frame }
     requires small { frame ≤ 705600000000000000 }
@@ -47,7 +47,7 @@ fn rounded_up(frame: u128, ticks: u128) -> u128
     ((ticks + (frame - 1)) / frame) * frame
 }
 
-/// The lesser of so many ticks and the most that there may be.
+// The lesser of so many ticks and the most that there may be.
 fn at_most(ticks: u128) -> i128
     requires { ticks ≤ 1000000000000000000000000 }
     ensures value { result ≡ pos (min ticks most_ticks) }

@@ -39,7 +39,7 @@ pub(crate) fn part_at(parts: &[Part], index: usize) -> Part
     parts[index]
 }
 
-/// The clip of a part, where it can't be cut at both ends of it.
+// The clip of a part, where it can't be cut at both ends of it.
 fn refusal(children: &Children, part: Part) -> Option<Spot>
     requires few { count children.now < 2 ^ 32 }
     requires faultless { AreFaultless children.now }

@@ -20,14 +20,14 @@ pub struct Part {
     pub given: Option<Given>,
 }
 
-/// Whether two clips are one.
+// Whether two clips are one.
 fn is_one(first: Given, second: Given) -> bool
     ensures { IsTrue result ↔ (first ≡ second) }
 {
     first.track == second.track && first.child == second.child && first.start == second.start
 }
 
-/// Whether one clip gives both, or none does.
+// Whether one clip gives both, or none does.
 fn is_same(first: Option<Given>, second: Option<Given>) -> bool
     ensures { IsTrue result ↔ (first ≡ second) }
 {

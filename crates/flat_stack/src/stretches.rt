@@ -42,7 +42,7 @@ pub(crate) struct Stretch {
     pub(crate) given: Option<Given>,
 }
 
-/// Whether an item is an enabled clip.
+// Whether an item is an enabled clip.
 fn gives(item: &Item) -> bool
     ensures { result ≡ flat_pieces.gives item.now }
 {
@@ -62,7 +62,7 @@ pub fn is_layer(item: &Item, kind: &Text) -> bool
     }
 }
 
-/// Nothing up to an end.
+// Nothing up to an end.
 fn nothing(alloc: Global, end: i128) -> Result<Vec<Stretch>, AllocError>
     requires { pos 0 <ℤ end }
     ensures { IfOk result (λ all. (l : List (AnyItemOf Listed)) →
@@ -76,7 +76,7 @@ fn nothing(alloc: Global, end: i128) -> Result<Vec<Stretch>, AllocError>
     Ok(all)
 }
 
-/// What an item gives that starts at an instant.
+// What an item gives that starts at an instant.
 fn given_by(item: &Item, track: usize, child: usize, start: i128) -> Option<Given>
     ensures { result ≡ runs.given_by item.now track child start }
 {
@@ -90,7 +90,7 @@ fn given_by(item: &Item, track: usize, child: usize, start: i128) -> Option<Give
     None
 }
 
-/// What each child of a track gives, up to an end.
+// What each child of a track gives, up to an end.
 fn track_stretches(
     alloc: Global,
     children: &Children,
@@ -128,7 +128,7 @@ fn track_stretches(
     Ok(all)
 }
 
-/// What a root child gives where it is an enabled track of a kind, up to an end.
+// What a root child gives where it is an enabled track of a kind, up to an end.
 fn layer_stretches(
     alloc: Global,
     item: &Item,
@@ -157,7 +157,7 @@ fn layer_stretches(
     }
 }
 
-/// What the first of two stretches gives, else the second, up to where one of them ends.
+// What the first of two stretches gives, else the second, up to where one of them ends.
 fn upper_first(upper: Stretch, lower: Stretch) -> Stretch
     ensures { result ≡ runs.upper_first upper lower }
 {
@@ -177,7 +177,7 @@ fn upper_first(upper: Stretch, lower: Stretch) -> Stretch
     }
 }
 
-/// The next stretch of one list, where another ends at an instant.
+// The next stretch of one list, where another ends at an instant.
 fn behind(index: usize, stretch: Stretch, to: i128) -> usize
     requires { index < 2 ^ 63 }
     ensures { result ≡ runs.behind index stretch to }
@@ -188,7 +188,7 @@ fn behind(index: usize, stretch: Stretch, to: i128) -> usize
     index
 }
 
-/// The stretch of an index; `None` behind the last one.
+// The stretch of an index; `None` behind the last one.
 #[tactic(auto, using(crate::proofs::RunLemmas::at_index, crate::proofs::RunLemmas::none_at))]
 fn stretch_at(list: &[Stretch], index: usize) -> Option<Stretch>
     ensures { result ≡ slice_get list.now index }
@@ -199,7 +199,7 @@ fn stretch_at(list: &[Stretch], index: usize) -> Option<Stretch>
     None
 }
 
-/// What the upper stretches give, else the lower ones. Both go up to the same end.
+// What the upper stretches give, else the lower ones. Both go up to the same end.
 fn merged(alloc: Global, upper: &[Stretch], lower: &[Stretch]) -> Result<Vec<Stretch>, AllocError>
     ensures { IfOk result (λ all. (l : List (AnyItemOf Listed)) (g h : ℤ → Option Giver) (end : ℤ) →
         AreRuns l g end (pos 0) upper.now → AreRuns l h end (pos 0) lower.now →

@@ -33,7 +33,7 @@ use std::alloc::{AllocError, Global};
 /// More items than memory can hold.
 const MOST_HELD: usize = 4_294_967_296;
 
-/// The name of a kind of tracks.
+// The name of a kind of tracks.
 fn kind_name(alloc: Global, kind: TrackKind) -> Result<Text, AllocError>
     ensures { IfOk result (λ name. name ≡ shapes.kind_name kind) }
 {
@@ -43,7 +43,7 @@ fn kind_name(alloc: Global, kind: TrackKind) -> Result<Text, AllocError>
     }
 }
 
-/// Copies of the children that are tracks of a kind.
+// Copies of the children that are tracks of a kind.
 fn tracks_of(alloc: Global, children: &Children, kind: &Text) -> Result<Children, AllocError>
     ensures { IfOk result
         (λ tracks. tracks ≡ listed (filter (roots.is_of kind.now) (items_of children.now))) }
@@ -59,7 +59,7 @@ fn tracks_of(alloc: Global, children: &Children, kind: &Text) -> Result<Children
     Children::of(alloc, Items::of(tracks))
 }
 
-/// The timeline with the root children alone that are tracks of a kind.
+// The timeline with the root children alone that are tracks of a kind.
 fn only_of(alloc: Global, timeline: Timeline, kind: TrackKind) -> Result<Timeline, AllocError>
     ensures { IfOk result (IsOnly (Some kind) timeline) }
 {
@@ -82,8 +82,8 @@ fn only_of(alloc: Global, timeline: Timeline, kind: TrackKind) -> Result<Timelin
     Ok(kept)
 }
 
-/// The timeline with the tracks of a kind alone, where one is asked for. An error is want of
-/// memory.
+// The timeline with the tracks of a kind alone, where one is asked for. An error is want of
+// memory.
 fn only(alloc: Global, timeline: Timeline, kind: Option<TrackKind>) -> Result<Timeline, AllocError>
     requires { IsReady timeline }
     ensures only { IfOk result (IsOnly kind timeline) }
@@ -98,7 +98,7 @@ fn only(alloc: Global, timeline: Timeline, kind: Option<TrackKind>) -> Result<Ti
     }
 }
 
-/// The timeline without transitions, where that is asked for. An error is want of memory.
+// The timeline without transitions, where that is asked for. An error is want of memory.
 fn straightened(alloc: Global, timeline: Timeline, asked: bool) -> Result<Timeline, AllocError>
     requires { IsReady timeline }
     ensures straight { IfOk result (IsStraightened asked timeline) }
@@ -114,14 +114,14 @@ fn straightened(alloc: Global, timeline: Timeline, asked: bool) -> Result<Timeli
     }
 }
 
-/// The record frame that a point names in a timeline.
+// The record frame that a point names in a timeline.
 fn frame_in(timeline: &Timeline, point: RecordPoint) -> Option<i64>
     ensures { result ≡ shapes.record_frame timeline.now point }
 {
     frame_at(point, record_rate(timeline))
 }
 
-/// The record frames that a window is from, and up to.
+// The record frames that a window is from, and up to.
 fn ends_of(timeline: &Timeline, window: Window) -> Option<(i128, i128)>
     ensures some { IfSome result (λ ends. IsFromTo timeline.now window ends.0 ends.1) }
     ensures none { IfNone result (IsNowhere timeline.now window) }
@@ -135,7 +135,7 @@ fn ends_of(timeline: &Timeline, window: Window) -> Option<(i128, i128)>
     }
 }
 
-/// The part of a timeline that a window keeps.
+// The part of a timeline that a window keeps.
 fn part_of(alloc: Global, timeline: Timeline, asked: Window) -> Result<Timeline, ToolFault>
     requires { IsReady timeline }
     ensures trimmed { IfOk result (IsTrimmed (Some asked) timeline) }
@@ -156,7 +156,7 @@ fn part_of(alloc: Global, timeline: Timeline, asked: Window) -> Result<Timeline,
     }
 }
 
-/// The part of a timeline that a window keeps, where one is asked for.
+// The part of a timeline that a window keeps, where one is asked for.
 fn trimmed(alloc: Global, timeline: Timeline, asked: Option<Window>) -> Result<Timeline, ToolFault>
     requires { IsReady timeline }
     ensures trimmed { IfOk result (IsTrimmed asked timeline) }
@@ -172,7 +172,7 @@ fn trimmed(alloc: Global, timeline: Timeline, asked: Option<Window>) -> Result<T
     }
 }
 
-/// The timeline with the tracks of a kind as one, however many items it then has.
+// The timeline with the tracks of a kind as one, however many items it then has.
 fn flat_named(
     alloc: Global,
     timeline: &Timeline,
@@ -188,7 +188,7 @@ fn flat_named(
     flatten(alloc, timeline, &name, keep)
 }
 
-/// The timeline, where it has fewer than 2^32 items, as each has that memory can hold.
+// The timeline, where it has fewer than 2^32 items, as each has that memory can hold.
 fn narrow(timeline: Timeline) -> Result<Timeline, ToolFault>
     ensures same { IfOk result (λ found. found ≡ timeline) }
     ensures few { IfOk result (λ found. count found.tracks.children < 2 ^ 32) }
@@ -202,7 +202,7 @@ fn narrow(timeline: Timeline) -> Result<Timeline, ToolFault>
     }
 }
 
-/// The timeline with the tracks of a kind as one.
+// The timeline with the tracks of a kind as one.
 fn flat_of(
     alloc: Global,
     timeline: &Timeline,
@@ -223,7 +223,7 @@ fn flat_of(
     }
 }
 
-/// The timeline with the tracks of each kind as one that is named.
+// The timeline with the tracks of each kind as one that is named.
 fn flat_as(
     alloc: Global,
     timeline: &Timeline,
@@ -254,7 +254,7 @@ fn flat_as(
     }
 }
 
-/// The timeline with the tracks of each kind as one that is asked for.
+// The timeline with the tracks of each kind as one that is asked for.
 fn flattened(
     alloc: Global,
     timeline: Timeline,
@@ -276,7 +276,7 @@ fn flattened(
     }
 }
 
-/// What comes of the timelines before anything is trimmed.
+// What comes of the timelines before anything is trimmed.
 fn shaped(alloc: Global, asked: ToolAsked, inputs: Vec<Timeline>) -> Result<Timeline, ToolFault>
     requires some { inputs.items ≢ [] }
     requires one { asked.joining ≡ None → length inputs.items ≡ 1 }
@@ -297,7 +297,7 @@ fn shaped(alloc: Global, asked: ToolAsked, inputs: Vec<Timeline>) -> Result<Time
     }
 }
 
-/// What comes of the timelines before anything is flattened.
+// What comes of the timelines before anything is flattened.
 fn cut(alloc: Global, asked: ToolAsked, inputs: Vec<Timeline>) -> Result<Timeline, ToolFault>
     requires some { inputs.items ≢ [] }
     requires one { asked.joining ≡ None → length inputs.items ≡ 1 }

@@ -10,7 +10,7 @@ use crate::part_copies::copy_around;
 use otio_model::{Children, Item, ItemOf, Items, Timeline, copy_item};
 use std::alloc::{AllocError, Global};
 
-/// Whether an item is a transition.
+// Whether an item is a transition.
 fn is_transition(item: &Item) -> bool
     ensures { result ≡ trees.is_transition item.now }
 {
@@ -20,14 +20,14 @@ fn is_transition(item: &Item) -> bool
     }
 }
 
-/// Whether an item isn't copied: a transition of a track.
+// Whether an item isn't copied: a transition of a track.
 fn is_left_out(item: &Item, in_track: bool) -> bool
     ensures { result ≡ (in_track && trees.is_transition item.now) }
 {
     in_track && is_transition(item)
 }
 
-/// A copy of an item, without the transitions of the tracks that it is or that stand below it.
+// A copy of an item, without the transitions of the tracks that it is or that stand below it.
 #[cycle(straight)]
 fn straight_item(alloc: Global, item: &Item) -> Result<Item, AllocError>
     ensures { IfOk result (λ copy. copy ≡ whole_item item.now) }
@@ -45,8 +45,8 @@ fn straight_item(alloc: Global, item: &Item) -> Result<Item, AllocError>
     }
 }
 
-/// Copies of children, without the transitions of tracks below them, and without their own where
-/// they are a track's.
+// Copies of children, without the transitions of tracks below them, and without their own where
+// they are a track's.
 #[cycle(straight)]
 fn straight_list(alloc: Global, children: &Children, in_track: bool) -> Result<Children, AllocError>
     ensures { IfOk result (λ copy. copy ≡ straight_children in_track children.now) }

@@ -37,7 +37,7 @@ pub(crate) fn is_cut(item: &Item, at: i128, from: i128, to: i128) -> bool
     cuts_at(item, from - at) && cuts_at(item, to - at)
 }
 
-/// The first child of a track that has to be cut at one of two instants and can't be.
+// The first child of a track that has to be cut at one of two instants and can't be.
 fn first_uncut(children: &Children, from: i128, to: i128) -> Option<usize>
     requires few { length (items_of children.now) < 2 ^ 32 }
     requires cuttable { AreCuttable (items_of children.now) }
@@ -60,8 +60,8 @@ fn first_uncut(children: &Children, from: i128, to: i128) -> Option<usize>
     None
 }
 
-/// What is wrong with the root child of an index that is cut at two instants: it is no plain track,
-/// or else has a first child that can't be cut.
+// What is wrong with the root child of an index that is cut at two instants: it is no plain track,
+// or else has a first child that can't be cut.
 fn track_fault(item: &Item, track: usize, from: i128, to: i128) -> Option<Spot>
     requires few { count_of item.now < 2 ^ 32 }
     requires faultless { IsFaultlessItem item.now }

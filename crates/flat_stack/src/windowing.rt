@@ -31,7 +31,7 @@ use pieces::{is_stripped, sound_ticks};
 use std::alloc::{AllocError, Global};
 use tick_time::{Rate, Time};
 
-/// Whether an item that starts at an instant is a transition that meets one of two others.
+// Whether an item that starts at an instant is a transition that meets one of two others.
 fn is_left_out(item: &Item, at: i128, from: i128, to: i128) -> bool
     requires low { pos 0 ≤ℤ at }
     requires high { at ≤ℤ pos 100000000000000000000000000000000000000 }
@@ -41,7 +41,7 @@ fn is_left_out(item: &Item, at: i128, from: i128, to: i128) -> bool
     is_stripped(item, at, from, from) || is_stripped(item, at, to, to)
 }
 
-/// Whether an item ends at an instant behind its start, or before it.
+// Whether an item ends at an instant behind its start, or before it.
 fn is_over(item: &Item, from: i128) -> bool
     requires { IsCuttable item.now }
     ensures { result ≡ (int_lt (pos 0) from && int_le (children.ticks item.now) from) }
@@ -49,7 +49,7 @@ fn is_over(item: &Item, from: i128) -> bool
     from > 0 && sound_ticks(item) <= from
 }
 
-/// Adds what stands of an item between two instants, counted from its start.
+// Adds what stands of an item between two instants, counted from its start.
 fn put_part(
     alloc: Global,
     item: &Item,
@@ -73,7 +73,7 @@ fn put_part(
     Ok(())
 }
 
-/// What stands of a track's children between two instants.
+// What stands of a track's children between two instants.
 fn window_items(
     alloc: Global,
     children: &Children,
@@ -105,7 +105,7 @@ fn window_items(
     Ok(done)
 }
 
-/// The children of a track in a window.
+// The children of a track in a window.
 fn track_items(
     alloc: Global,
     item: &Item,
@@ -136,7 +136,7 @@ fn track_items(
     }
 }
 
-/// A track in a window.
+// A track in a window.
 fn window_track(
     alloc: Global,
     item: &Item,
@@ -161,7 +161,7 @@ fn window_track(
     Ok(track)
 }
 
-/// All tracks in a window.
+// All tracks in a window.
 fn window_tracks(
     alloc: Global,
     children: &Children,
@@ -187,7 +187,7 @@ fn window_tracks(
     Ok(done)
 }
 
-/// The timeline from one instant up to another, with another start.
+// The timeline from one instant up to another, with another start.
 fn cut_to(
     alloc: Global,
     timeline: Timeline,

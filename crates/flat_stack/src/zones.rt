@@ -13,7 +13,7 @@ use coord::start_frame;
 use otio_model::Timeline;
 use tick_time::{Rate, Time};
 
-/// Where a timeline starts, in ticks.
+// Where a timeline starts, in ticks.
 fn first_ticks(timeline: &Timeline) -> i128
     ensures value { result ≡ zones.first_ticks timeline.now }
     ensures low { (pos 0 -ℤ pos 705600000000000000000000) ≤ℤ result }
@@ -25,7 +25,7 @@ fn first_ticks(timeline: &Timeline) -> i128
     }
 }
 
-/// A frame of a rate as a time; `None` exactly where it lies more than a million seconds from 0.
+// A frame of a rate as a time; `None` exactly where it lies more than a million seconds from 0.
 fn frame_time(number: i128, rate: Rate) -> Option<Time>
     ensures ticks { IfSome result
         (λ time. time.ticks ≡ (number *ℤ pos (frame rate.num rate.den))) }

@@ -36,7 +36,7 @@ pub(crate) fn are_open(bytes: &[u8]) -> bool
     closing == 0
 }
 
-/// 0 where the byte stands for itself in a string, and 1 where it doesn't.
+// 0 where the byte stands for itself in a string, and 1 where it doesn't.
 fn closes(byte: u8) -> u8
     ensures { result ≡ 0 → is_open byte ≡ true }
 {
@@ -157,7 +157,7 @@ pub(crate) fn is_ascii(bytes: &[u8]) -> bool
     largest < 128
 }
 
-/// The larger of two bytes.
+// The larger of two bytes.
 fn larger(one: u8, other: u8) -> u8
     ensures one { one ≤ result }
     ensures other { other ≤ result }

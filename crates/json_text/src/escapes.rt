@@ -41,7 +41,7 @@ pub(crate) fn gathered(bytes: &[u8]) -> (usize, ArrayVec<u8, ROOM>)
     (at, made)
 }
 
-/// The character of an escape that the bytes begin with, and how many bytes it has.
+// The character of an escape that the bytes begin with, and how many bytes it has.
 fn escape(bytes: &[u8]) -> Option<(usize, char)>
     ensures { IfSome result (λ found. IsEscape found.0 found.1 bytes.now) }
 {
@@ -57,7 +57,7 @@ fn escape(bytes: &[u8]) -> Option<(usize, char)>
     }
 }
 
-/// The character of an escape of four digits that the bytes begin with, behind its backslash.
+// The character of an escape of four digits that the bytes begin with, behind its backslash.
 fn coded(bytes: &[u8]) -> Option<(usize, char)>
     requires { get_or bytes.now 0 0 ≡ 92 }
     ensures { IfSome result (λ found. IsEscape found.0 found.1 bytes.now) }
@@ -74,7 +74,7 @@ fn coded(bytes: &[u8]) -> Option<(usize, char)>
     }
 }
 
-/// The character of that code.
+// The character of that code.
 fn code(a: u8, b: u8, c: u8, d: u8) -> Option<char>
     ensures { IfSome result (IsCode a b c d) }
 {
@@ -96,7 +96,7 @@ fn code(a: u8, b: u8, c: u8, d: u8) -> Option<char>
     }
 }
 
-/// Adds the character in UTF-8.
+// Adds the character in UTF-8.
 fn put_char(made: &mut ArrayVec<u8, ROOM>, character: char)
     requires { array_vec_len made.old ≤ 60 }
     ensures { made.new.items ≡ made.old.items ++ chars.encode_utf8 character }

@@ -86,7 +86,7 @@ impl Machine {
         Ok(())
     }
 
-    /// Opens a list or an object.
+    // Opens a list or an object.
     fn open(&mut self, level: Unclosed, hand: Hand) -> Result<Taken, AllocError>
         ensures { IfOk result (λ taken. IsTaken taken
             (spec.opened 127 (levels_of self.old) level
@@ -102,7 +102,7 @@ impl Machine {
         Ok(self.goes(hand))
     }
 
-    /// Opens a list.
+    // Opens a list.
     fn open_list(&mut self) -> Result<Taken, AllocError>
         ensures { IfOk result (λ taken. IsTaken taken
             (spec.opened 127 (levels_of self.old) (Unclosed.List []) spec.first_item)
@@ -112,7 +112,7 @@ impl Machine {
         self.open(Unclosed::List(items), Hand::FirstItem)
     }
 
-    /// Opens an object.
+    // Opens an object.
     fn open_map(&mut self) -> Result<Taken, AllocError>
         ensures { IfOk result (λ taken. IsTaken taken
             (spec.opened 127 (levels_of self.old) (Unclosed.Map [] []) spec.first_name)
@@ -122,7 +122,7 @@ impl Machine {
         self.open(Unclosed::Map(pairs, no_name()), Hand::FirstName)
     }
 
-    /// How many lists and objects are open.
+    // How many lists and objects are open.
     fn depth(&self) -> usize
         ensures { result ≡ length (levels_of self.now) }
     {
@@ -132,7 +132,7 @@ impl Machine {
         }
     }
 
-    /// Takes the start of a value; at white space the hand becomes `stay`.
+    // Takes the start of a value; at white space the hand becomes `stay`.
     fn begin(&mut self, stay: Hand, byte: u8) -> Result<Taken, AllocError>
         ensures { IfOk result (λ taken. IsTaken taken
             (spec.begin 127 (levels_of self.old)
@@ -161,7 +161,7 @@ impl Machine {
         Taken::Goes
     }
 
-    /// Takes white space and nothing else.
+    // Takes white space and nothing else.
     fn skip(&mut self, stay: Hand, byte: u8) -> Taken
         ensures { IsTaken result (spec.skipped (levels_of self.old)
             (hand_of stay self.old.text.items self.old.root) byte) (state_of self.new) }
@@ -173,7 +173,7 @@ impl Machine {
         }
     }
 
-    /// Begins a string.
+    // Begins a string.
     fn begin_text(&mut self, role: Role) -> Taken
         ensures { IsTaken result (Ok (spec.state (levels_of self.old)
             (spec.text role [] spec.plain))) (state_of self.new) }
@@ -182,7 +182,7 @@ impl Machine {
         self.goes(Hand::Text(role, Part::Plain))
     }
 
-    /// Begins a numeral.
+    // Begins a numeral.
     fn begin_number(&mut self, byte: u8, place: Place) -> Result<Taken, AllocError>
         ensures { IfOk result (λ taken. IsTaken taken
             (Ok (spec.state (levels_of self.old) (spec.number (byte ∷ []) place)))
@@ -193,7 +193,7 @@ impl Machine {
         Ok(self.goes(Hand::Number(place)))
     }
 
-    /// Takes the byte behind the bracket of a list.
+    // Takes the byte behind the bracket of a list.
     fn first_item(&mut self, byte: u8) -> Result<Taken, AllocError>
         ensures { IfOk result (λ taken. IsTaken taken
             (spec.item_first 127 (levels_of self.old) byte) (state_of self.new)) }
@@ -209,7 +209,7 @@ impl Machine {
         }
     }
 
-    /// Ends the innermost list or object.
+    // Ends the innermost list or object.
     fn close(&mut self) -> Result<Taken, AllocError>
         ensures { IfOk result (λ taken. IsTaken taken (spec.closed (levels_of self.old))
             (state_of self.new)) }
@@ -223,8 +223,8 @@ impl Machine {
         Ok(Taken::Goes)
     }
 
-    /// The value of a list or an object that ends. Its memory serves again where the value takes
-    /// memory of its own.
+    // The value of a list or an object that ends. Its memory serves again where the value takes
+    // memory of its own.
     fn whole(&mut self, level: Unclosed) -> Result<Json, AllocError>
         ensures value { IfOk result (λ value. value ≡ spec.whole level) }
         ensures levels { levels_of self.new ≡ levels_of self.old }
@@ -243,7 +243,7 @@ impl Machine {
         }
     }
 
-    /// Takes the byte behind the brace of an object.
+    // Takes the byte behind the brace of an object.
     fn first_name(&mut self, byte: u8) -> Result<Taken, AllocError>
         ensures { IfOk result (λ taken. IsTaken taken (spec.name_first (levels_of self.old) byte)
             (state_of self.new)) }
@@ -258,7 +258,7 @@ impl Machine {
         }
     }
 
-    /// Takes the byte behind a comma of an object.
+    // Takes the byte behind a comma of an object.
     fn next_name(&mut self, byte: u8) -> Result<Taken, AllocError>
         ensures { IfOk result (λ taken. IsTaken taken (spec.name_next (levels_of self.old) byte)
             (state_of self.new)) }
@@ -266,7 +266,7 @@ impl Machine {
         Ok(self.name(Hand::NextName, byte))
     }
 
-    /// Takes the start of a name; at white space the hand becomes `stay`.
+    // Takes the start of a name; at white space the hand becomes `stay`.
     fn name(&mut self, stay: Hand, byte: u8) -> Taken
         ensures { IsTaken result (spec.name_begins (levels_of self.old)
             (hand_of stay self.old.text.items self.old.root) byte) (state_of self.new) }
@@ -278,7 +278,7 @@ impl Machine {
         }
     }
 
-    /// Takes the byte behind a name.
+    // Takes the byte behind a name.
     fn colon(&mut self, byte: u8) -> Taken
         ensures { IsTaken result (spec.at_colon (levels_of self.old) byte) (state_of self.new) }
     {
@@ -289,7 +289,7 @@ impl Machine {
         }
     }
 
-    /// Takes the byte behind a value of a list or an object.
+    // Takes the byte behind a value of a list or an object.
     fn behind(&mut self, byte: u8) -> Result<Taken, AllocError>
         ensures { IfOk result (λ taken. IsTaken taken (spec.behind_in (levels_of self.old) byte)
             (state_of self.new)) }
@@ -308,7 +308,7 @@ impl Machine {
         }
     }
 
-    /// Takes the byte behind the whole value.
+    // Takes the byte behind the whole value.
     fn done(&mut self, byte: u8) -> Taken
         ensures { IsTaken result (spec.at_end (levels_of self.old) self.old.root byte)
             (state_of self.new) }
@@ -319,7 +319,7 @@ impl Machine {
         }
     }
 
-    /// Takes a byte of a word.
+    // Takes a byte of a word.
     fn in_word(&mut self, word: Word, left: &'static [u8], byte: u8) -> Result<Taken, AllocError>
         ensures { IfOk result (λ taken. IsTaken taken
             (spec.in_word (levels_of self.old) (value_of word) left.now byte) (state_of self.new)) }
@@ -338,7 +338,7 @@ impl Machine {
         }
     }
 
-    /// Takes a byte in or behind a numeral.
+    // Takes a byte in or behind a numeral.
     fn in_number(&mut self, place: Place, byte: u8) -> Result<Taken, AllocError>
         ensures { IfOk result (λ taken. IsTaken taken
             (spec.in_number (levels_of self.old) self.old.text.items place byte)
@@ -353,7 +353,7 @@ impl Machine {
         }
     }
 
-    /// Takes the byte behind a numeral.
+    // Takes the byte behind a numeral.
     fn end_number(&mut self, place: Place, byte: u8) -> Result<Taken, AllocError>
         ensures { IfOk result (λ taken. IsTaken taken
             (spec.number_ends (levels_of self.old) self.old.text.items place byte)
@@ -369,7 +369,7 @@ impl Machine {
         self.follow(byte)
     }
 
-    /// Takes the byte behind a value that was just put where it belongs.
+    // Takes the byte behind a value that was just put where it belongs.
     fn follow(&mut self, byte: u8) -> Result<Taken, AllocError>
         ensures { IfOk result (λ taken. IsTaken taken
             (spec.follow (levels_of self.old) (state_of self.old).hand byte) (state_of self.new)) }
@@ -382,7 +382,7 @@ impl Machine {
     }
 }
 
-/// Adds a value to a list, or to an object under the name at hand, which `none` replaces.
+// Adds a value to a list, or to an object under the name at hand, which `none` replaces.
 fn add(level: &mut Unclosed, value: Json, none: Text) -> Result<(), AllocError>
     requires { none ≡ [] }
     ensures { OnOk result (level.new ≡ spec.added level.old value) }
@@ -393,7 +393,7 @@ fn add(level: &mut Unclosed, value: Json, none: Text) -> Result<(), AllocError>
     }
 }
 
-/// An empty list, in memory that served before if there is some.
+// An empty list, in memory that served before if there is some.
 fn empty<T: Drop>(alloc: Global, spare: Option<Sequence<T>>) -> Sequence<T>
     ensures { result ≡ [] }
 {
@@ -403,7 +403,7 @@ fn empty<T: Drop>(alloc: Global, spare: Option<Sequence<T>>) -> Sequence<T>
     }
 }
 
-/// The name of an object none of whose names is at hand.
+// The name of an object none of whose names is at hand.
 fn no_name() -> Text
     ensures { result ≡ [] }
 {
@@ -413,7 +413,7 @@ fn no_name() -> Text
 impl Word {
     ghost use Rattle.json_text.specs.State.Stands.{value_of};
 
-    /// The value that the word stands for.
+    // The value that the word stands for.
     fn value(self) -> Json
         ensures { result ≡ value_of self }
     {

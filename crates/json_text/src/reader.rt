@@ -66,7 +66,7 @@ impl JsonReader {
         taken
     }
 
-    /// Reads the next bytes where no fault came before.
+    // Reads the next bytes where no fault came before.
     fn take(&mut self, piece: &[u8]) -> Result<(), JsonFault>
         ensures read { OnOk result (ReadsOn self.old piece.now self.new) }
         ensures live { OnOk result (StaysLive self.old piece.now) }
@@ -120,8 +120,8 @@ impl JsonReader {
     }
 }
 
-/// The value, where the bytes that the machine took are a whole text; `None` where there is no
-/// room.
+// The value, where the bytes that the machine took are a whole text; `None` where there is no
+// room.
 fn whole(machine: Machine, room: Option<TextRoom>) -> Option<Json>
     ensures value { room ≢ None → result ≡ spec.at_last (state_of machine) }
     ensures nothing { room ≡ None → result ≡ None }
@@ -132,7 +132,7 @@ fn whole(machine: Machine, room: Option<TextRoom>) -> Option<Json>
     }
 }
 
-/// Makes room for one text, where there is none. An error comes where memory runs out.
+// Makes room for one text, where there is none. An error comes where memory runs out.
 fn keep_room(alloc: Global, room: &mut Option<TextRoom>) -> Result<(), AllocError>
     ensures { OnOk result (room.new ≢ None) }
 {
@@ -143,7 +143,7 @@ fn keep_room(alloc: Global, room: &mut Option<TextRoom>) -> Result<(), AllocErro
     Ok(())
 }
 
-/// The fault of a byte at an offset.
+// The fault of a byte at an offset.
 fn fault_of(stop: Stop, offset: u64) -> JsonFault
     ensures { result ≡ named stop offset }
 {

@@ -44,8 +44,8 @@ impl Machine {
         Ok(Ran::All)
     }
 
-    /// Takes bytes that need no step of their own, as those of a string, of a numeral and white
-    /// space, and says how many they are.
+    // Takes bytes that need no step of their own, as those of a string, of a numeral and white
+    // space, and says how many they are.
     fn skim(&mut self, bytes: &[u8]) -> Result<usize, AllocError>
         ensures { IfOk result (λ count. Skims count (state_of self.old) bytes.now
             (state_of self.new)) }
@@ -63,8 +63,8 @@ impl Machine {
         }
     }
 
-    /// How many of the first bytes are white space, where that may stand in the innermost list or
-    /// object.
+    // How many of the first bytes are white space, where that may stand in the innermost list or
+    // object.
     fn skim_blank(&self, bytes: &[u8]) -> usize
         ensures { Skims result (state_of self.now) bytes.now (state_of self.now) }
     {
@@ -85,7 +85,7 @@ impl Machine {
         }
     }
 
-    /// Takes bytes of a string: a whole one with its end, or characters that stand for themselves.
+    // Takes bytes of a string: a whole one with its end, or characters that stand for themselves.
     fn skim_text(&mut self, role: Role, bytes: &[u8]) -> Result<usize, AllocError>
         requires { self.old.hand ≡ Hand.Text role Part.Plain }
         ensures { IfOk result (λ count. Skims count (state_of self.old) bytes.now
@@ -105,7 +105,7 @@ impl Machine {
         }
     }
 
-    /// Takes characters of ASCII and whole escapes of a string.
+    // Takes characters of ASCII and whole escapes of a string.
     fn skim_gathered(&mut self, role: Role, bytes: &[u8]) -> Result<usize, AllocError>
         requires { self.old.hand ≡ Hand.Text role Part.Plain }
         ensures { IfOk result (λ count. Skims count (state_of self.old) bytes.now
@@ -116,7 +116,7 @@ impl Machine {
         Ok(count)
     }
 
-    /// Takes a whole string that is a value, with its end, which is at that index.
+    // Takes a whole string that is a value, with its end, which is at that index.
     fn whole_content(&mut self, bytes: &[u8], count: usize) -> Result<usize, AllocError>
         requires hand { self.old.hand ≡ Hand.Text Role.Content Part.Plain }
         requires fresh { self.old.text.items ≡ [] }
@@ -131,7 +131,7 @@ impl Machine {
         Ok(count + 1)
     }
 
-    /// Takes a whole string that is a name, with its end, which is at that index.
+    // Takes a whole string that is a name, with its end, which is at that index.
     fn whole_name(&mut self, bytes: &[u8], count: usize) -> Result<usize, AllocError>
         requires hand { self.old.hand ≡ Hand.Text Role.Name Part.Plain }
         requires fresh { self.old.text.items ≡ [] }
@@ -153,7 +153,7 @@ impl Machine {
         Ok(count + 1)
     }
 
-    /// Takes characters of a string that stand for themselves, of so many bytes.
+    // Takes characters of a string that stand for themselves, of so many bytes.
     fn skim_open(&mut self, bytes: &[u8], most: usize) -> Result<usize, AllocError>
         requires { AreOpen (take most bytes.now) }
         ensures added { IfOk result (λ count. AddsText count bytes.now self.old self.new) }
@@ -165,7 +165,7 @@ impl Machine {
         Ok(count)
     }
 
-    /// Takes bytes of a numeral.
+    // Takes bytes of a numeral.
     fn skim_number(&mut self, place: Place, bytes: &[u8]) -> Result<usize, AllocError>
         requires { self.old.hand ≡ Hand.Number place }
         ensures { IfOk result (λ count. Skims count (state_of self.old) bytes.now
@@ -202,7 +202,7 @@ impl Machine {
     }
 }
 
-/// How many of the first bytes stand before a quote, a backslash or a control character.
+// How many of the first bytes stand before a quote, a backslash or a control character.
 fn open_count(bytes: &[u8]) -> usize
     ensures within { result ≤ length bytes.now }
     ensures opens { AreOpen (take result bytes.now) }
@@ -218,8 +218,8 @@ fn open_count(bytes: &[u8]) -> usize
     at + open_front(after(bytes, at))
 }
 
-/// How many of the first bytes stand before a quote, a backslash or a control character, one by
-/// one.
+// How many of the first bytes stand before a quote, a backslash or a control character, one by
+// one.
 fn open_front(bytes: &[u8]) -> usize
     ensures within { result ≤ length bytes.now }
     ensures opens { AreOpen (take result bytes.now) }
@@ -232,8 +232,8 @@ fn open_front(bytes: &[u8]) -> usize
     bytes.len()
 }
 
-/// How many of the first bytes are characters that stand for themselves, of so many bytes none of
-/// which ends them.
+// How many of the first bytes are characters that stand for themselves, of so many bytes none of
+// which ends them.
 fn utf8_count(bytes: &[u8], most: usize) -> usize
     requires { AreOpen (take most bytes.now) }
     ensures within { result ≤ length bytes.now }
@@ -250,7 +250,7 @@ fn utf8_count(bytes: &[u8], most: usize) -> usize
     }
 }
 
-/// How many of the first bytes go on in the numeral, and the place behind them.
+// How many of the first bytes go on in the numeral, and the place behind them.
 fn numeral_run(place: Place, bytes: &[u8]) -> (usize, Place)
     ensures within { result.0 ≤ length bytes.now }
     ensures goes { place_behind (Some place) (take result.0 bytes.now) ≡ Some result.1 }
@@ -265,7 +265,7 @@ fn numeral_run(place: Place, bytes: &[u8]) -> (usize, Place)
     (bytes.len(), last)
 }
 
-/// How many of the first bytes are white space.
+// How many of the first bytes are white space.
 fn blank_count(bytes: &[u8]) -> usize
     ensures within { result ≤ length bytes.now }
     ensures blank { AreBlank (take result bytes.now) }
@@ -278,7 +278,7 @@ fn blank_count(bytes: &[u8]) -> usize
     bytes.len()
 }
 
-/// The numeral of that spelling, in that room.
+// The numeral of that spelling, in that room.
 fn numeral(room: TextRoom, spelling: Vec<u8>) -> Option<Json>
     ensures { result ≡ spec.numeral spelling.items }
 {

@@ -34,7 +34,7 @@ impl Machine {
         }
     }
 
-    /// Goes on in the string.
+    // Goes on in the string.
     fn text_goes(&mut self, role: Role, part: Part) -> Taken
         ensures { IsTaken result (spec.text_goes (levels_of self.old) role self.old.text.items
             (part_of part)) (state_of self.new) }
@@ -42,7 +42,7 @@ impl Machine {
         self.goes(Hand::Text(role, part))
     }
 
-    /// Goes on in the string behind one more byte.
+    // Goes on in the string behind one more byte.
     fn text_adds(&mut self, role: Role, byte: u8, part: Part) -> Result<Taken, AllocError>
         ensures { IfOk result (λ taken. IsTaken taken
             (spec.text_goes (levels_of self.old) role (self.old.text.items ++ (byte ∷ []))
@@ -52,7 +52,7 @@ impl Machine {
         Ok(self.text_goes(role, part))
     }
 
-    /// Takes a byte between characters.
+    // Takes a byte between characters.
     fn in_plain(&mut self, role: Role, byte: u8) -> Result<Taken, AllocError>
         ensures { IfOk result (λ taken. IsTaken taken
             (spec.in_plain (levels_of self.old) role self.old.text.items byte)
@@ -67,7 +67,7 @@ impl Machine {
         }
     }
 
-    /// Takes the first byte of a character of several bytes.
+    // Takes the first byte of a character of several bytes.
     fn begin_tail(&mut self, role: Role, byte: u8) -> Result<Taken, AllocError>
         ensures { IfOk result (λ taken. IsTaken taken
             (spec.wide (levels_of self.old) role (self.old.text.items ++ (byte ∷ []))
@@ -80,7 +80,7 @@ impl Machine {
         self.text_adds(role, byte, Part::Tail(ranges))
     }
 
-    /// Takes a further byte of a character.
+    // Takes a further byte of a character.
     fn in_tail(
         &mut self,
         role: Role,
@@ -104,7 +104,7 @@ impl Machine {
         }
     }
 
-    /// Ends a string.
+    // Ends a string.
     fn end_text(&mut self, role: Role) -> Result<Taken, AllocError>
         ensures { IfOk result (λ taken. IsTaken taken
             (spec.text_ends (levels_of self.old) role self.old.text.items) (state_of self.new)) }
@@ -115,7 +115,7 @@ impl Machine {
         }
     }
 
-    /// Ends a string that is a value.
+    // Ends a string that is a value.
     fn end_content(&mut self) -> Result<Taken, AllocError>
         ensures { IfOk result (λ taken. IsTaken taken
             (spec.text_ends (levels_of self.old) Role.Content self.old.text.items)
@@ -128,7 +128,7 @@ impl Machine {
         Ok(Taken::Goes)
     }
 
-    /// Ends a string that is a name.
+    // Ends a string that is a name.
     fn end_name(&mut self) -> Result<Taken, AllocError>
         ensures { IfOk result (λ taken. IsTaken taken
             (spec.text_ends (levels_of self.old) Role.Name self.old.text.items)
@@ -155,7 +155,7 @@ impl Machine {
         self.goes(Hand::Colon)
     }
 
-    /// Takes the byte that an escape wants.
+    // Takes the byte that an escape wants.
     fn wants(&mut self, wanted: u8, hand: Hand, byte: u8) -> Taken
         ensures { IsTaken result (spec.wanted (levels_of self.old) wanted
             (hand_of hand self.old.text.items self.old.root) byte) (state_of self.new) }
@@ -167,7 +167,7 @@ impl Machine {
         }
     }
 
-    /// Takes the byte behind a backslash.
+    // Takes the byte behind a backslash.
     fn in_escape(&mut self, role: Role, byte: u8) -> Result<Taken, AllocError>
         ensures { IfOk result (λ taken. IsTaken taken
             (spec.in_escape (levels_of self.old) role self.old.text.items byte)
@@ -179,7 +179,7 @@ impl Machine {
         }
     }
 
-    /// Takes a digit of an escape.
+    // Takes a digit of an escape.
     fn in_code(&mut self, role: Role, digits: Digits, byte: u8) -> Result<Taken, AllocError>
         ensures { IfOk result (λ taken. IsTaken taken
             (spec.in_code (levels_of self.old) role self.old.text.items digits byte)
@@ -197,7 +197,7 @@ impl Machine {
         }
     }
 
-    /// Takes the second digit of an escape; the first half of a character stands first.
+    // Takes the second digit of an escape; the first half of a character stands first.
     fn second_digit(&mut self, role: Role, first: u8, byte: u8) -> Taken
         ensures { IsTaken result (spec.digit_of_code (levels_of self.old) role self.old.text.items
             (Digits.One first) byte) (state_of self.new) }
@@ -209,7 +209,7 @@ impl Machine {
         }
     }
 
-    /// Takes the character that an escape names, or the first half of one.
+    // Takes the character that an escape names, or the first half of one.
     fn coded(&mut self, role: Role, code: u32) -> Result<Taken, AllocError>
         ensures { IfOk result (λ taken. IsTaken taken
             (spec.coded (levels_of self.old) role self.old.text.items code) (state_of self.new)) }
@@ -220,7 +220,7 @@ impl Machine {
         self.paired(role, code)
     }
 
-    /// Takes the character of that code.
+    // Takes the character of that code.
     fn paired(&mut self, role: Role, code: u32) -> Result<Taken, AllocError>
         ensures { IfOk result (λ taken. IsTaken taken
             (spec.paired (levels_of self.old) role self.old.text.items code) (state_of self.new)) }
@@ -234,7 +234,7 @@ impl Machine {
         }
     }
 
-    /// Takes a digit of the second half of a character.
+    // Takes a digit of the second half of a character.
     fn in_low(
         &mut self,
         role: Role,
@@ -262,14 +262,14 @@ impl Machine {
     }
 }
 
-/// Puts a text in the place of another.
+// Puts a text in the place of another.
 fn put_text(place: &mut Text, text: Text)
     ensures { place.new ≡ text }
 {
     *place = text;
 }
 
-/// Why an escape doesn't take the byte.
+// Why an escape doesn't take the byte.
 fn refused(byte: u8) -> Stop
     ensures { spec.refused byte ≡ Err result }
 {
@@ -280,7 +280,7 @@ fn refused(byte: u8) -> Stop
     }
 }
 
-/// The character that two halves make.
+// The character that two halves make.
 fn joined(high: u16, low: u32) -> u32
     requires { low ≤ 160000 }
     ensures { result ≡ grammar.joined high low }

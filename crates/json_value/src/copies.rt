@@ -22,7 +22,7 @@ pub fn copy_json(alloc: Global, value: &Json) -> Result<Json, AllocError>
     }
 }
 
-/// Equal values, in a list with no room to spare.
+// Equal values, in a list with no room to spare.
 #[cycle(copy)]
 fn copy_items(alloc: Global, items: &[Json]) -> Result<Vec<Json>, AllocError>
     ensures { IfOk result (λ copies. copies.items ≡ items.now) }
@@ -42,7 +42,7 @@ pub fn copy_members(alloc: Global, members: &Members) -> Result<Members, AllocEr
     Ok(NamedValues::of(copy_pairs(alloc, members)?))
 }
 
-/// Equal pairs, in a list with no room to spare.
+// Equal pairs, in a list with no room to spare.
 #[cycle(copy)]
 fn copy_pairs(alloc: Global, members: &Members) -> Result<Vec<(Text, Json)>, AllocError>
     ensures copied { IfOk result (λ copies. copies.items ≡ members.now) }

@@ -19,7 +19,7 @@ pub(crate) struct LineFields<'a> {
     pub(crate) url: &'a [u8],
 }
 
-/// The first field of a line and what follows its tab; none where the line has no tab.
+// The first field of a line and what follows its tab; none where the line has no tab.
 #[tactic(auto, using(crate::proofs::TabLemmas::fields_first, crate::proofs::TabLemmas::fields_last, crate::proofs::TabLemmas::some_field))]
 fn next_field(line: &[u8]) -> Option<(&[u8], &[u8])>
     ensures { MatchOption result (tab_fields line.now ≡ line.now ∷ [])
@@ -32,7 +32,7 @@ fn next_field(line: &[u8]) -> Option<(&[u8], &[u8])>
     }
 }
 
-/// The five fields of a line; none where it has another number of fields.
+// The five fields of a line; none where it has another number of fields.
 fn split_fields(line: &[u8]) -> Option<LineFields<'_>>
     ensures { MatchOption result (length (tab_fields line.now) ≢ 5)
         (λ f. tab_fields line.now ≡ field_list (fields_in f)) }

@@ -100,7 +100,7 @@ impl MediaList {
     }
 }
 
-/// The table of the rows that all lines say.
+// The table of the rows that all lines say.
 fn table_of(alloc: Global, bytes: &[u8]) -> Result<Table, MediaFault>
     requires { length bytes.now ≤ most_bytes }
     ensures list { IfOk result (λ table. IsMediaList bytes.now table.rows.items) }
@@ -125,7 +125,7 @@ fn table_of(alloc: Global, bytes: &[u8]) -> Result<Table, MediaFault>
     }
 }
 
-/// Takes a line of that number; the table has the rows of the lines before it.
+// Takes a line of that number; the table has the rows of the lines before it.
 fn take_line(table: &mut Table, alloc: Global, line: &[u8], number: u32) -> Result<(), MediaFault>
     requires { IsIndexed table.old }
     ensures taken { OnOk result (HasTaken line.now table.old.rows.items table.new.rows.items) }

@@ -25,7 +25,7 @@ struct Span {
     count: i64,
 }
 
-/// Whether there is a frame, and the end lies within a million seconds.
+// Whether there is a frame, and the end lies within a million seconds.
 fn is_span_in_range(start: i64, count: i64, rate: Rate) -> bool
     requires start { IsFrame start }
     requires count { IsFrame count }
@@ -34,7 +34,7 @@ fn is_span_in_range(start: i64, count: i64, rate: Rate) -> bool
     count > 0 && is_end_in_range(end_of(start, count), rate)
 }
 
-/// The number of the frame behind the last one.
+// The number of the frame behind the last one.
 fn end_of(start: i64, count: i64) -> i64
     requires start { IsFrame start }
     requires count { IsFrame count }
@@ -43,15 +43,15 @@ fn end_of(start: i64, count: i64) -> i64
     start + count
 }
 
-/// Whether the frames before this one lie within a million seconds.
+// Whether the frames before this one lie within a million seconds.
 fn is_end_in_range(end: i64, rate: Rate) -> bool
     ensures { IsTrue result ↔ IsInRange (end *ℤ pos (frame rate.num rate.den)) }
 {
     Time::frames(end, rate).is_ok()
 }
 
-/// The span of these fields; none where the start names no frame, there are no frames, or the end
-/// lies beyond a million seconds.
+// The span of these fields; none where the start names no frame, there are no frames, or the end
+// lies beyond a million seconds.
 fn span_of(fields: &LineFields<'_>, rate: Rate) -> Option<Span>
     requires start { IsStartForm fields.now.start.now }
     requires count { IsNumber fields.now.count.now }
@@ -65,7 +65,7 @@ fn span_of(fields: &LineFields<'_>, rate: Rate) -> Option<Span>
     }
 }
 
-/// The span of these fields where the start names this frame.
+// The span of these fields where the start names this frame.
 fn span_from(fields: &LineFields<'_>, start: i64, rate: Rate) -> Option<Span>
     requires start { start_frame rate fields.now.start.now ≡ Some start }
     requires bound { IsFrame start }
@@ -82,7 +82,7 @@ fn span_from(fields: &LineFields<'_>, start: i64, rate: Rate) -> Option<Span>
     }
 }
 
-/// The text of bytes that are UTF-8.
+// The text of bytes that are UTF-8.
 fn text_of(alloc: Global, bytes: &[u8]) -> Result<Text, AllocError>
     requires { IsUtf8 bytes.now }
     ensures { IfOk result (λ text. text ≡ bytes.now) }
@@ -122,7 +122,7 @@ pub(crate) fn row_of(
     }
 }
 
-/// The row of these fields, with this rate and span.
+// The row of these fields, with this rate and span.
 #[tactic(auto, using(text_lines::proofs::ReelLemmas::reel_is_text))]
 fn row_from(
     alloc: Global,

@@ -72,7 +72,7 @@ impl Table {
         }
     }
 
-    /// The row at an index.
+    // The row at an index.
     fn row_at(&self, index: usize) -> Option<&MediaRow>
         ensures { option_copied result ≡ slice_get self.now.rows.items index }
     {
@@ -102,7 +102,7 @@ impl Table {
         self.push(alloc, row)
     }
 
-    /// Puts a row with a new reel and a new URL last.
+    // Puts a row with a new reel and a new URL last.
     fn push(&mut self, alloc: Global, row: MediaRow) -> Result<(), MediaFault>
         requires indexed { IsIndexed self.old }
         requires range { IsRowInRange row }
@@ -120,7 +120,7 @@ impl Table {
     }
 }
 
-/// Puts a name after the others where it isn't among them. An error comes where memory runs out.
+// Puts a name after the others where it isn't among them. An error comes where memory runs out.
 fn put_name(names: &mut IndexSet<String>, alloc: Global, name: &Text) -> Result<(), AllocError>
     ensures { OnOk result (PutsName name.now names.old.keys names.new.keys) }
 {

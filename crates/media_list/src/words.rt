@@ -41,7 +41,7 @@ pub(crate) fn number_of(field: &[u8]) -> i64
     signed(value_of(field))
 }
 
-/// A number of at most eighteen digits, as a signed one.
+// A number of at most eighteen digits, as a signed one.
 fn signed(number: u64) -> i64
     requires { number < 10 ^ 18 }
     ensures value { result ≡ pos number }
@@ -50,7 +50,7 @@ fn signed(number: u64) -> i64
     number as i64
 }
 
-/// The number that at most eighteen digits write.
+// The number that at most eighteen digits write.
 fn value_of(digits: &[u8]) -> u64
     requires digits { AllDigits 10 digits.now }
     requires few { length digits.now ≤ 18 }

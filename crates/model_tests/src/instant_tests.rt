@@ -12,12 +12,12 @@ use std::process::Abort;
 use std::test::Fail;
 use tick_time::{Rate, Scalar, Span, Time};
 
-/// An hour at 25 frames a second.
+// An hour at 25 frames a second.
 fn hour() -> Option<Time> {
     frames(90_000, rate_25())
 }
 
-/// Missing media of this range.
+// Missing media of this range.
 fn missing(alloc: Global, available_range: Option<Span>) -> Media {
     Media::Missing(Missing {
         metadata: NamedValues::new(alloc),
@@ -46,14 +46,14 @@ fn clip(alloc: Global, source_range: Option<Span>, media_references: MediaMap) -
     ))
 }
 
-/// A track of one item.
+// A track of one item.
 fn track_of(alloc: Global, item: Item) -> Result<Item, AllocError>
     ensures { IfOk result (λ track. count_of track ≡ count_of item + 1) }
 {
     Ok(track(alloc, one(alloc, item)?))
 }
 
-/// A timeline of one track with one item.
+// A timeline of one track with one item.
 fn timeline(alloc: Global, start: Option<Time>, item: Item) -> Result<Timeline, AllocError>
     ensures { IfOk result (λ timeline. count timeline.tracks.children ≡ count_of item + 1) }
 {
@@ -94,7 +94,7 @@ fn outcome_of(found: Result<(), CoordFault>) -> Outcome {
     }
 }
 
-/// What is found in a timeline of one track with one item.
+// What is found in a timeline of one track with one item.
 fn judged(alloc: Global, item: Item) -> Result<Outcome, AllocError>
     requires { count_of item < 100 }
 {
@@ -104,7 +104,7 @@ fn judged(alloc: Global, item: Item) -> Result<Outcome, AllocError>
     Ok(outcome_of(found))
 }
 
-/// Holds what is found in a timeline of one track with one item.
+// Holds what is found in a timeline of one track with one item.
 fn is_judged(rt: &impl Abort, alloc: Global, item: Item, wanted: Outcome) -> Result<(), Fail>
     requires { count_of item < 100 }
 {
@@ -112,7 +112,7 @@ fn is_judged(rt: &impl Abort, alloc: Global, item: Item, wanted: Outcome) -> Res
     Ok(())
 }
 
-/// A clip that is played at 2000 times its speed.
+// A clip that is played at 2000 times its speed.
 fn fast(alloc: Global) -> Result<Item, AllocError>
     ensures { IfOk result (λ item. count_of item ≡ 1) }
 {
@@ -126,14 +126,14 @@ fn fast(alloc: Global) -> Result<Item, AllocError>
     )))
 }
 
-/// A clip whose media end behind a million seconds.
+// A clip whose media end behind a million seconds.
 fn late(alloc: Global) -> Item
     ensures { count_of result ≡ 1 }
 {
     clip(alloc, span(23_999_999, 24), MediaMap::new(alloc))
 }
 
-/// The record rate and the number of the first frame of a timeline of one track with one clip.
+// The record rate and the number of the first frame of a timeline of one track with one clip.
 fn counted(alloc: Global, start: Option<Time>, item: Item) -> Result<(Rate, i128), AllocError> {
     let timeline = timeline(alloc, start, item)?;
     let found = (record_rate(&timeline), start_frame(&timeline));
@@ -141,7 +141,7 @@ fn counted(alloc: Global, start: Option<Time>, item: Item) -> Result<(Rate, i128
     Ok(found)
 }
 
-/// Holds that such a timeline counts at 25 frames a second, from this frame on.
+// Holds that such a timeline counts at 25 frames a second, from this frame on.
 fn counts_at_25(
     rt: &impl Abort,
     alloc: Global,

@@ -15,7 +15,7 @@ use std::process::Abort;
 use std::test::Fail;
 use tick_time::{Span, Time};
 
-/// A clip of this name without media.
+// A clip of this name without media.
 fn clip(alloc: Global, name: Text, source_range: Option<Span>) -> Item
     ensures { count_of result ≡ 1 }
 {
@@ -23,7 +23,7 @@ fn clip(alloc: Global, name: Text, source_range: Option<Span>) -> Item
     ItemOf::Clip(played(alloc, name, source_range, MediaMap::new(alloc), effects))
 }
 
-/// A timeline of a clip of so many frames at 24 frames a second, above a gap of one.
+// A timeline of a clip of so many frames at 24 frames a second, above a gap of one.
 fn timeline(alloc: Global, start: Option<Time>, len: i64) -> Result<Timeline, AllocError>
     ensures { IfOk result (λ timeline. count timeline.tracks.children ≡ 2) }
 {
@@ -33,7 +33,7 @@ fn timeline(alloc: Global, start: Option<Time>, len: i64) -> Result<Timeline, Al
     Ok(timeline_of(alloc, start, children))
 }
 
-/// What is listed of a clip of 21 frames at 24 frames a second, that begins at an hour at 25.
+// What is listed of a clip of 21 frames at 24 frames a second, that begins at an hour at 25.
 fn listed(
     alloc: Global,
     start: Option<RecordPoint>,
@@ -45,7 +45,7 @@ fn listed(
     Ok(listing)
 }
 
-/// Holds what is listed of it.
+// Holds what is listed of it.
 fn lists(
     rt: &impl Abort,
     alloc: Global,
@@ -57,8 +57,8 @@ fn lists(
     Ok(())
 }
 
-/// Sends what is listed of a timeline, once that is made. `None` where it has too many items or
-/// isn't sound.
+// Sends what is listed of a timeline, once that is made. `None` where it has too many items or
+// isn't sound.
 fn sent_of(
     alloc: Global,
     made: Result<Timeline, AllocError>,
@@ -78,7 +78,7 @@ fn sent_of(
     Ok(sent)
 }
 
-/// Sends what is listed of a clip of two frames at 24 frames a second.
+// Sends what is listed of a clip of two frames at 24 frames a second.
 fn written(
     alloc: Global,
     listing: &Listing,
@@ -87,7 +87,7 @@ fn written(
     sent_of(alloc, timeline(alloc, None, 2), listing, out)
 }
 
-/// Holds how such a listing ends.
+// Holds how such a listing ends.
 fn ends(
     rt: &impl Abort,
     sent: Result<Option<Result<(), RowFault>>, AllocError>,
@@ -97,7 +97,7 @@ fn ends(
     Ok(())
 }
 
-/// Holds what is sent of a clip of two frames at 24 frames a second.
+// Holds what is sent of a clip of two frames at 24 frames a second.
 fn writes(rt: &impl Abort, alloc: Global, listing: &Listing, wanted: &[u8]) -> Result<(), Fail> {
     let mut out = MemOut::new(alloc, 200)?;
     ends(rt, written(alloc, listing, &mut out), Ok(()))?;
@@ -106,7 +106,7 @@ fn writes(rt: &impl Abort, alloc: Global, listing: &Listing, wanted: &[u8]) -> R
     Ok(())
 }
 
-/// So many clips of one frame, each of the frame of its media that has its index.
+// So many clips of one frame, each of the frame of its media that has its index.
 fn clips(alloc: Global, count: i64) -> Result<Items, AllocError> {
     let mut list = Vec::new(alloc);
     'clips: for index in 0..count {
@@ -116,14 +116,14 @@ fn clips(alloc: Global, count: i64) -> Result<Items, AllocError> {
     Ok(Items::of(list))
 }
 
-/// A timeline of one track of so many clips of one frame.
+// A timeline of one track of so many clips of one frame.
 fn long_timeline(alloc: Global, count: i64) -> Result<Timeline, AllocError> {
     let children = Children::of(alloc, clips(alloc, count)?)?;
     let root = one(alloc, track(alloc, children))?;
     Ok(timeline_of(alloc, None, root))
 }
 
-/// Sends what is listed of a track of so many clips of one frame.
+// Sends what is listed of a track of so many clips of one frame.
 fn written_long(
     alloc: Global,
     count: i64,
@@ -204,7 +204,7 @@ fn a_stream_that_fails_ends_the_lines(rt: HostRuntime) -> Result<(), Fail> {
     Ok(())
 }
 
-/// The lines of so many clips of one frame: frame i shows the frame of number i of its media.
+// The lines of so many clips of one frame: frame i shows the frame of number i of its media.
 fn lines_of_clips(alloc: Global, count: i64) -> Result<String, AllocError> {
     let mut lines = String::new(alloc);
     'lines: for index in 0..count {
@@ -214,7 +214,7 @@ fn lines_of_clips(alloc: Global, count: i64) -> Result<String, AllocError> {
     Ok(lines)
 }
 
-/// Holds that each frame of 99 000 clips is sent.
+// Holds that each frame of 99 000 clips is sent.
 fn check_clips(rt: &impl Abort, alloc: Global, out: &mut MemOut) -> Result<(), Fail> {
     let listing = Listing {
         child: Some(0),

@@ -11,7 +11,7 @@ use std::process::Abort;
 use std::test::Fail;
 use tick_time::{Scalar, Span};
 
-/// A clip of these media, that uses those of this key.
+// A clip of these media, that uses those of this key.
 fn clip_of(alloc: Global, key: Text, media_references: MediaMap) -> Clip {
     let effects = Effects::new(alloc);
     let mut clip = played(alloc, Text::empty(), None, media_references, effects);
@@ -19,7 +19,7 @@ fn clip_of(alloc: Global, key: Text, media_references: MediaMap) -> Clip {
     clip
 }
 
-/// A reference to a file.
+// A reference to a file.
 fn external(alloc: Global, available_range: Option<Span>) -> Result<Media, AllocError> {
     let target_url = Text::of(alloc, "a.mov")?;
     Ok(Media::External(External {
@@ -31,14 +31,14 @@ fn external(alloc: Global, available_range: Option<Span>) -> Result<Media, Alloc
     }))
 }
 
-/// The media that are one, under that key.
+// The media that are one, under that key.
 fn media_of(alloc: Global, key: Text, medium: Media) -> Result<MediaMap, AllocError> {
     let mut media = MediaMap::new(alloc);
     media.put(key, medium)?;
     Ok(media)
 }
 
-/// A clip with one medium, under that key, that uses those of the key `m`.
+// A clip with one medium, under that key, that uses those of the key `m`.
 fn clip_under(alloc: Global, key: &str, available_range: Option<Span>) -> Result<Clip, AllocError> {
     let used = Text::of(alloc, "m")?;
     let key = Text::of(alloc, key)?;
@@ -58,7 +58,7 @@ fn transition(alloc: Global) -> Result<Transition, AllocError> {
     })
 }
 
-/// How long a leaf is.
+// How long a leaf is.
 fn ticks_of(item: Item) -> Option<i128> {
     let length = match &item {
         ItemOf::Clip(_) | ItemOf::Gap(_) | ItemOf::Transition(_) => item.length(),
@@ -68,7 +68,7 @@ fn ticks_of(item: Item) -> Option<i128> {
     length
 }
 
-/// Holds how long a leaf is, in ticks.
+// Holds how long a leaf is, in ticks.
 fn lasts(rt: &impl Abort, item: Item, ticks: Option<i128>) {
     assert!(rt; ticks_of(item) == ticks);
 }
@@ -85,7 +85,7 @@ fn lengths_of_leaves(rt: HostRuntime) -> Result<(), Fail> {
     Ok(())
 }
 
-/// Holds whether a clip has a medium, and which range is available.
+// Holds whether a clip has a medium, and which range is available.
 fn has_medium(rt: &impl Abort, clip: Clip, wanted: (bool, Option<Span>)) {
     let found = (clip.media().is_some(), clip.available_range());
     drop(clip);
@@ -101,14 +101,14 @@ fn media_are_those_of_the_key(rt: HostRuntime) -> Result<(), Fail> {
     Ok(())
 }
 
-/// A place of one index.
+// A place of one index.
 fn place_one(alloc: Global, first: u32) -> Result<Place, AllocError> {
     let mut place = Place::new(alloc);
     place.push(first)?;
     Ok(place)
 }
 
-/// A place of two indexes.
+// A place of two indexes.
 fn place_two(alloc: Global, first: u32, second: u32) -> Result<Place, AllocError> {
     let mut place = place_one(alloc, first)?;
     place.push(second)?;
@@ -128,7 +128,7 @@ fn places_keep_indexes(rt: HostRuntime) -> Result<(), Fail> {
     Ok(())
 }
 
-/// A copy of an item, once that is made.
+// A copy of an item, once that is made.
 fn copied(alloc: Global, made: Result<Item, AllocError>) -> Result<Item, AllocError> {
     let item = made?;
     let copy = copy_item(alloc, &item);
@@ -144,7 +144,7 @@ fn a_copy_of_a_gap(rt: HostRuntime) -> Result<(), Fail> {
     Ok(())
 }
 
-/// So many gaps of one frame.
+// So many gaps of one frame.
 fn frame_gaps(alloc: Global, count: usize) -> Result<Items, AllocError> {
     let mut list = Vec::with_capacity(alloc, count)?;
     'gaps: for _ in 0..count {
@@ -153,7 +153,7 @@ fn frame_gaps(alloc: Global, count: usize) -> Result<Items, AllocError> {
     Ok(Items::of(list))
 }
 
-/// The index of the child that holds the instant.
+// The index of the child that holds the instant.
 fn held(children: &Children, ticks: i128) -> Option<usize> {
     if children.items_below() < 4_294_967_296 {
         match children.holder(ticks) {
@@ -165,8 +165,8 @@ fn held(children: &Children, ticks: i128) -> Option<usize> {
     }
 }
 
-/// How many of the frames of a track of so many gaps of one frame are held by the gap of their
-/// number.
+// How many of the frames of a track of so many gaps of one frame are held by the gap of their
+// number.
 fn frames_held(alloc: Global, count: usize) -> Result<usize, AllocError> {
     let children = Children::of(alloc, frame_gaps(alloc, count)?)?;
     let mut right: usize = 0;
@@ -185,14 +185,14 @@ fn frames_held(alloc: Global, count: usize) -> Result<usize, AllocError> {
     Ok(right)
 }
 
-/// A transition, from 6 frames before its cut to 7 behind it, between gaps of 10 frames.
+// A transition, from 6 frames before its cut to 7 behind it, between gaps of 10 frames.
 fn dissolve(alloc: Global) -> Result<Children, AllocError> {
     let cross = ItemOf::Transition(transition(alloc)?);
     let list = vec![in alloc; gap(alloc, span(0, 10)), cross, gap(alloc, span(0, 10))]?;
     Children::of(alloc, Items::of(list))
 }
 
-/// The index of the transition whose overlap holds a frame's first instant.
+// The index of the transition whose overlap holds a frame's first instant.
 fn over(children: &Children, frame: u8) -> Option<usize> {
     if children.items_below() < 4_294_967_296 {
         match children.first_overlap((frame as i128) * 29_400_000_000_000_000) {
@@ -204,7 +204,7 @@ fn over(children: &Children, frame: u8) -> Option<usize> {
     }
 }
 
-/// The index of the next transition.
+// The index of the next transition.
 fn next(children: &Children, index: usize) -> Option<usize> {
     if children.items_below() < 4_294_967_296 {
         match children.next_transition(index) {
@@ -216,7 +216,7 @@ fn next(children: &Children, index: usize) -> Option<usize> {
     }
 }
 
-/// What the overlaps hold at four frames, and the next transition from two indexes on.
+// What the overlaps hold at four frames, and the next transition from two indexes on.
 fn found(made: Result<Children, AllocError>) -> Result<[Option<usize>; 6], AllocError> {
     let children = made?;
     let found = [
@@ -244,7 +244,7 @@ fn each_frame_is_held_by_its_gap(rt: HostRuntime) -> Result<(), Fail> {
     Ok(())
 }
 
-/// The speed of two changes of speed, one after the other.
+// The speed of two changes of speed, one after the other.
 fn speed_of(alloc: Global, first: Scalar, second: Scalar) -> Result<Option<i64>, AllocError> {
     let effects = warps(alloc, first, second)?;
     let speed = effects.speed();

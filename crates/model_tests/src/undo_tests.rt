@@ -8,7 +8,7 @@ use std::alloc::{AllocError, Global};
 use std::test::Fail;
 use undo_log::{Log, UndoFault};
 
-/// So many stacks of no items.
+// So many stacks of no items.
 fn empty_stacks(alloc: Global, count: usize) -> Result<Items, AllocError> {
     let mut list = Vec::with_capacity(alloc, count)?;
     'stacks: for _ in 0..count {
@@ -18,13 +18,13 @@ fn empty_stacks(alloc: Global, count: usize) -> Result<Items, AllocError> {
     Ok(Items::of(list))
 }
 
-/// A timeline of one track of one item.
+// A timeline of one track of one item.
 fn timeline(alloc: Global) -> Result<Timeline, AllocError> {
     let children = Children::of(alloc, empty_stacks(alloc, 1)?)?;
     Ok(timeline_of(alloc, None, one(alloc, track(alloc, children))?))
 }
 
-/// A copy of a timeline, once that is made.
+// A copy of a timeline, once that is made.
 fn copied(alloc: Global, made: Result<Timeline, AllocError>) -> Result<Timeline, AllocError> {
     let timeline = made?;
     let copy = copy_timeline(alloc, &timeline);
@@ -32,7 +32,7 @@ fn copied(alloc: Global, made: Result<Timeline, AllocError>) -> Result<Timeline,
     copy
 }
 
-/// A patch that puts three items in place of the first one.
+// A patch that puts three items in place of the first one.
 fn patch(alloc: Global) -> Result<Patch, AllocError> {
     let mut place = Place::new(alloc);
     place.push(0)?;
@@ -45,7 +45,7 @@ fn patch(alloc: Global) -> Result<Patch, AllocError> {
     })
 }
 
-/// How many children the track has.
+// How many children the track has.
 fn children(timeline: &Timeline) -> usize {
     match timeline.tracks.children.item(0) {
         Some(ItemOf::Track(track)) => track.children.len(),
@@ -53,7 +53,7 @@ fn children(timeline: &Timeline) -> usize {
     }
 }
 
-/// Makes the change where it fits; whether it was made.
+// Makes the change where it fits; whether it was made.
 fn commit(log: &mut Log, timeline: &mut Timeline, patch: Patch) -> bool
     requires kept { IsKept log.old timeline.old }
     ensures kept { IsKept log.new timeline.new }
@@ -74,7 +74,7 @@ fn commit(log: &mut Log, timeline: &mut Timeline, patch: Patch) -> bool
     }
 }
 
-/// How many children the track has after a step, else why it wasn't made.
+// How many children the track has after a step, else why it wasn't made.
 fn outcome(step: Result<(), UndoFault>, timeline: &Timeline) -> Result<usize, Option<UndoFault>> {
     match step {
         Ok(()) => Ok(children(timeline)),
@@ -82,7 +82,7 @@ fn outcome(step: Result<(), UndoFault>, timeline: &Timeline) -> Result<usize, Op
     }
 }
 
-/// Why nothing is undone, else how many children the track has then.
+// Why nothing is undone, else how many children the track has then.
 fn undo(log: &mut Log, timeline: &mut Timeline) -> Result<usize, Option<UndoFault>>
     requires kept { IsKept log.old timeline.old }
     ensures kept { IsKept log.new timeline.new }
@@ -96,7 +96,7 @@ fn undo(log: &mut Log, timeline: &mut Timeline) -> Result<usize, Option<UndoFaul
     }
 }
 
-/// Why nothing is done again, else how many children the track has then.
+// Why nothing is done again, else how many children the track has then.
 fn redo(log: &mut Log, timeline: &mut Timeline) -> Result<usize, Option<UndoFault>>
     requires kept { IsKept log.old timeline.old }
     ensures kept { IsKept log.new timeline.new }
@@ -110,7 +110,7 @@ fn redo(log: &mut Log, timeline: &mut Timeline) -> Result<usize, Option<UndoFaul
     }
 }
 
-/// What comes of a change, of undoing it twice, and of doing it again twice.
+// What comes of a change, of undoing it twice, and of doing it again twice.
 fn steps(
     log: &mut Log,
     timeline: &mut Timeline,
@@ -126,7 +126,7 @@ fn steps(
     [undone, nothing_done, redone, nothing_undone]
 }
 
-/// The same of a new log, once the timeline is made.
+// The same of a new log, once the timeline is made.
 fn outcomes(
     alloc: Global,
     made: Result<Timeline, AllocError>,

@@ -40,8 +40,8 @@ pub fn source_frame(rate: Rate, side: &Side, k: i64) -> i64
     side.src_in + k * speed_of(rate, side) / OWN_SPEED as i64
 }
 
-/// Whether a locator at a record frame counts for an event: the event's record span holds the frame,
-/// and the source frame there lies in the range of times.
+// Whether a locator at a record frame counts for an event: the event's record span holds the frame,
+// and the source frame there lies in the range of times.
 fn counts_for(rate: Rate, event: &Event, at: i64) -> bool
     requires timecode { 1 ≤ speeds.count_of rate }
     requires event { IsEvent (day_of rate) event.now }
@@ -87,8 +87,8 @@ pub fn frames_to(rate: Rate, event: &Event, frame: i128) -> Option<i64>
     }
 }
 
-/// How many source frames a side is past its first one at a source frame; none where it doesn't
-/// come there in a day.
+// How many source frames a side is past its first one at a source frame; none where it doesn't
+// come there in a day.
 fn ahead_of(side: &Side, frame: i128) -> Option<u64>
     requires low { pos 0 ≤ℤ side.now.src_in }
     requires high { side.now.src_in <ℤ pos (60 * 86400) }
@@ -102,7 +102,7 @@ fn ahead_of(side: &Side, frame: i128) -> Option<u64>
     }
 }
 
-/// How many source frames are passed in so many frames, at a speed in millionths.
+// How many source frames are passed in so many frames, at a speed in millionths.
 fn shown_after(k: u64, speed: u64) -> u64
     requires few { k < 60 * 86400 }
     requires slow { speed ≤ 1000 * 1000000 }
@@ -111,8 +111,8 @@ fn shown_after(k: u64, speed: u64) -> u64
     k * speed / OWN_SPEED
 }
 
-/// The least number of frames after which a side of that speed in millionths has come so far at
-/// least, where it ever does.
+// The least number of frames after which a side of that speed in millionths has come so far at
+// least, where it ever does.
 fn least_frames(ahead: u64, speed: u64) -> u64
     requires near { ahead ≤ 10000000000 }
     requires slow { speed ≤ 1000 * 1000000 }

@@ -6,8 +6,8 @@ use crate::notes::{Notes, Said};
 use smpte_tc::label;
 use tick_time::Rate;
 
-/// Whether what a note says can be written at the rate, with drop-frame or without: a locator's
-/// frame is one of the day.
+// Whether what a note says can be written at the rate, with drop-frame or without: a locator's
+// frame is one of the day.
 fn is_below_day(said: &Said, rate: Rate, drop: bool) -> bool
     ensures { result ≡ is_said_below_day rate drop said.now }
 {

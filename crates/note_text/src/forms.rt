@@ -75,7 +75,7 @@ pub fn spoken_in(line: &[u8], rate: Rate, drop: bool) -> Option<Spoken<'_>>
     }
 }
 
-/// The locator that stands after the star of a line.
+// The locator that stands after the star of a line.
 #[tactic(auto, using(crate::proofs::FormLemmas::no_word, crate::proofs::FormLemmas::no_colon, crate::proofs::FormLemmas::no_label, crate::proofs::FormLemmas::no_color, crate::proofs::FormLemmas::no_text, crate::proofs::FormLemmas::locates))]
 fn locator_of(line: &[u8], rate: Rate, drop: bool) -> Option<Spoken<'_>>
     ensures { MatchOption result
@@ -102,7 +102,7 @@ fn locator_of(line: &[u8], rate: Rate, drop: bool) -> Option<Spoken<'_>>
     Some(Spoken::Loc { at, color, name })
 }
 
-/// Slope, offset and power that stand after the star of a line.
+// Slope, offset and power that stand after the star of a line.
 #[tactic(auto, using(crate::proofs::FormLemmas::no_sop, crate::proofs::FormLemmas::no_slope, crate::proofs::FormLemmas::no_offset, crate::proofs::FormLemmas::no_power, crate::proofs::FormLemmas::no_end, crate::proofs::FormLemmas::corrects))]
 fn correction_of(line: &[u8]) -> Option<Spoken<'_>>
     ensures { MatchOption result
@@ -131,7 +131,7 @@ fn correction_of(line: &[u8]) -> Option<Spoken<'_>>
     })
 }
 
-/// The line after a colon at its front and the blanks that follow; the line where there is none.
+// The line after a colon at its front and the blanks that follow; the line where there is none.
 fn behind_colon(line: &[u8]) -> &[u8]
     ensures { HasColon line.now result.now }
 {
@@ -141,7 +141,7 @@ fn behind_colon(line: &[u8]) -> &[u8]
     }
 }
 
-/// Three numerals in parentheses, and what stands after the blanks that follow them.
+// Three numerals in parentheses, and what stands after the blanks that follow them.
 #[tactic(auto, using(crate::proofs::FormLemmas::no_open, crate::proofs::FormLemmas::no_close, crate::proofs::FormLemmas::no_numerals, crate::proofs::FormLemmas::three))]
 fn triple_of(text: &[u8]) -> Option<(Words<'_>, &[u8])>
     ensures { MatchOption result
@@ -160,7 +160,7 @@ fn triple_of(text: &[u8]) -> Option<(Words<'_>, &[u8])>
     }
 }
 
-/// Three numerals with blanks between.
+// Three numerals with blanks between.
 fn numerals_in(text: &[u8]) -> Option<Words<'_>>
     ensures { MatchOption result
         ((numerals : AnyTriple) → AreNumerals text.now numerals → ⊥)
@@ -179,7 +179,7 @@ fn numerals_in(text: &[u8]) -> Option<Words<'_>>
     Some(Words { r, g, b })
 }
 
-/// The saturation that stands after the star of a line.
+// The saturation that stands after the star of a line.
 #[tactic(auto, using(crate::proofs::FormLemmas::no_sat_word, crate::proofs::FormLemmas::sat_colon, crate::proofs::FormLemmas::no_sat_colon, crate::proofs::FormLemmas::sat_bare, crate::proofs::FormLemmas::no_sat_bare, crate::proofs::FormLemmas::no_sat_long))]
 fn saturation_of(line: &[u8]) -> Option<&str>
     ensures { MatchOption result

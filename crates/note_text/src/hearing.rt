@@ -74,7 +74,7 @@ impl Hearing {
         }
     }
 
-    /// Keeps what a line that a list ignores says as a note, where an event line stands before it.
+    // Keeps what a line that a list ignores says as a note, where an event line stands before it.
     fn hear(&mut self, line: &[u8]) -> Result<(), AllocError>
         requires { begins_with_blank line.now ≡ false }
         ensures { OnOk result (Takes self.old self.new line.now) }
@@ -156,7 +156,7 @@ impl NoteReader {
         notes_for(alloc, list, heard.as_slice())
     }
 
-    /// Reads the rest of a line and the line feed after it.
+    // Reads the rest of a line and the line feed after it.
     fn end_line(&mut self, piece: &[u8]) -> Result<(), AllocError>
         requires { HasNone 10 piece.now }
         ensures { OnOk result ((rate : RateSaid) (bytes : List ℕ) → HasHeard rate bytes self.old

@@ -59,8 +59,8 @@ pub(crate) fn put_note<W: Out>(
     }
 }
 
-/// Hands over a locator: its label, its color, and its name where that isn't empty as it is
-/// written, the color then in a column.
+// Hands over a locator: its label, its color, and its name where that isn't empty as it is
+// written, the color then in a column.
 fn put_loc<W: Out>(buffer: &mut OutBuffer, out: &mut W, label: &[u8; 11], color: &Text, name: &Text)
     ensures { HandsOver W.known W.faults out.old out.new buffer.old buffer.new
         (text_of ((codes "* LOC: " ++ (label.now ++ 32
@@ -80,7 +80,7 @@ fn put_loc<W: Out>(buffer: &mut OutBuffer, out: &mut W, label: &[u8; 11], color:
     buffer.put(out, b"\n");
 }
 
-/// The spaces that a color of so many letters leaves in its column.
+// The spaces that a color of so many letters leaves in its column.
 fn padding(letters: usize) -> &'static [u8]
     ensures { result.now ≡ spaces (color_width - letters) }
 {
@@ -91,7 +91,7 @@ fn padding(letters: usize) -> &'static [u8]
     }
 }
 
-/// Hands over three numerals in parentheses.
+// Hands over three numerals in parentheses.
 fn put_triple<W: Out>(buffer: &mut OutBuffer, out: &mut W, triple: &Triple)
     ensures { HandsOver W.known W.faults out.old out.new buffer.old buffer.new
         (triple_text triple.now) }

@@ -50,8 +50,8 @@ pub(crate) fn notes_for(
     Ok(Notes::of(notes))
 }
 
-/// The events that aren't black, in the order of their lines, those of one line in the order of the
-/// list.
+// The events that aren't black, in the order of their lines, those of one line in the order of the
+// list.
 fn owners_of(alloc: Global, events: &[Event]) -> Result<Vec<Owner>, AllocError>
     ensures { IfOk result (λ owners. AreOwners events.now owners.items) }
 {
@@ -68,7 +68,7 @@ fn owners_of(alloc: Global, events: &[Event]) -> Result<Vec<Owner>, AllocError>
     Ok(owners)
 }
 
-/// Whether the incoming side of an event is black.
+// Whether the incoming side of an event is black.
 fn is_black(event: &Event) -> bool
     ensures { result ≡ is_black_reel event.now.to.reel }
 {
@@ -78,7 +78,7 @@ fn is_black(event: &Event) -> bool
     }
 }
 
-/// The owners of a line.
+// The owners of a line.
 fn owners_at(owners: &[Owner], line: u32) -> &[Owner]
     requires { IsNonDecreasingBy (λ owner. owner.line) owners.now }
     ensures { result.now ≡ filter (λ owner. owner.line == line) owners.now }
@@ -89,7 +89,7 @@ fn owners_at(owners: &[Owner], line: u32) -> &[Owner]
     &rest[..to]
 }
 
-/// Puts the notes that the owners, those of its line, have of what was heard.
+// Puts the notes that the owners, those of its line, have of what was heard.
 fn put_notes(
     alloc: Global,
     list: &EventList,
@@ -112,7 +112,7 @@ fn put_notes(
     )
 }
 
-/// Puts the notes that these owners have of what was said.
+// Puts the notes that these owners have of what was said.
 fn put_given(
     alloc: Global,
     list: &EventList,
@@ -136,7 +136,7 @@ fn put_given(
     Ok(())
 }
 
-/// Whether what was said counts for the event at a place.
+// Whether what was said counts for the event at a place.
 fn does_give(list: &EventList, index: usize, said: &Said) -> bool
     requires list { IsWellFormed list.now }
     ensures { result ≡ gives list.now.rate list.now.events said.now index }

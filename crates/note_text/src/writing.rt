@@ -69,7 +69,7 @@ pub fn write_noted<W: Out>(
     buffer.flush(out)
 }
 
-/// Whether the notes stand in the order of their events.
+// Whether the notes stand in the order of their events.
 fn are_in_order(notes: &[Note]) -> bool
     ensures { IsTrue result → AllPairs (λ a b. a.event ≤ b.event) notes.now }
 {
@@ -83,8 +83,8 @@ fn are_in_order(notes: &[Note]) -> bool
     true
 }
 
-/// Hands over the lines of the events, numbered from 1, with their notes, which stand in the order
-/// of the events.
+// Hands over the lines of the events, numbered from 1, with their notes, which stand in the order
+// of the events.
 fn put_in_order<W: Out>(
     buffer: &mut OutBuffer,
     out: &mut W,
@@ -113,8 +113,8 @@ fn put_in_order<W: Out>(
     }
 }
 
-/// Hands over the lines of the events, numbered from 1, with their notes, whatever order these
-/// stand in.
+// Hands over the lines of the events, numbered from 1, with their notes, whatever order these
+// stand in.
 fn put_each<W: Out>(
     buffer: &mut OutBuffer,
     out: &mut W,
@@ -138,7 +138,7 @@ fn put_each<W: Out>(
     }
 }
 
-/// Hands over the notes of one event.
+// Hands over the notes of one event.
 fn put_own<W: Out>(buffer: &mut OutBuffer, out: &mut W, index: usize, notes: &[Note], style: Style)
     requires { All (λ note. IsSaidBelowDay style.rate style.drop note.said) notes.now }
     ensures { HandsOver W.known W.faults out.old out.new buffer.old buffer.new

@@ -74,9 +74,9 @@ impl Effects {
         Ok(())
     }
 
-    #[tactic(auto, using(crate::proofs::SpeedLemmas::kept_in_range))]
     /// The speed after these effects, in millionths. `None` exactly where it passes 1000 times,
     /// either way, after one of them. In practice it takes constant time, which no clause says.
+    #[tactic(auto, using(crate::proofs::SpeedLemmas::kept_in_range))]
     pub fn speed(&self) -> Option<i64>
         ensures speed { result ≡ kept_speed (pos 1000000) self.now }
         ensures range { IfSome result IsSpeed }

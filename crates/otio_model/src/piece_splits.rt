@@ -13,7 +13,7 @@ use crate::piece_summary::NO_ITEMS;
 use crate::vec_moves;
 use std::alloc::{AllocError, Global};
 
-/// Moves the items of some pieces into an empty vector; the pieces stay there, without items.
+// Moves the items of some pieces into an empty vector; the pieces stay there, without items.
 fn pour(pieces: &mut Vec<Piece>, first: usize, end: usize, mid: &mut Vec<Item>)
     requires order { first ≤ end }
     requires within { end ≤ vec_len pieces.old }
@@ -31,7 +31,7 @@ fn pour(pieces: &mut Vec<Piece>, first: usize, end: usize, mid: &mut Vec<Item>)
     }
 }
 
-/// How many of so many items go into the next piece.
+// How many of so many items go into the next piece.
 fn piece_size(all: usize) -> usize
     ensures least { 0 < all → 0 < result }
     ensures most { result ≤ 64 }
@@ -73,8 +73,8 @@ pub(crate) fn cut(mid: &mut Vec<Item>, made: &mut Vec<Piece>, fresh: &mut Vec<Pi
     }
 }
 
-/// The piece in which a replacement begins: the one that has the item of this number, or the last
-/// one.
+// The piece in which a replacement begins: the one that has the item of this number, or the last
+// one.
 fn start_piece(pieces: &[Piece], at: usize) -> (usize, usize)
     requires there { at ≤ length (all_items pieces.now) }
     requires pieces { ArePieces pieces.now }
@@ -93,7 +93,7 @@ fn start_piece(pieces: &[Piece], at: usize) -> (usize, usize)
     (first, before)
 }
 
-/// The end of the first piece, where there is one.
+// The end of the first piece, where there is one.
 fn first_end(pieces: &[Piece], first: usize, before: usize) -> (usize, usize)
     requires few { length (all_items pieces.now) < 2 ^ 64 }
     requires pieces { ArePieces pieces.now }
@@ -108,7 +108,7 @@ fn first_end(pieces: &[Piece], first: usize, before: usize) -> (usize, usize)
     (first, before)
 }
 
-/// The piece behind a replacement.
+// The piece behind a replacement.
 fn end_piece(
     pieces: &[Piece],
     at: usize,
@@ -130,8 +130,8 @@ fn end_piece(
     (end, behind)
 }
 
-/// The pieces that a replacement touches, from one up to another, and how many items lie before
-/// them.
+// The pieces that a replacement touches, from one up to another, and how many items lie before
+// them.
 fn window(pieces: &[Piece], at: usize, count: usize, put: usize) -> (usize, usize, usize)
     requires there { at + count ≤ length (all_items pieces.now) }
     requires few { length (all_items pieces.now) + put < 2 ^ 64 }
@@ -200,7 +200,7 @@ pub(crate) fn replace_pieces(
     outer.clear();
 }
 
-/// So many empty pieces.
+// So many empty pieces.
 fn fresh_pieces(alloc: Global, wanted: usize) -> Result<Vec<Piece>, AllocError>
     ensures fresh { IfOk result (λ pieces. AllFresh pieces.items) }
     ensures long { IfOk result (λ pieces. vec_len pieces ≡ wanted) }
@@ -217,7 +217,7 @@ fn fresh_pieces(alloc: Global, wanted: usize) -> Result<Vec<Piece>, AllocError>
     Ok(fresh)
 }
 
-/// So many items as one piece.
+// So many items as one piece.
 fn one_piece(alloc: Global, items: Vec<Item>) -> Result<Vec<Piece>, AllocError>
     requires some { 1 ≤ vec_len items }
     requires small { vec_len items ≤ 64 }

@@ -27,14 +27,14 @@ pub(crate) const NO_ITEMS: Kept = Kept {
     items: 0,
 };
 
-/// The greater of two numbers.
+// The greater of two numbers.
 fn greater(one: u128, other: u128) -> u128
     ensures { result ≡ max one other }
 {
     if one < other { other } else { one }
 }
 
-/// The lengths of two lists together.
+// The lengths of two lists together.
 fn join_totals(one: Totals, other: Totals) -> Totals
     ensures { result ≡ joined_totals one other }
 {
@@ -57,7 +57,7 @@ pub(crate) fn join(one: Kept, other: Kept) -> Kept
     }
 }
 
-/// How far from its cut an offset lies; one that isn't given is 0.
+// How far from its cut an offset lies; one that isn't given is 0.
 fn offset_ticks(offset: Option<Time>) -> u128
     ensures { result ≡ offset_reach offset }
 {

@@ -24,8 +24,8 @@ pub(crate) fn children_at<'a>(children: &'a Children, place: &[u32]) -> Option<&
     children_at(below, rest)
 }
 
+// Puts the items of a vector in place of `count` children from `at` on, which the vector then has.
 #[tactic(auto, using(crate::proofs::Views::shown))]
-/// Puts the items of a vector in place of `count` children from `at` on, which the vector then has.
 fn replace(
     children: &mut Children,
     at: usize,

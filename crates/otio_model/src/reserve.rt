@@ -36,7 +36,7 @@ impl Model for Spare {
     ghost invariant = { IsSpare };
 }
 
-/// How many items a replacement may have on the way.
+// How many items a replacement may have on the way.
 fn work_of(count: usize, long: usize, put: usize) -> Option<usize>
     ensures fits { IfSome result (λ work. long + put < 2 ^ 64) }
     ensures value { IfSome result (λ work. work ≡ 2 * count + 384 + put + (long / 32 + 1)) }

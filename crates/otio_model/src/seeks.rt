@@ -24,8 +24,8 @@ pub struct Seat {
     pub start: i128,
 }
 
-#[tactic(auto, using(crate::proofs::SeekLemmas::read))]
 /// The piece of this number, and what is known of it.
+#[tactic(auto, using(crate::proofs::SeekLemmas::read))]
 pub(crate) fn read_piece(pieces: &[Piece], number: usize) -> &Piece
     requires there { number < length pieces.now }
     requires pieces { ArePieces pieces.now }
@@ -36,7 +36,7 @@ pub(crate) fn read_piece(pieces: &[Piece], number: usize) -> &Piece
     &pieces[number]
 }
 
-/// Looks at where the piece of this number starts.
+// Looks at where the piece of this number starts.
 fn ticks_before<L: Ledger>(pieces: &[Piece], number: usize, steps: &mut Steps<L>) -> u128
     requires there { number < length pieces.now }
     requires pieces { ArePieces pieces.now }
@@ -49,7 +49,7 @@ fn ticks_before<L: Ledger>(pieces: &[Piece], number: usize, steps: &mut Steps<L>
     read_piece(pieces, number).start.ticks
 }
 
-/// Nearer bounds of the last piece that starts at or before the instant.
+// Nearer bounds of the last piece that starts at or before the instant.
 fn nearer<L: Ledger>(
     pieces: &[Piece],
     at: u128,
@@ -92,8 +92,8 @@ pub(crate) fn last_piece<L: Ledger>(pieces: &[Piece], at: u128, steps: &mut Step
     low
 }
 
+// Looks at one item of a piece.
 #[tactic(auto, using(crate::proofs::SeekLemmas::length_read))]
-/// Looks at one item of a piece.
 fn member_ticks<L: Ledger>(piece: &Piece, index: usize, steps: &mut Steps<L>) -> u128
     requires { index < length piece.now.items.items }
     ensures value { result ≡ capped (slice_index (lens piece.now.items.items) index) }
@@ -106,8 +106,8 @@ fn member_ticks<L: Ledger>(piece: &Piece, index: usize, steps: &mut Steps<L>) ->
     }
 }
 
+// The item of a piece that holds the instant, and where it starts.
 #[tactic(auto, using(crate::proofs::SeekLemmas::sums))]
-/// The item of a piece that holds the instant, and where it starts.
 fn in_piece<L: Ledger>(piece: &Piece, at: u128, steps: &mut Steps<L>) -> Option<(usize, u128)>
     requires fits { total (lens piece.now.items.items) < 2 ^ 127 }
     ensures found { IfSome result (λ s. Holds (lens piece.now.items.items) at s.0 s.1) }
@@ -125,9 +125,9 @@ fn in_piece<L: Ledger>(piece: &Piece, at: u128, steps: &mut Steps<L>) -> Option<
     None
 }
 
+// The item of all pieces that holds the instant, and where it starts. The last piece that starts
+// at or before the instant has it, or none.
 #[tactic(auto, using(crate::proofs::SeekLemmas::holds_at, crate::proofs::SeekLemmas::none_at))]
-/// The item of all pieces that holds the instant, and where it starts. The last piece that starts
-/// at or before the instant has it, or none.
 fn in_pieces<L: Ledger>(pieces: &[Piece], at: u128, steps: &mut Steps<L>) -> Option<(usize, u128)>
     requires pieces { ArePieces pieces.now }
     requires numbered { AreNumbered front pieces.now }
@@ -162,7 +162,7 @@ pub(crate) fn starting_at(index: usize, start: u128) -> Seat
 }
 
 impl Children {
-    /// The child that holds the instant, and where it starts.
+    // The child that holds the instant, and where it starts.
     fn find<L: Ledger>(&self, at: u128, steps: &mut Steps<L>) -> Option<(usize, u128)>
         requires fits { added (lengths self.now) < 2 ^ 127 }
         requires few { length (items_of self.now) < 2 ^ 32 }
@@ -191,7 +191,7 @@ impl Children {
         }
     }
 
-    /// The same with its own count.
+    // The same with its own count.
     fn seek_from<L: Ledger>(&self, ticks: i128, blank: Blank) -> Option<Seat>
         requires few { count self.now < 2 ^ 32 }
         requires name { blank.name ≡ L.name }

@@ -6,14 +6,14 @@ ghost use Rattle.otio_model.specs.Speeds as speeds;
 
 use crate::effect_types::Effect;
 
-/// Whether a division by a million with this quotient and this rest is rounded down, half to even.
+// Whether a division by a million with this quotient and this rest is rounded down, half to even.
 fn is_rounded_down(quotient: i128, rest: i128) -> bool
     ensures { result ≡ speeds.is_rounded_down quotient rest }
 {
     rest < 500_000 || (rest <= 500_000 && quotient.unsigned_abs() % 2 == 0)
 }
 
-/// So many millionths as a whole number, rounded half to even.
+// So many millionths as a whole number, rounded half to even.
 fn from_millionths(millionths: i128) -> i128
     requires low { (pos 0 -ℤ pos 1000000000000000000) ≤ℤ millionths }
     requires high { millionths ≤ℤ pos 1000000000000000000 }
@@ -27,8 +27,8 @@ fn from_millionths(millionths: i128) -> i128
     }
 }
 
+// One speed times another, in millionths.
 #[tactic(auto, using(crate::proofs::SpeedLemmas::product_low, crate::proofs::SpeedLemmas::product_high))]
-/// One speed times another, in millionths.
 fn times(speed: i128, scalar: i64) -> i128
     requires speed_low { (pos 0 -ℤ pos 1000000000) ≤ℤ speed }
     requires speed_high { speed ≤ℤ pos 1000000000 }
@@ -39,7 +39,7 @@ fn times(speed: i128, scalar: i64) -> i128
     from_millionths(product(speed, scalar))
 }
 
-/// The product of two speeds.
+// The product of two speeds.
 fn product(speed: i128, scalar: i64) -> i128
     requires speed_low { (pos 0 -ℤ pos 1000000000) ≤ℤ speed }
     requires speed_high { speed ≤ℤ pos 1000000000 }
@@ -50,7 +50,7 @@ fn product(speed: i128, scalar: i64) -> i128
     speed * i128::from(scalar)
 }
 
-/// The speed after one more effect.
+// The speed after one more effect.
 fn next_speed(speed: i128, effect: &Effect) -> i128
     requires low { (pos 0 -ℤ pos 1000000000) ≤ℤ speed }
     requires high { speed ≤ℤ pos 1000000000 }
@@ -63,7 +63,7 @@ fn next_speed(speed: i128, effect: &Effect) -> i128
     }
 }
 
-/// Whether a speed is at most 1000 times, either way.
+// Whether a speed is at most 1000 times, either way.
 fn is_speed(speed: i128) -> bool
     ensures { result ≡ is_speed speed }
 {

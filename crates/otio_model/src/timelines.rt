@@ -136,7 +136,7 @@ impl Timeline {
     }
 }
 
-/// Whether the patch takes out no more than so many children.
+// Whether the patch takes out no more than so many children.
 fn is_within(patch: &Patch, children: usize) -> bool
     ensures { IsTrue result ↔ (patch.now.at + patch.now.count ≤ children) }
 {
@@ -146,7 +146,7 @@ fn is_within(patch: &Patch, children: usize) -> bool
     }
 }
 
-/// Whether an item is a track that has the children that the patch takes out.
+// Whether an item is a track that has the children that the patch takes out.
 #[tactic(auto, using(crate::proofs::Leads::takes_none))]
 fn takes(item: &Item, patch: &Patch) -> bool
     ensures { IsTrue result ↔ Takes patch.now item.now }
@@ -157,7 +157,7 @@ fn takes(item: &Item, patch: &Patch) -> bool
     }
 }
 
-/// What indexes lead to from an item, one level down for each.
+// What indexes lead to from an item, one level down for each.
 fn below<'a>(item: &'a Item, place: &[u32]) -> Option<&'a Item>
     ensures { option_copied result ≡ trees.below place.now item.now }
 {

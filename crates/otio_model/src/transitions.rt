@@ -20,7 +20,7 @@ use std::marker::Brand;
 use std::sync::ledger::{Blank, Ledger};
 use tick_time::Time;
 
-/// The length of an item, 0 where it has none.
+// The length of an item, 0 where it has none.
 fn ticks_at(items: &[Item], index: usize) -> u128
     requires there { index < length items.now }
     requires fits { total (lens items.now) < 2 ^ 127 }
@@ -32,7 +32,7 @@ fn ticks_at(items: &[Item], index: usize) -> u128
     }
 }
 
-/// How long so many items from the front are together.
+// How long so many items from the front are together.
 fn ticks_of(items: &[Item], count: usize) -> u128
     requires there { count ≤ length items.now }
     requires fits { total (lens items.now) < 2 ^ 127 }
@@ -45,7 +45,7 @@ fn ticks_of(items: &[Item], count: usize) -> u128
     sum
 }
 
-/// The first transition from an index on, and where it starts.
+// The first transition from an index on, and where it starts.
 fn next_in(items: &[Item], from: usize) -> Option<(usize, u128)>
     requires there { from ≤ length items.now }
     requires fits { total (lens items.now) < 2 ^ 127 }
@@ -60,7 +60,7 @@ fn next_in(items: &[Item], from: usize) -> Option<(usize, u128)>
     None
 }
 
-/// The same in a piece, which is passed over where it has no transition.
+// The same in a piece, which is passed over where it has no transition.
 fn next_in_piece(piece: &Piece, from: usize) -> Option<(usize, u128)>
     requires piece { IsPiece piece.now }
     requires fits { total (lens piece.now.items.items) < 2 ^ 127 }
@@ -76,8 +76,8 @@ fn next_in_piece(piece: &Piece, from: usize) -> Option<(usize, u128)>
     next_in(&piece.items, from)
 }
 
+// The same in all pieces, of so many items.
 #[tactic(auto, using(crate::proofs::NextLemmas::next_at, crate::proofs::NextLemmas::none_next))]
-/// The same in all pieces, of so many items.
 fn next_in_pieces(pieces: &[Piece], len: usize, from: usize) -> Option<(usize, u128)>
     requires counted { len ≡ length (all_items pieces.now) }
     requires pieces { ArePieces pieces.now }
@@ -113,7 +113,7 @@ pub fn offset_ticks(offset: Option<Time>) -> i128
     }
 }
 
-/// Whether an item is a transition whose overlap holds an instant that is counted from its cut.
+// Whether an item is a transition whose overlap holds an instant that is counted from its cut.
 fn is_over(item: &Item, at: i128) -> bool
     ensures { result ≡ overlaps item.now at }
 {
@@ -125,7 +125,7 @@ fn is_over(item: &Item, at: i128) -> bool
     }
 }
 
-/// How far an instant lies behind a start.
+// How far an instant lies behind a start.
 fn ticks_from(start: u128, at: u128) -> i128
     requires start { start < 2 ^ 127 }
     requires at { at < 2 ^ 127 }
@@ -134,8 +134,8 @@ fn ticks_from(start: u128, at: u128) -> i128
     at as i128 - start as i128
 }
 
-/// The first of items whose overlap holds an instant, and where it starts, where the items start at
-/// `first`.
+// The first of items whose overlap holds an instant, and where it starts, where the items start at
+// `first`.
 fn over_in(items: &[Item], first: u128, at: u128) -> Option<(usize, u128)>
     requires fits { first + total (lens items.now) < 2 ^ 127 }
     requires short { at < 2 ^ 127 }
@@ -152,7 +152,7 @@ fn over_in(items: &[Item], first: u128, at: u128) -> Option<(usize, u128)>
     None
 }
 
-/// The same in a piece, which is passed over where its overlaps don't reach the instant.
+// The same in a piece, which is passed over where its overlaps don't reach the instant.
 fn over_in_piece(piece: &Piece, first: u128, at: u128) -> Option<(usize, u128)>
     requires piece { IsPiece piece.now }
     requires fits { first + total (lens piece.now.items.items) < 2 ^ 127 }
@@ -171,7 +171,7 @@ fn over_in_piece(piece: &Piece, first: u128, at: u128) -> Option<(usize, u128)>
     over_in(&piece.items, first, at)
 }
 
-/// A piece before which all overlaps end too early, where none reaches further than `reach`.
+// A piece before which all overlaps end too early, where none reaches further than `reach`.
 fn first_within<L: Ledger>(pieces: &[Piece], at: u128, reach: u128, blank: Blank) -> usize
     requires some { 1 ≤ length pieces.now }
     requires pieces { ArePieces pieces.now }
@@ -190,8 +190,8 @@ fn first_within<L: Ledger>(pieces: &[Piece], at: u128, reach: u128, blank: Blank
     last_piece(pieces, at - reach, &mut steps)
 }
 
+// The same in all pieces, up to the first that starts too late.
 #[tactic(auto, using(crate::proofs::OverLemmas::over_at, crate::proofs::OverLemmas::over_next))]
-/// The same in all pieces, up to the first that starts too late.
 fn over_in_pieces(pieces: &[Piece], at: u128, reach: u128) -> Option<(usize, u128)>
     requires pieces { ArePieces pieces.now }
     requires numbered { AreNumbered front pieces.now }

@@ -29,7 +29,7 @@ fn schemas_are_found_in_their_family(rt: HostRuntime) {
     assert!(rt; Schema::Track.version() == 1);
 }
 
-/// The value of a text; none where it has none.
+// The value of a text; none where it has none.
 fn value_of(alloc: Global, text: &str) -> Option<Json>
     ensures { IfSome result HasNumerals }
 {
@@ -44,7 +44,7 @@ fn value_of(alloc: Global, text: &str) -> Option<Json>
     }
 }
 
-/// How many values were read. They are not freed.
+// How many values were read. They are not freed.
 fn count_of(values: Result<Vec<Value>, SchemaFault>) -> usize {
     let count = match &values {
         Ok(values) => values.len(),
@@ -54,7 +54,7 @@ fn count_of(values: Result<Vec<Value>, SchemaFault>) -> usize {
     count
 }
 
-/// How many values the table of collections gives of a value that is an object.
+// How many values the table of collections gives of a value that is an object.
 fn row_count(alloc: Global, value: &Json) -> usize
     requires { HasNumerals value.now }
 {

@@ -259,7 +259,7 @@ static FAULTY_CASES: [Case; 11] = [
     ),
 ];
 
-/// Holds what a command line sends, blanks and line feeds aside.
+// Holds what a command line sends, blanks and line feeds aside.
 fn check_squeezed(
     rt: &impl Abort,
     alloc: Global,
@@ -276,7 +276,7 @@ fn check_squeezed(
     Ok(())
 }
 
-/// Holds what is written of an object in the older family, and of that in the newer one.
+// Holds what is written of an object in the older family, and of that in the newer one.
 fn check_older(
     rt: &impl Abort,
     alloc: Global,

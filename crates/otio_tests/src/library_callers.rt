@@ -42,7 +42,7 @@ use std::test::Fail;
 use tick_time::Rate;
 use undo_log::Log;
 
-/// Reads a list whose labels count at this rate. The error is the first fault of the bytes.
+// Reads a list whose labels count at this rate. The error is the first fault of the bytes.
 fn read_edl(alloc: Global, rate: Rate, bytes: &[u8]) -> Result<EventList, EdlFault>
     ensures list { IfOk result (IsList rate bytes.now) }
     ensures formed { IfOk result IsWellFormed }
@@ -54,8 +54,8 @@ fn read_edl(alloc: Global, rate: Rate, bytes: &[u8]) -> Result<EventList, EdlFau
     reader.finish()
 }
 
-/// Conforms a list to its media: on each channel, at each record frame, the timeline shows what the
-/// list shows. The error is the first event that the media list doesn't hold.
+// Conforms a list to its media: on each channel, at each record frame, the timeline shows what the
+// list shows. The error is the first event that the media list doesn't hold.
 fn conform_edl(alloc: Global, list: &EventList, media: &MediaList) -> Result<Timeline, ConformFault>
     requires formed { IsWellFormed list.now }
     ensures shows { IfOk result (λ timeline. (channel : Channel) (frame : ℤ) →
@@ -70,7 +70,7 @@ fn conform_edl(alloc: Global, list: &EventList, media: &MediaList) -> Result<Tim
     conform(alloc, list, Some(media))
 }
 
-/// Writes what a child of the root stack shows at a record frame, as the command `frames` does.
+// Writes what a child of the root stack shows at a record frame, as the command `frames` does.
 fn write_frame<W: Out>(
     alloc: Global,
     timeline: &Timeline,
@@ -96,8 +96,8 @@ fn write_frame<W: Out>(
     }
 }
 
-/// Edits a track. Each frame then shows what the rule of the edit says, and the log can undo it.
-/// The error is the first rule that the edit breaks.
+// Edits a track. Each frame then shows what the rule of the edit says, and the log can undo it.
+// The error is the first rule that the edit breaks.
 fn edit_track(
     alloc: Global,
     timeline: &mut Timeline,
@@ -130,7 +130,7 @@ fn edit_track(
     }
 }
 
-/// Undoes the last edit of a timeline: true, or false where none is left to undo.
+// Undoes the last edit of a timeline: true, or false where none is left to undo.
 fn undo_edit(timeline: &mut Timeline, log: &mut Log) -> Result<bool, AllocError>
     requires kept { IsKept log.old timeline.old }
     ensures undone { IfOk result (λ undone. undone ≡ true →
@@ -150,7 +150,7 @@ const MEDIA: &[u8] = b"A1\t24\t0\t1000\tfile:///a.mov\n";
 
 const SHOWN: &[u8] = b"url:\"file:///a.mov\"@264";
 
-/// The timeline of the list above.
+// The timeline of the list above.
 fn conformed(alloc: Global) -> Option<Timeline>
     ensures sound { IfSome result IsSound }
     ensures few { IfSome result (λ timeline. count timeline.tracks.children < 2 ^ 32) }
@@ -171,7 +171,7 @@ fn conformed(alloc: Global) -> Option<Timeline>
     }
 }
 
-/// Holds what the first root child shows a second after the start.
+// Holds what the first root child shows a second after the start.
 fn check_frame(rt: &impl Abort, alloc: Global, timeline: &Timeline) -> Result<(), Fail>
     requires sound { IsSound timeline.now }
     requires few { count timeline.now.tracks.children < 2 ^ 32 }
@@ -186,7 +186,7 @@ fn check_frame(rt: &impl Abort, alloc: Global, timeline: &Timeline) -> Result<()
     Ok(())
 }
 
-/// How many items the first root child has; none where it has no children.
+// How many items the first root child has; none where it has no children.
 fn first_len(timeline: &Timeline) -> Option<usize> {
     match timeline.tracks.children.item(0) {
         Some(ItemOf::Track(track)) => Some(track.children.len()),
@@ -194,7 +194,7 @@ fn first_len(timeline: &Timeline) -> Option<usize> {
     }
 }
 
-/// Cuts the clip in two and undoes it.
+// Cuts the clip in two and undoes it.
 fn check_edit(rt: &impl Abort, alloc: Global, timeline: &mut Timeline) -> Result<(), Fail>
     requires sound { IsSound timeline.old }
     requires few { count timeline.old.tracks.children < 2 ^ 32 }

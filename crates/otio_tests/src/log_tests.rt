@@ -383,7 +383,7 @@ static CASES: [Case; 8] = [
     ),
 ];
 
-/// Holds a case over files of which a read gives at most so many bytes.
+// Holds a case over files of which a read gives at most so many bytes.
 fn check_piece(
     rt: &impl Abort,
     alloc: Global,
@@ -397,7 +397,7 @@ fn check_piece(
     check_case(rt, alloc, files, case)
 }
 
-/// Holds what `media` answers to the log `x.ale`, read whole and in pieces of 1, 2 and 7 bytes.
+// Holds what `media` answers to the log `x.ale`, read whole and in pieces of 1, 2 and 7 bytes.
 fn check_log(
     rt: &impl Abort,
     alloc: Global,
@@ -425,7 +425,7 @@ fn check_logs(rt: &impl Abort, alloc: Global, files: &mut MemFiles) -> Result<()
     Ok(())
 }
 
-/// The log of a rate, columns and rows.
+// The log of a rate, columns and rows.
 fn text_of(alloc: Global, log: &Rows) -> Result<String, AllocError> {
     format!(in alloc;
         "Heading\nFPS\t{}\nColumn\n{}\nData\n{}",

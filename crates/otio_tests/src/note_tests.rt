@@ -540,7 +540,7 @@ fn put_timeline(
     text.push_str("]}}")
 }
 
-/// A timeline of these tracks, each with this clip.
+// A timeline of these tracks, each with this clip.
 fn timeline_of(
     alloc: Global,
     tracks: &[(&'static str, &'static str)],
@@ -551,12 +551,12 @@ fn timeline_of(
     Ok(text)
 }
 
-/// Two texts, one after the other.
+// Two texts, one after the other.
 fn joined(alloc: Global, front: &str, rest: &str) -> Result<String, AllocError> {
     format!(in alloc; "{front}{rest}")
 }
 
-/// Holds that a command line is done, and sends this text.
+// Holds that a command line is done, and sends this text.
 fn check_sent(
     rt: &impl Abort,
     alloc: Global,
@@ -568,7 +568,7 @@ fn check_sent(
     check_case(rt, alloc, files, &case)
 }
 
-/// Holds the same of a text that is made of two.
+// Holds the same of a text that is made of two.
 fn check_joined(
     rt: &impl Abort,
     alloc: Global,
@@ -583,7 +583,7 @@ fn check_joined(
     held
 }
 
-/// Holds that the list `a.edl` becomes a timeline of this text, blanks and line feeds aside.
+// Holds that the list `a.edl` becomes a timeline of this text, blanks and line feeds aside.
 fn check_squeezed(
     rt: &impl Abort,
     alloc: Global,
@@ -599,7 +599,7 @@ fn check_squeezed(
     Ok(())
 }
 
-/// Holds that the list `a.edl` becomes a timeline of these tracks, each with this clip.
+// Holds that the list `a.edl` becomes a timeline of these tracks, each with this clip.
 fn check_timeline(
     rt: &impl Abort,
     alloc: Global,
@@ -613,7 +613,7 @@ fn check_timeline(
     held
 }
 
-/// Holds what becomes of the list `a.edl` of an event, of which a read gives at most so many bytes.
+// Holds what becomes of the list `a.edl` of an event, of which a read gives at most so many bytes.
 fn check_noted(
     rt: &impl Abort,
     alloc: Global,
@@ -662,7 +662,7 @@ fn check_two_channels(rt: &impl Abort, alloc: Global, files: &mut MemFiles) -> R
     check_timeline(rt, alloc, files, &TWO_TRACKS, &ON_BOTH)
 }
 
-/// Holds what is written of a clip, of which a read gives at most so many bytes.
+// Holds what is written of a clip, of which a read gives at most so many bytes.
 fn check_marked(
     rt: &impl Abort,
     alloc: Global,
@@ -688,8 +688,8 @@ fn check_all_marked(rt: &impl Abort, alloc: Global, files: &mut MemFiles) -> Res
     Ok(())
 }
 
-/// Holds what is written of the list `a.edl`, and of the timeline that it becomes, of which a read
-/// gives at most so many bytes.
+// Holds what is written of the list `a.edl`, and of the timeline that it becomes, of which a read
+// gives at most so many bytes.
 fn check_listed(
     rt: &impl Abort,
     alloc: Global,
@@ -717,7 +717,7 @@ fn check_all_listed(rt: &impl Abort, alloc: Global, files: &mut MemFiles) -> Res
     Ok(())
 }
 
-/// Holds the timeline of the worked row, and the cases.
+// Holds the timeline of the worked row, and the cases.
 fn check_lines(rt: &impl Abort, alloc: Global, files: &mut MemFiles) -> Result<(), Fail> {
     for line in &TO_WORKED {
         let case: Case<'_> = (line, Status::Done, WORKED, b"");
@@ -726,7 +726,7 @@ fn check_lines(rt: &impl Abort, alloc: Global, files: &mut MemFiles) -> Result<(
     check_cases(rt, alloc, files, &CASES)
 }
 
-/// Holds them over whole files and over files in pieces of a byte, and the usage text.
+// Holds them over whole files and over files in pieces of a byte, and the usage text.
 fn check_words(rt: &impl Abort, alloc: Global, files: &mut MemFiles) -> Result<(), Fail> {
     check_lines(rt, alloc, files)?;
     check_usages(rt, alloc, files, &OTHER)?;

@@ -33,7 +33,7 @@ pub fn is_squeezed(bytes: &[u8], text: &[u8]) -> bool {
     rest.is_empty()
 }
 
-/// Converts a text to objects, and holds its end, its output and its message against these.
+// Converts a text to objects, and holds its end, its output and its message against these.
 fn check(
     rt: &impl Abort,
     alloc: Global,
@@ -97,7 +97,7 @@ fn put_gaps(text: &mut String, count: usize) -> Result<(), AllocError> {
     text.push_str("]}}")
 }
 
-/// The text of a timeline of so many gaps.
+// The text of a timeline of so many gaps.
 fn gaps(alloc: Global, count: usize) -> Result<String, AllocError> {
     let mut text = String::new(alloc);
     put_gaps(&mut text, count)?;
@@ -119,7 +119,7 @@ fn a_timeline_of_1000_gaps_is_read(rt: HostRuntime) -> Result<(), Fail> {
     held
 }
 
-/// The object that the file `a.otio` stands for; none where it stands for none.
+// The object that the file `a.otio` stands for; none where it stands for none.
 fn root_of(alloc: Global, files: &mut MemFiles) -> Option<Object> {
     let source = Source {
         name: "a.otio",
@@ -135,7 +135,7 @@ fn root_of(alloc: Global, files: &mut MemFiles) -> Option<Object> {
     }
 }
 
-/// The object that a text stands for; none where it stands for none.
+// The object that a text stands for; none where it stands for none.
 fn object_in(alloc: Global, text: &[u8]) -> Result<Option<Object>, AllocError> {
     let mut files = MemFiles::new(alloc);
     files.put("a.otio", text)?;
@@ -144,7 +144,7 @@ fn object_in(alloc: Global, text: &[u8]) -> Result<Option<Object>, AllocError> {
     Ok(object)
 }
 
-/// Writes the JSON value of a text's object; nothing where the text stands for none.
+// Writes the JSON value of a text's object; nothing where the text stands for none.
 fn write_value(alloc: Global, text: &[u8], out: &mut MemOut) -> Result<(), AllocError> {
     if let Some(object) = object_in(alloc, text)? {
         let made = json_of(alloc, &object);
@@ -156,7 +156,7 @@ fn write_value(alloc: Global, text: &[u8], out: &mut MemOut) -> Result<(), Alloc
     Ok(())
 }
 
-/// What is written of it, in room for so many bytes.
+// What is written of it, in room for so many bytes.
 fn value_written(alloc: Global, text: &[u8], room: usize) -> Result<MemOut, AllocError> {
     let mut out = MemOut::new(alloc, room)?;
     write_value(alloc, text, &mut out)?;
@@ -185,8 +185,8 @@ fn a_timeline_of_1000_gaps_has_a_value(rt: HostRuntime) -> Result<(), Fail> {
     Ok(())
 }
 
-/// Writes the JSON value of a text's object in the older family; nothing where the text stands for
-/// no object. It is none where the object has no form there, or where memory runs out.
+// Writes the JSON value of a text's object in the older family; nothing where the text stands for
+// no object. It is none where the object has no form there, or where memory runs out.
 fn write_old_value(alloc: Global, text: &[u8], out: &mut MemOut) -> Result<(), AllocError> {
     if let Some(object) = object_in(alloc, text)? {
         let made = json_of_old(alloc, &object);
@@ -214,8 +214,8 @@ fn values_of_objects_are_written_in_the_older_family(rt: HostRuntime) -> Result<
     Ok(())
 }
 
-/// The first index of the place of the clip whose references have no older form; none where there
-/// is no such clip.
+// The first index of the place of the clip whose references have no older form; none where there
+// is no such clip.
 fn index_of_keys(alloc: Global, text: &[u8]) -> Result<Option<u32>, AllocError> {
     let Some(object) = object_in(alloc, text)? else {
         return Ok(None);

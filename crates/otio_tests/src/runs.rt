@@ -98,7 +98,7 @@ pub fn status_of<W: Out, E: Out>(
     Ok(status)
 }
 
-/// A stream that nothing was sent to.
+// A stream that nothing was sent to.
 fn stream(alloc: Global, manner: Manner) -> Result<MemOut, AllocError>
     requires { 0 < manner.most }
     ensures { IfOk result (λ stream. IsFresh (Some (out_known stream))) }
@@ -280,7 +280,7 @@ pub fn line_count(bytes: &[u8]) -> usize {
     bytes.iter().filter(|b| **b == b'\n').count()
 }
 
-/// Holds that a command line is answered by the usage text alone.
+// Holds that a command line is answered by the usage text alone.
 fn check_usage(
     rt: &impl Abort,
     alloc: Global,
@@ -341,8 +341,8 @@ pub fn check_refused(
     Ok(())
 }
 
-/// Holds that an output in pieces of 16 bytes of which that call fails is told of, behind a part of
-/// the whole.
+// Holds that an output in pieces of 16 bytes of which that call fails is told of, behind a part of
+// the whole.
 fn check_cut_off(
     rt: &impl Abort,
     alloc: Global,

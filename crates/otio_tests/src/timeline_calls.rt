@@ -22,7 +22,7 @@ use std::slice::from_ref;
 use std::test::Fail;
 use writable_law::read_timelines_are_writable;
 
-/// The sound timeline that a text is, once that is made; none where it is none.
+// The sound timeline that a text is, once that is made; none where it is none.
 fn timeline_of(
     alloc: Global,
     made: Result<String, AllocError>,
@@ -56,7 +56,7 @@ fn timeline_of(
     }
 }
 
-/// Prints what a root child shows at a record frame.
+// Prints what a root child shows at a record frame.
 fn print_at(
     rt: &impl Abort,
     alloc: Global,
@@ -77,7 +77,7 @@ fn print_at(
     Ok(())
 }
 
-/// Holds that a root child shows this at a record frame.
+// Holds that a root child shows this at a record frame.
 fn check_shown(
     rt: &impl Abort,
     alloc: Global,
@@ -122,7 +122,7 @@ fn pictures_are_shown(rt: HostRuntime) -> Result<(), Fail> {
     }
 }
 
-/// How many ticks a number of frames of 24 a second has.
+// How many ticks a number of frames of 24 a second has.
 fn ticks_of(frames: u32) -> i128
     ensures { result ≡ pos frames *ℤ pos 29400000000000000 }
 {
@@ -202,7 +202,7 @@ fn places_are_reached(rt: HostRuntime) -> Result<(), Fail> {
     }
 }
 
-/// How long the range of a track is, in ticks; none where these aren't one track that has a range.
+// How long the range of a track is, in ticks; none where these aren't one track that has a range.
 fn range_ticks(items: &[Item]) -> Option<i128> {
     match items {
         [ItemOf::Track(track)] => match track.source_range {
@@ -213,7 +213,7 @@ fn range_ticks(items: &[Item]) -> Option<i128> {
     }
 }
 
-/// Holds how long a piece of a track is, in ticks.
+// Holds how long a piece of a track is, in ticks.
 fn is_long(rt: &impl Abort, piece: Result<Vec<Item>, CutFault>, ticks: i128) {
     match piece {
         Ok(items) => {
@@ -225,7 +225,7 @@ fn is_long(rt: &impl Abort, piece: Result<Vec<Item>, CutFault>, ticks: i128) {
     }
 }
 
-/// Holds that a track can be cut behind four of twenty frames, and how long both pieces are.
+// Holds that a track can be cut behind four of twenty frames, and how long both pieces are.
 fn check_cut(rt: &impl Abort, alloc: Global, timeline: &Timeline, track: &Item) -> Result<(), Fail>
     requires few { count_of track.now < 2 ^ 32 }
     requires faultless { IsFaultlessItem track.now }
@@ -273,7 +273,7 @@ fn lists_are_cut(rt: HostRuntime) -> Result<(), Fail> {
     }
 }
 
-/// How many items the first root child has; none where it has no children.
+// How many items the first root child has; none where it has no children.
 fn first_len(timeline: &Timeline) -> Option<usize> {
     match timeline.tracks.children.item(0) {
         Some(ItemOf::Track(track)) => Some(track.children.len()),
@@ -281,7 +281,7 @@ fn first_len(timeline: &Timeline) -> Option<usize> {
     }
 }
 
-/// How many items the first track has of two timelines that are joined; none where they aren't.
+// How many items the first track has of two timelines that are joined; none where they aren't.
 fn joined_len(alloc: Global, first: Timeline, second: Timeline) -> Option<usize>
     requires first { IsSound first }
     requires second { IsSound second }

@@ -79,8 +79,8 @@ fn no_memory<'a>(name: &'a str) -> SourceFault<'a>
     }
 }
 
-#[tactic(auto, using(crate::proofs::SeveralFiles::names_all))]
 // The names of the inputs.
+#[tactic(auto, using(crate::proofs::SeveralFiles::names_all))]
 fn names_of<'a>(alloc: Global, name: &'a str, more: &[&'a str]) -> Result<Vec<&'a str>, AllocError>
     ensures { IfOk result (λ names. names_now names.items ≡ name.now ∷ names_now more.now) }
 {
@@ -92,8 +92,8 @@ fn names_of<'a>(alloc: Global, name: &'a str, more: &[&'a str]) -> Result<Vec<&'
     Ok(names)
 }
 
-#[tactic(auto, using(crate::proofs::SeveralFiles::named_all))]
 // The inputs of these names, and the media list after them.
+#[tactic(auto, using(crate::proofs::SeveralFiles::named_all))]
 fn sources_of<'a>(
     alloc: Global,
     command: Command,

@@ -27,10 +27,10 @@ use std::alloc::Global;
 use std::mem;
 use undo_log::Log;
 
-#[tactic(auto, using(crate::proofs::CalmTimelines::tables_are_calm, crate::proofs::CalmTimelines::tables_are_writable, crate::proofs::Editing::unsound_list))]
 /// The sound timeline that is worked on: the one that a file holds, or the one that its list
 /// conforms to with this media list. An error tells why the list isn't conformed, or else the first
 /// fault of a timeline that isn't sound; or memory ran out.
+#[tactic(auto, using(crate::proofs::CalmTimelines::tables_are_calm, crate::proofs::CalmTimelines::tables_are_writable, crate::proofs::Editing::unsound_list))]
 pub fn opened_timeline(
     alloc: Global,
     content: Content,
@@ -98,11 +98,11 @@ fn timeline_of_list(
     }
 }
 
-#[tactic(auto, using(crate::proofs::Starting::halted_as))]
 /// Runs the script on a sound timeline, and gives the timeline that its commands lead to with the
 /// log of what they did. An error tells the first command that is refused; or memory ran out.
 /// The script isn't freed, nor is a timeline whose script is refused: what is left of a run is to
 /// send an answer.
+#[tactic(auto, using(crate::proofs::Starting::halted_as))]
 pub fn run_script(
     alloc: Global,
     timeline: Timeline,

@@ -256,7 +256,7 @@ fn is_log(name: &str) -> bool
     is_log_name(name)
 }
 
-// What a list is read as, with its notes or without.
+/// What a list is read as, with its notes or without.
 pub(crate) fn list_kind(rate: Rate, notes: bool) -> Kind
     ensures { result ≡ asking.list_kind rate notes }
 {
@@ -350,8 +350,8 @@ fn edit_planned<'a>(
     ended
 }
 
-#[tactic(auto, using(crate::proofs::Editing::edit_done, crate::proofs::Editing::edit_halted, crate::proofs::Editing::edit_unopened, crate::proofs::Editing::edit_work))]
 // What an edit is to send for what is edited, these commands and this media list.
+#[tactic(auto, using(crate::proofs::Editing::edit_done, crate::proofs::Editing::edit_halted, crate::proofs::Editing::edit_unopened, crate::proofs::Editing::edit_work))]
 fn edited<'a>(
     alloc: Global,
     name: &'a str,
@@ -386,8 +386,8 @@ fn edited<'a>(
     }
 }
 
-#[tactic(auto, using(crate::proofs::Parting::only_two, crate::proofs::Parting::front_two, crate::proofs::Parting::all_two, crate::proofs::Parting::all_three))]
 // What is edited, the script, and the media list after it where one was read.
+#[tactic(auto, using(crate::proofs::Parting::only_two, crate::proofs::Parting::front_two, crate::proofs::Parting::all_two, crate::proofs::Parting::all_three))]
 fn edit_parts(contents: Vec<Content>) -> (Content, Vec<ScriptCommand>, Option<MediaList>)
     requires { AreEditContents contents.items }
     ensures { contents.items ≡ result.0 ∷ Commands result.1 ∷ media_content result.2 }
@@ -401,8 +401,8 @@ fn edit_parts(contents: Vec<Content>) -> (Content, Vec<ScriptCommand>, Option<Me
     (content, commands, Some(media))
 }
 
-#[tactic(auto, using(crate::proofs::Parting::last_rows, crate::proofs::Parting::front_length))]
 // What is edited and the script, and the media list after them.
+#[tactic(auto, using(crate::proofs::Parting::last_rows, crate::proofs::Parting::front_length))]
 fn media_behind(contents: Vec<Content>) -> (Vec<Content>, MediaList)
     requires are { AreEditContents contents.items }
     requires three { length contents.items ≢ 2 }

@@ -34,7 +34,7 @@ pub fn object_to_write(alloc: Global, object: Object, older: bool) -> Result<Pla
     }
 }
 
-/// How an object without a form in the older family is refused.
+// How an object without a form in the older family is refused.
 fn not_written(fault: FamilyFault) -> Refusal
     ensures { IsRefused (λ why. (fault ≢ FamilyFault.Memory)
         × (why ≡ family_fault_text fault)) result }

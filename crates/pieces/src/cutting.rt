@@ -48,7 +48,7 @@ pub fn is_whole_at(item: &Item, ticks: i128) -> bool
     is_whole(ticks, speed(item))
 }
 
-/// So many millionths of a tick as whole ticks, rounded down.
+// So many millionths of a tick as whole ticks, rounded down.
 fn floor_ticks(millionths: i128) -> i128
     requires least { (pos 0 -ℤ pos 1000000000000000000000000000000000) ≤ℤ millionths }
     requires most { millionths ≤ℤ pos 1000000000000000000000000000000000 }
@@ -59,7 +59,7 @@ fn floor_ticks(millionths: i128) -> i128
     millionths.div_euclid(1_000_000)
 }
 
-/// The instant of the media that is reached in so many ticks from a start.
+// The instant of the media that is reached in so many ticks from a start.
 fn media_at(start: i128, speed: i64, ticks: i128) -> i128
     requires start_low { (pos 0 -ℤ pos most_ticks) ≤ℤ start }
     requires start_high { start ≤ℤ pos most_ticks }

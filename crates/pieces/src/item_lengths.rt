@@ -34,7 +34,7 @@ pub fn known_ticks(item: &Item) -> u128
     }
 }
 
-/// How long an item is that is at most a million seconds long, in ticks.
+// How long an item is that is at most a million seconds long, in ticks.
 #[tactic(auto, using(crate::proofs::Grown::short_ticks))]
 fn short_ticks(item: &Item) -> u128
     requires { IsShort item.now }

@@ -36,7 +36,7 @@ pub fn new_gap(alloc: Global, ticks: i128, rate: Rate) -> Result<Item, RangedFau
     Ok(gap_of(alloc, Span { start, len }))
 }
 
-/// A gap of a range.
+// A gap of a range.
 fn gap_of(alloc: Global, range: Span) -> Item
     ensures { result ≡ children.with_range range children.plain_gap }
 {
@@ -74,7 +74,7 @@ pub(crate) fn add(list: &mut Vec<Item>, item: Item) -> Result<(), RangedFault>
     }
 }
 
-/// One item more at the end of a list, which ends there.
+// One item more at the end of a list, which ends there.
 fn with_last(list: Vec<Item>, item: Item) -> Result<Vec<Item>, RangedFault>
     ensures added { IfOk result (λ all. all.items ≡ list.items ++ item ∷ []) }
     ensures fault { IfErr result (λ fault. fault ≡ RangedFault.Memory) }

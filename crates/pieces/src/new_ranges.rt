@@ -17,7 +17,7 @@ pub enum RangedFault {
     Memory,
 }
 
-/// The range of a clip: its own, else that of its media.
+// The range of a clip: its own, else that of its media.
 fn clip_range(clip: &Clip) -> Option<Span>
     ensures { result ≡ children.old_range (ItemOf.Clip clip.now) }
 {
@@ -27,7 +27,7 @@ fn clip_range(clip: &Clip) -> Option<Span>
     }
 }
 
-/// The range by whose rates an item's times are counted.
+// The range by whose rates an item's times are counted.
 fn old_range(item: &Item) -> Option<Span>
     ensures { result ≡ children.old_range item.now }
 {
@@ -40,7 +40,7 @@ fn old_range(item: &Item) -> Option<Span>
     }
 }
 
-/// The rate of an item's start, where one without a range counts at the record rate.
+// The rate of an item's start, where one without a range counts at the record rate.
 fn start_rate(item: &Item, rate: Rate) -> Rate
     ensures { result ≡ children.start_rate rate item.now }
 {
@@ -50,7 +50,7 @@ fn start_rate(item: &Item, rate: Rate) -> Rate
     }
 }
 
-/// The rate of its length.
+// The rate of its length.
 fn length_rate(item: &Item, rate: Rate) -> Rate
     ensures { result ≡ children.length_rate rate item.now }
 {
@@ -60,7 +60,7 @@ fn length_rate(item: &Item, rate: Rate) -> Rate
     }
 }
 
-/// The item with another range; a transition has none.
+// The item with another range; a transition has none.
 fn with_range(item: Item, range: Span) -> Item
     ensures { result ≡ children.with_range range item }
 {

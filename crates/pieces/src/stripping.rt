@@ -12,8 +12,8 @@ use crate::item_lengths::{member, ticks_of};
 use otio_model::{Item, ItemOf, copy_item, offset_ticks};
 use std::alloc::{AllocError, Global};
 
+// Whether an overlap that begins so long before its cut begins before an end of a zone.
 #[tactic(auto, using(crate::proofs::StripLemmas::meets))]
-/// Whether an overlap that begins so long before its cut begins before an end of a zone.
 fn begins_before(before: i128, at: i128, to: i128) -> bool
     requires before_low { (pos 0 -ℤ pos most_ticks) ≤ℤ before }
     requires before_high { before ≤ℤ pos most_ticks }
@@ -24,8 +24,8 @@ fn begins_before(before: i128, at: i128, to: i128) -> bool
     at - before < to
 }
 
+// Whether an overlap that ends so long after its cut ends behind the start of a zone.
 #[tactic(auto, using(crate::proofs::StripLemmas::meets))]
-/// Whether an overlap that ends so long after its cut ends behind the start of a zone.
 fn ends_behind(after: i128, at: i128, from: i128) -> bool
     requires after_low { (pos 0 -ℤ pos most_ticks) ≤ℤ after }
     requires after_high { after ≤ℤ pos most_ticks }
@@ -36,7 +36,7 @@ fn ends_behind(after: i128, at: i128, from: i128) -> bool
     from < at + after
 }
 
-/// Whether an overlap of a cut that lies at an instant has an instant of the zone.
+// Whether an overlap of a cut that lies at an instant has an instant of the zone.
 fn overlaps(before: i128, after: i128, at: i128, from: i128, to: i128) -> bool
     requires before_low { (pos 0 -ℤ pos most_ticks) ≤ℤ before }
     requires before_high { before ≤ℤ pos most_ticks }
@@ -49,8 +49,8 @@ fn overlaps(before: i128, after: i128, at: i128, from: i128, to: i128) -> bool
     begins_before(before, at, to) && ends_behind(after, at, from)
 }
 
+// Whether a cut that lies at an instant lies in the zone, ends included.
 #[tactic(auto, using(crate::proofs::StripLemmas::meets))]
-/// Whether a cut that lies at an instant lies in the zone, ends included.
 fn lies_in(at: i128, from: i128, to: i128) -> bool
     ensures { result ≡ (int_le (from -ℤ at) (pos 0) && int_le (pos 0) (to -ℤ at)) }
 {

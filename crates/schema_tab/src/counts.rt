@@ -20,7 +20,7 @@ pub(crate) fn left_after(limit: u32, object: &Object) -> Option<u32>
     }
 }
 
-/// What is left of a limit after the items of objects; none where there are more.
+// What is left of a limit after the items of objects; none where there are more.
 #[cycle(objects)]
 fn after_objects(limit: u32, objects: &[Object]) -> Option<u32>
     ensures { MatchOption result (limit < counts_of objects.now) (λ rest.
@@ -33,7 +33,7 @@ fn after_objects(limit: u32, objects: &[Object]) -> Option<u32>
     Some(left)
 }
 
-/// What is left of a limit after an item and the items below it; none where there are more.
+// What is left of a limit after an item and the items below it; none where there are more.
 #[tactic(auto, using(crate::proofs::Counting::item_count, crate::proofs::Counting::parent_count))]
 fn after_item(limit: u32, item: &Item) -> Option<u32>
     ensures { MatchOption result (limit < count_of_item item.now) (λ rest.
@@ -46,7 +46,7 @@ fn after_item(limit: u32, item: &Item) -> Option<u32>
     }
 }
 
-/// What is left of a limit after children and the items below them; none where there are more.
+// What is left of a limit after children and the items below them; none where there are more.
 fn after_children(limit: u32, children: &Children) -> Option<u32>
     ensures { MatchOption result (limit < count children.now) (λ rest.
         rest + count children.now ≡ limit) }

@@ -13,7 +13,7 @@ use sequences::{NamedValues, Sequence, Text};
 use std::alloc::{AllocError, Global};
 use tick_time::Scalar;
 
-/// The root stack of a timeline that has none.
+// The root stack of a timeline that has none.
 fn empty_tracks(alloc: Global) -> Result<Stack, AllocError>
     ensures { IfOk result (λ stack. stack ≡ defaults.empty_tracks) }
 {
@@ -31,7 +31,7 @@ fn empty_tracks(alloc: Global) -> Result<Stack, AllocError>
     })
 }
 
-/// A default in millionths as a speed.
+// A default in millionths as a speed.
 fn default_speed(number: i64) -> Option<Value>
     ensures { result ≡ cond (is_speed number) (Some (Value.Number number)) None }
 {
@@ -42,7 +42,7 @@ fn default_speed(number: i64) -> Option<Value>
     }
 }
 
-/// The default of a kind.
+// The default of a kind.
 fn default_of(alloc: Global, kind: Kind) -> Result<Option<Value>, AllocError>
     ensures { IfOk result (λ value. value ≡ defaults.default_of (kind_of kind)) }
 {

@@ -64,7 +64,7 @@ pub(crate) fn next_time(values: &mut IntoIter<Value>) -> Option<Time>
     }
 }
 
-/// The next value.
+// The next value.
 fn next_value(values: &mut IntoIter<Value>) -> Value
     requires { (shape : Shape) × (first_shape (into_iter_items values.old) ≡ Some shape) }
     ensures { into_iter_items values.old ≡ result ∷ into_iter_items values.new }

@@ -122,7 +122,7 @@ fn read_member(alloc: Global, row: &Field, value: &Json, place: &Place) -> RowRe
     }
 }
 
-/// The list of a row of lists.
+// The list of a row of lists.
 #[cycle(object)]
 fn read_list(alloc: Global, row: &Field, value: &Json, place: &Place) -> RowResult
     requires listed { IsListed row.now.kind }

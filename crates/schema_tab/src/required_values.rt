@@ -27,7 +27,7 @@ use schema_rows::{Fields, Matched, RowResult, Schema, SchemaFault, Value};
 use sequences::{NamedValues, Text};
 use std::alloc::{AllocError, Global};
 
-/// S1 or S2: what a child is that is no object of the schemas that may stand there.
+// S1 or S2: what a child is that is no object of the schemas that may stand there.
 fn stranger_fault(alloc: Global, value: &Json, place: &Place) -> SchemaFault
     ensures { result ≢ SchemaFault.Memory → (family : List Schema) → IsForeign family value.now →
         Refuses_reading (child family) place.now value.now result }
@@ -165,7 +165,7 @@ pub fn root_of(
     }
 }
 
-/// The stack of these fields, in memory of its own.
+// The stack of these fields, in memory of its own.
 fn owned_stack(alloc: Global, fields: Fields) -> Result<Owned<Stack>, AllocError>
     requires { HaveKinds rows.stack_rows fields.values }
     ensures values { IfOk result (λ made. (readings.stack_fields made).values ≡ fields.values) }
@@ -246,7 +246,7 @@ fn empty_missing(alloc: Global) -> Result<Missing, AllocError>
     })
 }
 
-/// A media reference that is not null, or the value kept word for word.
+// A media reference that is not null, or the value kept word for word.
 fn reference_of(alloc: Global, value: &Json, found: Matched) -> Result<Media, SchemaFault>
     requires found { MatchOption found (IsForeign families.MEDIA value.now)
         (Gives_fields families.MEDIA value.now) }

@@ -18,7 +18,7 @@ fn is_transition(item: &Item) -> bool
     matches!(item, ItemOf::Transition(_))
 }
 
-/// Whether two transitions stand side by side.
+// Whether two transitions stand side by side.
 fn side_by_side(items: &[Item]) -> bool
     ensures { result ≡ misplaced.side_by_side items.now }
 {
@@ -48,7 +48,7 @@ fn is_negative(offset: &Option<Time>) -> bool
     }
 }
 
-/// Whether a value breaks a rule on transitions.
+// Whether a value breaks a rule on transitions.
 fn value_breaks(schema: Schema, value: &Value) -> bool
     ensures { result ≡ families.breaks schema value.now }
 {
@@ -76,7 +76,7 @@ pub fn breaks(schema: Schema, values: &[Value]) -> bool
     values.iter().any(|value| value_breaks(schema, value))
 }
 
-/// A value of a freeze frame, whose speed is 0.
+// A value of a freeze frame, whose speed is 0.
 fn still_value(value: Value) -> Value
     ensures { result ≡ families.stilled schemas.Freeze value }
 {
@@ -86,7 +86,7 @@ fn still_value(value: Value) -> Value
     }
 }
 
-/// The values of a freeze frame, whose speed is 0.
+// The values of a freeze frame, whose speed is 0.
 fn still_values(alloc: Global, values: Vec<Value>) -> Result<Vec<Value>, AllocError>
     ensures { IfOk result (λ still.
         still.items ≡ map (families.stilled schemas.Freeze) values.items) }

@@ -27,7 +27,7 @@ use sequences::Text;
 use std::alloc::Global;
 use tick_time::{Decimal, Rate, Scalar, Span, Time};
 
-/// The decimal that a numeral spells; none where it is too long.
+// The decimal that a numeral spells; none where it is too long.
 fn decimal_of(numeral: &Text) -> Option<Decimal>
     requires { IsNumeral numeral.now }
     ensures { MatchOption result (IsLong numeral.now) (IsSpelled numeral.now) }
@@ -38,7 +38,7 @@ fn decimal_of(numeral: &Text) -> Option<Decimal>
     }
 }
 
-/// The speed itself, which is known to be one.
+// The speed itself, which is known to be one.
 fn ranged(speed: Scalar) -> Scalar
     ensures same { result ≡ speed }
     ensures range { IsSpeed result }
@@ -46,7 +46,7 @@ fn ranged(speed: Scalar) -> Scalar
     Scalar(speed.0)
 }
 
-/// The speed that a numeral spells; none where it is too long or too fast.
+// The speed that a numeral spells; none where it is too long or too fast.
 fn speed_of(numeral: &Text) -> Option<Scalar>
     requires { IsNumeral numeral.now }
     ensures { MatchOption result (IsNoSpeed numeral.now)
@@ -95,7 +95,7 @@ pub fn flag_of(alloc: Global, row: &Field, value: &Json, place: &Place) -> RowRe
     }
 }
 
-/// The members of an object.
+// The members of an object.
 fn members_in(value: Json) -> Option<Members>
     ensures { MatchOption result ((members : List (List ℕ × Json)) → value ≡ json.Map members →
         ⊥) (λ members. value ≡ json.Map members) }
@@ -187,7 +187,7 @@ pub fn rate_of(alloc: Global, row: &Field, value: &Json, place: &Place) -> RowRe
     }
 }
 
-/// The length and the start of a range of time.
+// The length and the start of a range of time.
 fn range_in(fields: &Fields) -> Option<(Time, Time)>
     ensures { IfSome result (λ range.
         fields.now.values ≡ Value.Time (Some range.0) ∷ (Value.Time (Some range.1) ∷ [])) }
@@ -198,7 +198,7 @@ fn range_in(fields: &Fields) -> Option<(Time, Time)>
     }
 }
 
-/// The rate and the decimal of a time.
+// The rate and the decimal of a time.
 fn rated_in(fields: &Fields) -> Option<(Rate, Decimal)>
     ensures { IfSome result (λ rated.
         fields.now.values ≡ Value.Rate rated.0 ∷ (Value.Numeral rated.1 ∷ [])) }
@@ -209,7 +209,7 @@ fn rated_in(fields: &Fields) -> Option<(Rate, Decimal)>
     }
 }
 
-/// A range of time, from the fields of its object.
+// A range of time, from the fields of its object.
 fn span_from(alloc: Global, fields: &Fields, place: &Place) -> RowResult
     ensures value { IfOk result (λ value. (span : Span)
         × (fields.now.values ≡ Value.Time (Some span.len) ∷ (Value.Time (Some span.start) ∷ []))
@@ -246,7 +246,7 @@ pub fn span_of(alloc: Global, row: &Field, value: &Json, place: &Place, found: M
     }
 }
 
-/// A time, from the fields of its object.
+// A time, from the fields of its object.
 fn time_from(alloc: Global, fields: &Fields, place: &Place) -> RowResult
     ensures value { IfOk result (λ value. (rate : Rate) × (decimal : Decimal) × (time : Time)
         × (fields.now.values ≡ Value.Rate rate ∷ (Value.Numeral decimal ∷ []))

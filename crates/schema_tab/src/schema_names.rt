@@ -25,7 +25,7 @@ pub struct Found<'a> {
     pub version: u32,
 }
 
-/// The parts of a text before and behind its first point; none where it has no point.
+// The parts of a text before and behind its first point; none where it has no point.
 fn around_point(text: &str) -> Option<(&str, &str)>
     ensures { MatchOption result ((i : ℕ) → i < length text.now → slice_index text.now i ≢ 46)
         (λ parts. (text.now ≡ parts.0.now ++ (46 ∷ parts.1.now))
@@ -34,7 +34,7 @@ fn around_point(text: &str) -> Option<(&str, &str)>
     text.split_once('.')
 }
 
-/// Whether each byte is a digit.
+// Whether each byte is a digit.
 fn are_digits(digits: &[u8]) -> bool
     ensures { MatchBool result (AllDigits 10 digits.now) (AllDigits 10 digits.now → ⊥) }
 {
@@ -46,7 +46,7 @@ fn are_digits(digits: &[u8]) -> bool
     true
 }
 
-/// The number of at most 9 digits.
+// The number of at most 9 digits.
 fn number_of(digits: &[u8]) -> u32
     requires digits { AllDigits 10 digits.now }
     requires few { length digits.now ≤ 9 }
@@ -59,7 +59,7 @@ fn number_of(digits: &[u8]) -> u32
     number
 }
 
-/// The name and the version that a text gives: a name without points, a point and 1 to 9 digits.
+// The name and the version that a text gives: a name without points, a point and 1 to 9 digits.
 fn schema_parts(text: &str) -> Option<(&str, u32)>
     ensures { MatchOption result ((name : List ℕ) (version : ℕ) →
         IsSchemaText text.now name version → ⊥)
@@ -116,7 +116,7 @@ pub fn given<'a>(members: &'a Members, name: &str) -> Option<&'a Json>
     }
 }
 
-/// Whether a name is that of a row.
+// Whether a name is that of a row.
 fn has_row(rows: &[Field], name: &str) -> bool
     ensures { result ≡ families.is_row (map row_of rows.now) name.now }
 {
@@ -128,14 +128,14 @@ fn has_row(rows: &[Field], name: &str) -> bool
     false
 }
 
-/// Whether a schema's table has a row of that name.
+// Whether a schema's table has a row of that name.
 fn is_row(schema: Schema, name: &str) -> bool
     ensures { result ≡ families.is_row (rows_of schema) name.now }
 {
     has_row(schema.table(), name)
 }
 
-/// Whether a member is kept beside the rows.
+// Whether a member is kept beside the rows.
 fn is_other(schema: Schema, name: &str) -> bool
     ensures { result
         ≡ not (bytes_eq name.now schema_key || families.is_row (rows_of schema) name.now) }

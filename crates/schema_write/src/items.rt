@@ -33,7 +33,7 @@ pub fn item_json(alloc: Global, item: &Item, family: Family) -> Result<Json, All
     }
 }
 
-/// The children of a composition, in order.
+// The children of a composition, in order.
 #[cycle(item)]
 fn children_json(alloc: Global, children: &Children, family: Family) -> Result<JsonList, AllocError>
     ensures { IfOk result (λ made. made ≡ objects.children_in (style_of family) children.now) }
@@ -54,7 +54,7 @@ pub fn stack_json(alloc: Global, stack: &Stack, family: Family) -> Result<Json, 
     stack_of(alloc, stack, children, family)
 }
 
-/// A stack whose children are these.
+// A stack whose children are these.
 fn stack_of(
     alloc: Global,
     stack: &Stack,
@@ -78,7 +78,7 @@ fn stack_of(
     written(alloc, Schema::Stack, values, &stack.rest)
 }
 
-/// A track whose children are these.
+// A track whose children are these.
 fn track_of(
     alloc: Global,
     track: &Track,

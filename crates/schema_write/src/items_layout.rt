@@ -41,7 +41,7 @@ pub fn put_item<W: Out>(
     }
 }
 
-/// Hands over the children of a composition.
+// Hands over the children of a composition.
 #[cycle(item)]
 fn put_children<W: Out>(
     buffer: &mut OutBuffer,

@@ -9,7 +9,7 @@ use sequences::Text;
 use std::alloc::{AllocError, Global};
 use tick_time::{Rate, Scalar, Time};
 
-/// A numeral of these characters.
+// A numeral of these characters.
 fn numeral(alloc: Global, characters: &str) -> Result<Json, AllocError>
     ensures { IfOk result (λ json. json ≡ Num characters.now) }
 {

@@ -52,7 +52,7 @@ pub fn json_of_old(alloc: Global, object: &Object) -> Result<Json, FamilyFault>
     }
 }
 
-/// The object in JSON in a family.
+// The object in JSON in a family.
 #[cycle(object)]
 fn object_json(alloc: Global, object: &Object, family: Family) -> Result<Json, AllocError>
     ensures { IfOk result (λ json. json ≡ objects.object_in (style_of family) object.now) }
@@ -78,7 +78,7 @@ fn collection_json(
     written(alloc, Schema::Collection, values, &collection.rest)
 }
 
-/// The objects of a collection, in order.
+// The objects of a collection, in order.
 #[cycle(object)]
 fn objects_json(alloc: Global, inside: &Objects, family: Family) -> Result<JsonList, AllocError>
     ensures { IfOk result (λ made.

@@ -22,14 +22,14 @@ pub(crate) enum Found {
     Memory,
 }
 
-/// Whether a key is the one that the older family knows.
+// Whether a key is the one that the older family knows.
 fn is_default(key: &str) -> bool
     ensures { result ≡ forms.is_default key.now }
 {
     key == "DEFAULT_MEDIA"
 }
 
-/// Whether there is exactly one reference, under that key.
+// Whether there is exactly one reference, under that key.
 fn is_one_default(media: &MediaMap) -> bool
     ensures { result ≡ forms.is_one_default media.now }
 {
@@ -39,7 +39,7 @@ fn is_one_default(media: &MediaMap) -> bool
     }
 }
 
-/// Whether there is a member of that name.
+// Whether there is a member of that name.
 fn has_member(members: &Members, name: &str) -> bool
     ensures { result ≡ forms.has_member name.now members.now }
 {
@@ -51,7 +51,7 @@ fn has_member(members: &Members, name: &str) -> bool
     false
 }
 
-/// Whether a known marker has another member `range`: one that its table has no row for.
+// Whether a known marker has another member `range`: one that its table has no row for.
 fn has_range(marker: &Marker) -> bool
     ensures { result ≡ forms.has_range marker.now }
 {
@@ -61,7 +61,7 @@ fn has_range(marker: &Marker) -> bool
     }
 }
 
-/// Whether one of the markers has such a member.
+// Whether one of the markers has such a member.
 fn have_range(markers: &[Marker]) -> bool
     ensures { result ≡ list_any forms.has_range markers.now }
 {
@@ -73,7 +73,7 @@ fn have_range(markers: &[Marker]) -> bool
     false
 }
 
-/// What stands in the way of the markers of an item.
+// What stands in the way of the markers of an item.
 fn markers_fault(markers: &Markers) -> Option<OldFault>
     ensures { result ≡ forms.markers_fault markers.now }
 {
@@ -84,15 +84,15 @@ fn markers_fault(markers: &Markers) -> Option<OldFault>
     }
 }
 
-/// Whether the clip has exactly the one key.
+// Whether the clip has exactly the one key.
 fn has_one_key(clip: &Clip) -> bool
     ensures { result ≡ forms.has_one_key clip.now }
 {
     is_one_default(&clip.media_references) && is_default(clip.active_media_reference_key.as_str())
 }
 
-/// Whether another member of the clip is named `media_reference`, or one of its known markers
-/// `range`.
+// Whether another member of the clip is named `media_reference`, or one of its known markers
+// `range`.
 fn has_member_in_the_way(clip: &Clip) -> bool
     ensures { result ≡ (forms.has_member (codes "media_reference") clip.now.rest
         || list_any forms.has_range clip.now.markers) }
@@ -100,7 +100,7 @@ fn has_member_in_the_way(clip: &Clip) -> bool
     has_member(&clip.rest, "media_reference") || have_range(clip.markers.as_slice())
 }
 
-/// What stands in the way of a clip.
+// What stands in the way of a clip.
 fn clip_fault(clip: &Clip) -> Option<OldFault>
     ensures { result ≡ forms.clip_fault clip.now }
 {
@@ -113,7 +113,7 @@ fn clip_fault(clip: &Clip) -> Option<OldFault>
     None
 }
 
-/// What stands in the way of an item, whatever those below it have.
+// What stands in the way of an item, whatever those below it have.
 fn item_fault(item: &Item) -> Option<OldFault>
     ensures { result ≡ forms.old_fault_of item.now }
 {
@@ -126,7 +126,7 @@ fn item_fault(item: &Item) -> Option<OldFault>
     }
 }
 
-/// What was found, seen from one level up.
+// What was found, seen from one level up.
 fn under(index: usize, found: Found) -> Found
     ensures { IsUnder index found result }
 {
@@ -142,9 +142,9 @@ fn under(index: usize, found: Found) -> Found
     }
 }
 
+// Looks for the first item that has no form in the older family, among this one and those below
+// it.
 #[tactic(auto, using(crate::proofs::OldLemmas::old_with, crate::proofs::OldLemmas::old_alone, crate::proofs::OldLemmas::found_with, crate::proofs::OldLemmas::found_here))]
-/// Looks for the first item that has no form in the older family, among this one and those below
-/// it.
 #[cycle(walk)]
 fn walk_item(alloc: Global, item: &Item) -> Result<(), Found>
     ensures ok { OnOk result (HasOldItem item.now) }
@@ -162,8 +162,8 @@ fn walk_item(alloc: Global, item: &Item) -> Result<(), Found>
     }
 }
 
+// Looks for it among children and those below them.
 #[tactic(auto, using(crate::proofs::OldLemmas::old_next, crate::proofs::OldLemmas::old_all, crate::proofs::OldLemmas::found_under))]
-/// Looks for it among children and those below them.
 #[cycle(walk)]
 fn walk_children(alloc: Global, children: &Children) -> Result<(), Found>
     ensures ok { OnOk result (HasOldItems children.now) }
@@ -178,8 +178,8 @@ fn walk_children(alloc: Global, children: &Children) -> Result<(), Found>
     Ok(())
 }
 
+// Looks for it in a timeline's root stack.
 #[tactic(auto, using(crate::proofs::OldLemmas::old_with, crate::proofs::OldLemmas::found_with, crate::proofs::OldLemmas::found_here))]
-/// Looks for it in a timeline's root stack.
 fn walk_stack(alloc: Global, stack: &Stack) -> Result<(), Found>
     ensures ok { OnOk result (HasOldItem (items.Stack stack.now)) }
     ensures found { IfErr result (IsFoundAt (items.Stack stack.now)) }
@@ -190,8 +190,8 @@ fn walk_stack(alloc: Global, stack: &Stack) -> Result<(), Found>
     }
 }
 
+// Looks for it in an object.
 #[tactic(auto, using(crate::proofs::OldLemmas::old_timeline, crate::proofs::OldLemmas::old_item, crate::proofs::OldLemmas::old_collection, crate::proofs::OldLemmas::found_timeline, crate::proofs::OldLemmas::found_item, crate::proofs::OldLemmas::found_collection))]
-/// Looks for it in an object.
 #[cycle(walk_object)]
 fn walk_object(alloc: Global, object: &Object) -> Result<(), Found>
     ensures ok { OnOk result (forms.HasOldForm object.now) }
@@ -204,8 +204,8 @@ fn walk_object(alloc: Global, object: &Object) -> Result<(), Found>
     }
 }
 
+// Looks for it in the objects of a collection.
 #[tactic(auto, using(crate::proofs::OldLemmas::old_next, crate::proofs::OldLemmas::old_all, crate::proofs::OldLemmas::found_under))]
-/// Looks for it in the objects of a collection.
 #[cycle(walk_object)]
 fn walk_objects(alloc: Global, objects: &[Object]) -> Result<(), Found>
     ensures ok { OnOk result (HasOldObjects objects.now) }
@@ -220,7 +220,7 @@ fn walk_objects(alloc: Global, objects: &[Object]) -> Result<(), Found>
     Ok(())
 }
 
-/// The place of these indexes; `None` where memory runs out.
+// The place of these indexes; `None` where memory runs out.
 fn place_of(alloc: Global, way: &[u32]) -> Option<Place>
     ensures { IfSome result (λ place. place ≡ way.now) }
 {
@@ -234,7 +234,7 @@ fn place_of(alloc: Global, way: &[u32]) -> Option<Place>
     Some(place)
 }
 
-/// The fault of an item as that of its object.
+// The fault of an item as that of its object.
 fn fault_at(place: Place, fault: OldFault) -> FamilyFault
     ensures { result ≡ forms.fault_at place fault }
 {

@@ -154,7 +154,7 @@ pub fn put_old_others<W: Out>(
     }
 }
 
-/// Hands over a member where neither an older schema nor the newer one has a row for it.
+// Hands over a member where neither an older schema nor the newer one has a row for it.
 fn put_old_other<W: Out>(
     buffer: &mut OutBuffer,
     out: &mut W,
@@ -179,7 +179,7 @@ fn put_old_other<W: Out>(
     );
 }
 
-/// Hands over a member where the table has no row for it.
+// Hands over a member where the table has no row for it.
 fn put_other<W: Out>(
     buffer: &mut OutBuffer,
     out: &mut W,

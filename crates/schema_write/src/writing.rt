@@ -25,7 +25,7 @@ pub fn string(alloc: Global, text: &Text) -> Result<Json, AllocError>
     Ok(Json::Str(Text::of(alloc, text.as_str())?))
 }
 
-/// An object that is kept as it is.
+// An object that is kept as it is.
 fn object(alloc: Global, members: &Members) -> Result<Json, AllocError>
     ensures { IfOk result (λ json. json ≡ Map members.now) }
 {
@@ -103,7 +103,7 @@ pub fn written_old(
     Ok(Json::Map(NamedValues::of(pairs)))
 }
 
-/// Adds a value for each row of a table.
+// Adds a value for each row of a table.
 fn put_rows(
     alloc: Global,
     pairs: &mut Vec<(Text, Json)>,
@@ -122,7 +122,7 @@ fn put_rows(
     Ok(())
 }
 
-/// The name of the row at an index.
+// The name of the row at an index.
 fn name_at(table: &[Field], index: usize) -> &'static str
     requires { index < length table.now }
     ensures { option_map name_of (slice_get table.now index) ≡ Some result.now }
@@ -133,7 +133,7 @@ fn name_at(table: &[Field], index: usize) -> &'static str
     }
 }
 
-/// Adds the members that a table has no row for.
+// Adds the members that a table has no row for.
 fn put_others(
     alloc: Global,
     pairs: &mut Vec<(Text, Json)>,
@@ -154,7 +154,7 @@ fn put_others(
     Ok(())
 }
 
-/// Adds the members that a table has no row for, without those of this name.
+// Adds the members that a table has no row for, without those of this name.
 fn put_old_others(
     alloc: Global,
     pairs: &mut Vec<(Text, Json)>,
@@ -176,7 +176,7 @@ fn put_old_others(
     Ok(())
 }
 
-/// Whether a member of that name is none of the rows, nor the own row of an older schema.
+// Whether a member of that name is none of the rows, nor the own row of an older schema.
 fn is_other(table: &[Field], own: &str, name: &str) -> bool
     ensures { result ≡ written_last own.now (map row_of table.now) name.now }
 {

@@ -47,7 +47,7 @@ pub(crate) fn merge<T: Drop>(
     placed(alloc, pairs, places.as_slice(), count)
 }
 
-/// Whether no name stands twice, by comparing each with those before it.
+// Whether no name stands twice, by comparing each with those before it.
 fn are_distinct<T>(pairs: &[(Text, T)]) -> bool
     ensures { IsTrue result → merged pairs.now ≡ pairs.now }
 {
@@ -59,7 +59,7 @@ fn are_distinct<T>(pairs: &[(Text, T)]) -> bool
     true
 }
 
-/// Whether the hashes of the names are distinct, and so the names too.
+// Whether the hashes of the names are distinct, and so the names too.
 fn have_distinct_hashes<T>(alloc: Global, pairs: &[(Text, T)]) -> Result<bool, AllocError>
     ensures { IfOk result (λ distinct. IsTrue distinct → merged pairs.now ≡ pairs.now) }
 {
@@ -71,7 +71,7 @@ fn have_distinct_hashes<T>(alloc: Global, pairs: &[(Text, T)]) -> Result<bool, A
     Ok(is_rising(hashes.as_slice()))
 }
 
-/// A hash of the bytes.
+// A hash of the bytes.
 fn hash_of(bytes: &[u8]) -> u64
     ensures { result ≡ hash_of bytes.now }
 {
@@ -83,7 +83,7 @@ fn hash_of(bytes: &[u8]) -> u64
     hash
 }
 
-/// Whether each number is above the one before it.
+// Whether each number is above the one before it.
 fn is_rising(numbers: &[u64]) -> bool
     ensures { IsTrue result → IsStrictlyIncreasing numbers.now }
 {
@@ -97,7 +97,7 @@ fn is_rising(numbers: &[u64]) -> bool
     true
 }
 
-/// The place of each name among the distinct names, and how many of these there are.
+// The place of each name among the distinct names, and how many of these there are.
 fn places_of<T>(alloc: Global, pairs: &[(Text, T)]) -> Result<(Vec<usize>, usize), AllocError>
     ensures places { IfOk result (λ made. made.0.items ≡ at.places_in [] (names_of pairs.now)) }
     ensures count { IfOk result (λ made. made.1 ≡ length (at.add_names [] (names_of pairs.now))) }
@@ -111,7 +111,7 @@ fn places_of<T>(alloc: Global, pairs: &[(Text, T)]) -> Result<(Vec<usize>, usize
     Ok((found, known.len()))
 }
 
-/// The place of a name among those that are known by then, where a new one is added.
+// The place of a name among those that are known by then, where a new one is added.
 fn place_in<'a>(known: &mut BTreeMap<&'a str, usize>, name: &'a str) -> Result<usize, AllocError>
     ensures { IfOk result (λ place. (names : List (List ℕ)) → Knows known.old names
         → (place ≡ at.place_of name.now names) × Knows known.new (at.add_name name.now names)) }
@@ -148,7 +148,7 @@ pub(crate) fn put_at<T: Drop>(
     Ok(())
 }
 
-/// The pairs, each put in its place.
+// The pairs, each put in its place.
 fn placed<T: Drop>(
     alloc: Global,
     pairs: Vec<(Text, T)>,

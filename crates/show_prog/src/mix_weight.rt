@@ -11,8 +11,8 @@ pub(crate) struct Share {
     pub(crate) den: i128,
 }
 
-#[tactic(auto, using(crate::proofs::Euclid::divisor_next, crate::proofs::Euclid::divisor_done, crate::proofs::Euclid::divisor_some))]
 // The greatest common divisor.
+#[tactic(auto, using(crate::proofs::Euclid::divisor_next, crate::proofs::Euclid::divisor_done, crate::proofs::Euclid::divisor_some))]
 fn divisor(a: u128, b: u128) -> u128
     ensures value { result ≡ looks.divisor a b }
 {

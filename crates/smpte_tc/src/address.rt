@@ -16,7 +16,7 @@ pub struct TimeAddress {
     pub frames: u8,
 }
 
-/// The value of a decimal digit.
+// The value of a decimal digit.
 fn digit(byte: u8) -> Option<u8>
     ensures { MatchOption result (IsNoDigit byte) (λ value. IsDigitOf value byte) }
 {
@@ -27,7 +27,7 @@ fn digit(byte: u8) -> Option<u8>
     }
 }
 
-/// The number of two decimal digits.
+// The number of two decimal digits.
 fn pair(first: u8, second: u8) -> Option<u8>
     ensures { MatchOption result (IsNoPair first second) (λ number. IsPairOf number first second) }
 {
@@ -36,9 +36,9 @@ fn pair(first: u8, second: u8) -> Option<u8>
     Some(high * 10 + low)
 }
 
-#[tactic(auto, using(crate::proofs::Spellings::spelling_from))]
 /// The time address that eleven bytes spell, with this mark before the frames: two digits each, and
 /// `:` between.
+#[tactic(auto, using(crate::proofs::Spellings::spelling_from))]
 pub fn spelling(label: &[u8], mark: u8) -> Option<TimeAddress>
     ensures { MatchOption result (IsNoSpelling mark label.now) (λ a. IsSpelling mark a label.now) }
 {

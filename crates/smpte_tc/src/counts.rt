@@ -66,8 +66,8 @@ impl Mode {
         }
     }
 
-    /// The minute of a frame number, and its frame there: of ten minutes the first is whole, and of
-    /// the others drop-frame leaves out the first numbers.
+    // The minute of a frame number, and its frame there: of ten minutes the first is whole, and of
+    // the others drop-frame leaves out the first numbers.
     fn minute_of(&self, n: u32) -> MinutePlace
         requires fair { IsMode self.now }
         requires of_day { n < length (counted_of self.now) }

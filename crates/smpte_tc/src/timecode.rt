@@ -62,7 +62,7 @@ pub fn means_drop(label: &[u8], drop: bool) -> bool
     drop || (label.len() > 8 && label[8] == b';')
 }
 
-/// The time address that bytes of a label's form say.
+// The time address that bytes of a label's form say.
 fn form(label: &[u8]) -> Option<TimeAddress>
     ensures { MatchOption result (IsUnsaid label.now) (λ a. Says label.now a) }
 {
@@ -74,7 +74,7 @@ fn form(label: &[u8]) -> Option<TimeAddress>
 }
 
 impl Mode {
-    /// The frame number that a label names, or the first refusal that holds.
+    // The frame number that a label names, or the first refusal that holds.
     fn read(&self, label: &[u8]) -> Result<i64, TcFault>
         requires { IsMode self.now }
         ensures { Reads self.now label.now result }
@@ -91,7 +91,7 @@ impl Mode {
         Ok(i64::from(self.number_of(&address)))
     }
 
-    /// The label of a frame number, or that it is not of the day.
+    // The label of a frame number, or that it is not of the day.
     fn label(&self, n: i64) -> Result<[u8; 11], TcFault>
         requires { IsMode self.now }
         ensures { Writes self.now n result }

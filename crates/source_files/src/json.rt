@@ -20,9 +20,9 @@ use std::mem;
 /// How many bytes a file may have.
 const MOST: usize = MOST_BYTES as usize;
 
-#[tactic(auto, using(crate::proofs::Taking::same_at_first))]
 /// The value of the JSON text that is left of the file in hand. Each piece is judged before the
 /// next is read.
+#[tactic(auto, using(crate::proofs::Taking::same_at_first))]
 pub fn read_json<F: Files>(alloc: Global, files: &mut F) -> Result<Json, ReadFault>
     ensures told { Tells (ReadsHand IsJson RefusesJson IsCalmJson result) (F.known files.old)
         (F.known files.new) }

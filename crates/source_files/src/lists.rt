@@ -25,8 +25,8 @@ use tick_time::Rate;
 /// How many bytes a file may have.
 const MOST: usize = MOST_BYTES as usize;
 
-#[tactic(auto, using(crate::proofs::Taking::same_at_first))]
 /// The list that is left of the file in hand. Each piece is judged before the next is read.
+#[tactic(auto, using(crate::proofs::Taking::same_at_first))]
 pub fn read_list<F: Files>(alloc: Global, rate: Rate, files: &mut F) -> Result<EventList, ReadFault>
     ensures told { Tells (ReadsHand (IsList rate) (RefusesList rate) (IsCalmList rate) result)
         (F.known files.old) (F.known files.new) }
@@ -56,9 +56,9 @@ pub fn read_list<F: Files>(alloc: Global, rate: Rate, files: &mut F) -> Result<E
     Err(ReadFault::Refused(list_refusal(EdlFault::Large)))
 }
 
-#[tactic(auto, using(crate::proofs::Taking::same_at_first))]
 /// The list that is left of the file in hand, and its notes. Each piece is judged before the next is
 /// read, and its notes are kept, not its bytes.
+#[tactic(auto, using(crate::proofs::Taking::same_at_first))]
 pub fn read_noted_list<F: Files>(
     alloc: Global,
     rate: Rate,

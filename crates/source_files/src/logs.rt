@@ -19,8 +19,8 @@ use std::alloc::Global;
 /// How many bytes a file may have.
 const MOST: usize = MOST_BYTES as usize;
 
-#[tactic(auto, using(crate::proofs::Taking::same_at_first))]
 /// The media list of the log that is left of the file in hand. It is judged when all of it is read.
+#[tactic(auto, using(crate::proofs::Taking::same_at_first))]
 pub fn read_log<F: Files>(alloc: Global, files: &mut F) -> Result<MediaList, ReadFault>
     ensures told { Tells (ReadsHand IsLog RefusesLog IsCalmLog result)
         (F.known files.old) (F.known files.new) }

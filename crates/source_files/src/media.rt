@@ -18,8 +18,8 @@ use std::mem;
 /// How many bytes a file may have.
 const MOST: usize = MOST_BYTES as usize;
 
-#[tactic(auto, using(crate::proofs::Taking::same_at_first))]
 /// The media list that is left of the file in hand. It is judged when all of it was read.
+#[tactic(auto, using(crate::proofs::Taking::same_at_first))]
 pub fn read_media<F: Files>(alloc: Global, files: &mut F) -> Result<MediaList, ReadFault>
     ensures told { Tells (ReadsHand IsMediaList RefusesMedia IsCalmMedia result)
         (F.known files.old) (F.known files.new) }

@@ -16,9 +16,9 @@ use std::alloc::{AllocError, Global};
 /// How many bytes a file may have.
 const MOST: usize = MOST_BYTES as usize;
 
-#[tactic(auto, using(crate::proofs::Taking::same_at_first))]
 /// The commands of the script that is left of the file in hand. It is judged when all of it was
 /// read.
+#[tactic(auto, using(crate::proofs::Taking::same_at_first))]
 pub fn read_commands<F: Files>(alloc: Global, files: &mut F) -> Result<Vec<Command>, ReadFault>
     ensures told { Tells (ReadsHand IsCommands RefusesScript IsCalmScript result)
         (F.known files.old) (F.known files.new) }

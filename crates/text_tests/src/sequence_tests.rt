@@ -177,7 +177,7 @@ fn numbered(alloc: Global, number: usize) -> Result<Text, AllocError> {
     Text::from_string(alloc, format!(in alloc; "name {number}")?)
 }
 
-/// That many names, and then each of them again, where `twice` says so.
+// That many names, and then each of them again, where `twice` says so.
 fn many(alloc: Global, twice: bool) -> Result<NamedValues<usize>, AllocError> {
     let mut pairs = Vec::new(alloc);
     for index in 0..MANY {

@@ -74,7 +74,7 @@ fn others_are_kept(rt: HostRuntime) {
     }
 }
 
-/// A composition in compositions that begin in this way, 60 deep.
+// A composition in compositions that begin in this way, 60 deep.
 fn deep(alloc: Global, front: &str) -> Result<String, AllocError> {
     let mut text = String::new(alloc);
     for _ in 0..60 {

@@ -50,7 +50,7 @@ pub fn nested(alloc: Global, depth: u32) -> Result<Json, AllocError> {
     Ok(value)
 }
 
-/// What is sent of a value.
+// What is sent of a value.
 fn written(rt: &impl Abort, alloc: Global, value: &Json) -> MemOut {
     let mut out = MemOut::new(alloc, 100_000).expect(rt, "memory");
     write_json(value, &mut out).expect(rt, "all sent");

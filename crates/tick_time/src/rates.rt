@@ -135,7 +135,7 @@ impl Rate {
         }
     }
 
-    // The larger of two rates.
+    /// The larger of two rates.
     pub(crate) fn larger(self, other: Rate) -> Rate
         ensures { result ≡ larger self other }
     {
@@ -155,7 +155,7 @@ fn unit_of(num: i64, den: i64) -> i128
     705_600_000_000 * i128::from(den) / i128::from(num)
 }
 
-// The finest rate, whose unit is one tick.
+/// The finest rate, whose unit is one tick.
 pub(crate) fn finest_rate() -> Rate
     ensures num { result.num ≡ pos per_millionth }
     ensures den { result.den ≡ pos 1 }

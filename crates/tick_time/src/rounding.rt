@@ -50,7 +50,7 @@ fn rounded_size(digits: u128, exp: i128) -> Option<u128>
     }
 }
 
-// The power of ten of the millionths, where it multiplies.
+/// The power of ten of the millionths, where it multiplies.
 pub(crate) fn raised_shift(exp: i128) -> u128
     requires low { (pos 0 -ℤ pos 6) ≤ℤ exp }
     requires high { exp ≤ℤ pos 147573952589676412928 }
@@ -68,7 +68,7 @@ fn lowered_shift(exp: i128) -> u128
     (-6 - exp) as u128
 }
 
-// Digits times a power of ten.
+/// Digits times a power of ten.
 pub(crate) fn raised_size(digits: u128, shift: u128) -> Option<u128>
     ensures { MatchOption result (1000000000000000000000000 < digits * 10 ^ shift)
         (λ n. (n ≡ digits * 10 ^ shift) × (n ≤ 1000000000000000000000000)) }

@@ -33,7 +33,7 @@ impl Tally {
         }
     }
 
-    /// One more digit; `None` where more than 38 would be significant.
+    // One more digit; `None` where more than 38 would be significant.
     fn push(self, digit: u8) -> Option<Tally>
         requires low { 48 ≤ digit }
         requires high { digit ≤ 57 }
@@ -62,7 +62,7 @@ impl Tally {
         }
     }
 
-    /// More digits; `None` where more than 38 would be significant.
+    // More digits; `None` where more than 38 would be significant.
     fn push_all(self, digits: &[u8]) -> Option<Tally>
         requires digits { AllDigits 10 digits.now }
         requires few { self.zeros < 2 ^ 90 }

@@ -37,7 +37,7 @@ const NONE: [(&str, TcFault); 15] = [
     ("-1:00:00:00", TcFault::Form),
 ];
 
-/// That bytes read as a number, or as this fault.
+// That bytes read as a number, or as this fault.
 fn reads_as(
     rt: &impl Abort,
     text: &[u8],
@@ -48,7 +48,7 @@ fn reads_as(
     assert!(rt; read(text, rate, drop_frame) == answer);
 }
 
-/// That a number has this label, or this fault.
+// That a number has this label, or this fault.
 fn label_is(
     rt: &impl Abort,
     number: i64,
@@ -59,7 +59,7 @@ fn label_is(
     assert!(rt; label(number, rate, drop_frame) == answer);
 }
 
-/// That a drop-frame label reads as it should, and that one that does is the number's label.
+// That a drop-frame label reads as it should, and that one that does is the number's label.
 fn drop_label_is(rt: &impl Abort, rate: Rate, text: &[u8; 11], answer: Result<i64, TcFault>) {
     reads_as(rt, text.as_slice(), rate, true, answer);
     if let Ok(number) = answer {
@@ -86,7 +86,7 @@ fn no_labels(rt: HostRuntime) {
     }
 }
 
-/// Each second of a day, at a frame that moves on with it.
+// Each second of a day, at a frame that moves on with it.
 #[test]
 #[tactic(auto, unfolding(tick_time::specs::Rates::is_rate))]
 fn each_second_of_a_day(rt: HostRuntime) {
@@ -100,7 +100,7 @@ fn each_second_of_a_day(rt: HostRuntime) {
     }
 }
 
-/// The rate of 30000/1001 frames a second.
+// The rate of 30000/1001 frames a second.
 fn rate_30_drop() -> Rate {
     Rate {
         num: 30_000,
@@ -108,7 +108,7 @@ fn rate_30_drop() -> Rate {
     }
 }
 
-/// The rate of 60000/1001 frames a second.
+// The rate of 60000/1001 frames a second.
 fn rate_60_drop() -> Rate {
     Rate {
         num: 60_000,
@@ -116,7 +116,7 @@ fn rate_60_drop() -> Rate {
     }
 }
 
-/// The rate of 24000/1001 frames a second.
+// The rate of 24000/1001 frames a second.
 fn rate_24_slow() -> Rate {
     Rate {
         num: 24_000,
@@ -124,7 +124,7 @@ fn rate_24_slow() -> Rate {
     }
 }
 
-/// A whole rate.
+// A whole rate.
 fn whole_rate(count: i64) -> Rate
     requires low { pos 1 ≤ℤ count }
     requires high { count ≤ℤ pos 120 }
@@ -157,12 +157,12 @@ const ALIKE_30: [(&[u8; 11], bool); 3] = [
     (b"00:01:00:00", false),
 ];
 
-/// That bytes are the label of this frame, or of none.
+// That bytes are the label of this frame, or of none.
 fn frame_is(rt: &impl Abort, text: &[u8], rate: Rate, frame: Option<u32>) {
     assert!(rt; label_frame(text, rate, false) == frame);
 }
 
-/// Numbers and their labels, with and without drop-frame.
+// Numbers and their labels, with and without drop-frame.
 fn numbers_at_30(rt: &impl Abort, rate: Rate) {
     label_is(rt, 1_800, rate, false, Ok(*b"00:01:00:00"));
     label_is(rt, 2_589_408, rate, true, Err(TcFault::Day));
@@ -204,8 +204,8 @@ fn drop_frame_at_60(rt: HostRuntime) {
     label_is(&rt, 5_178_816, rate, true, Err(TcFault::Day));
 }
 
-/// The first number of a minute, with drop-frame at 30000/1001 or twice that: 17 982 or 35 964
-/// numbers in ten minutes, 1 800 or 3 600 in the first.
+// The first number of a minute, with drop-frame at 30000/1001 or twice that: 17 982 or 35 964
+// numbers in ten minutes, 1 800 or 3 600 in the first.
 fn first_number(tens: u32, minute: u32, twice: u32) -> u32
     requires tens { tens < 144 }
     requires minute { minute < 10 }
@@ -219,7 +219,7 @@ fn first_number(tens: u32, minute: u32, twice: u32) -> u32
     twice * (tens * 17_982 + before)
 }
 
-/// That the first label of a minute has its last digit, and reads as the number again.
+// That the first label of a minute has its last digit, and reads as the number again.
 fn begins_minute(rt: &impl Abort, number: i64, rate: Rate, digit: u8, left_out: u8) {
     match label(number, rate, true) {
         Ok(text) => {
@@ -248,7 +248,7 @@ fn each_minute_of_a_day(rt: HostRuntime) {
     }
 }
 
-/// The last label of a day and the count of the day, at a rate without drop-frame.
+// The last label of a day and the count of the day, at a rate without drop-frame.
 fn first_and_last(rt: &impl Abort, rate: Rate, last: &[u8; 11], count: i64)
     requires low { pos 1 ≤ℤ count }
     requires high { count ≤ℤ pos 10000000 }

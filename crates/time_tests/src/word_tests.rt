@@ -245,7 +245,7 @@ fn is_refused_with_empty_word(rt: &impl Abort, alloc: Global, line: &str) {
     assert!(rt; refused, "{line}");
 }
 
-// That a line asks for nothing.
+/// That a line asks for nothing.
 pub(crate) fn is_refused(rt: &impl Abort, alloc: Global, line: &str) {
     let refused = asks_for_nothing(alloc, line).expect(rt, "memory");
     assert!(rt; refused, "{line}");

@@ -33,7 +33,7 @@ impl Model for Log {
     ghost view = { history_of };
 }
 
-/// Adds a patch where there is room for one.
+// Adds a patch where there is room for one.
 fn keep(patches: &mut Vec<Patch>, patch: Patch)
     requires { vec_len patches.old < vec_capacity patches.old }
     ensures items { patches.new.items ≡ patches.old.items ++ patch ∷ [] }
