@@ -33,7 +33,7 @@ use Rattle.otio_tools.specs.Written.{timeline_text}
 use Rattle.otio_tools.specs.declared.Desk.{Desk}
 use Rattle.otio_tools.proofs.Formats.{bare_json}
 use Rattle.otio_tools.proofs.OneText.{same_json}
-use Rattle.otio_tools.proofs.Planning.{media_is, media_suits}
+use Rattle.otio_tools.proofs.PlanLemmas.{media_is, media_suits}
 
 -- what is read as a script is one
 script_suits : (held : Content) → Suits kinds.Script held

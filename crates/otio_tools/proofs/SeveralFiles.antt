@@ -43,7 +43,7 @@ use Rattle.flat_stack.specs.declared.step_faults.ToolFault.{ToolFault}
 use Rattle.flat_stack.specs.declared.step_faults.ToolFault.TheVariants as tool
 use Rattle.otio_model.specs.declared.objects.Object.{Timeline as ObjectOfTimeline}
 use Rattle.command_words.specs.declared.tools.ToolAsked.{ToolAsked}
-use Rattle.otio_tools.proofs.Planning.{held_planned, media_suits, stop_planned}
+use Rattle.otio_tools.proofs.PlanLemmas.{held_planned, media_suits, stop_planned}
 use Rattle.otio_tools.specs.declared.planning.Planned.{Planned}
 use Rattle.otio_tools.specs.declared.planning.Planned.TheVariants.{Events, Noted, Value, Root, OldRoot, Rows, Edited, Listed, Text, Media}
 

@@ -1,4 +1,4 @@
-use Rattle.otio_tools.proofs.Planning.{timeline_is}
+use Rattle.otio_tools.proofs.PlanLemmas.{timeline_is}
 use Rattle.otio_tools.proofs.command.write_edited.Goals as goal
 
 pub returns-in-Ok-clause-told : goal.returns-in-Ok-clause-told

@@ -1,4 +1,4 @@
-use Rattle.otio_tools.proofs.Planning.{old_object_is}
+use Rattle.otio_tools.proofs.PlanLemmas.{old_object_is}
 use Rattle.otio_tools.proofs.command.write_old_root.Goals as goal
 
 pub returns-in-Ok-clause-told : goal.returns-in-Ok-clause-told

@@ -1,4 +1,4 @@
-use Rattle.otio_tools.proofs.Planning.{object_is}
+use Rattle.otio_tools.proofs.PlanLemmas.{object_is}
 use Rattle.otio_tools.proofs.command.write_root.Goals as goal
 
 pub returns-in-Ok-clause-told : goal.returns-in-Ok-clause-told

@@ -1,7 +1,7 @@
 use Rattle.std.proofs.Common.{Ok}
 use Rattle.edl_law.proofs.CalmTracks.{timeline_calm}
 use Rattle.otio_tools.proofs.CalmTimelines.{conformed_writable}
-use Rattle.otio_tools.proofs.Planning.{few_conformed}
+use Rattle.otio_tools.proofs.PlanLemmas.{few_conformed}
 use Rattle.otio_tools.proofs.edit_command.timeline_of_list.Goals as goal
 
 pub returns-in-Ok-clause-calm : goal.returns-in-Ok-clause-calm

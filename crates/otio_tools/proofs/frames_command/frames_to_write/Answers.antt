@@ -1,4 +1,4 @@
-use Rattle.otio_tools.proofs.Planning.{unsound_frames}
+use Rattle.otio_tools.proofs.PlanLemmas.{unsound_frames}
 use Rattle.otio_tools.proofs.frames_command.frames_to_write.Goals as goal
 
 pub returns-in-Err-clause-owed : goal.returns-in-Err-clause-owed

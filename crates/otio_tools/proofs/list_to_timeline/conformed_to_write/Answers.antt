@@ -1,6 +1,6 @@
 use Rattle.otio_model.specs.declared.objects.Object.{Timeline as ObjectOfTimeline}
 use Rattle.otio_tools.specs.Objects.{AnswersObject}
-use Rattle.otio_tools.proofs.Planning.{of_conformed, not_conformed_as}
+use Rattle.otio_tools.proofs.PlanLemmas.{of_conformed, not_conformed_as}
 use Rattle.otio_tools.proofs.list_to_timeline.conformed_to_write.Goals as goal
 
 pub returns-in-Ok-clause-owed : goal.returns-in-Ok-clause-owed

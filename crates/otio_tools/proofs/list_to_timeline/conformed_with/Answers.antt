@@ -1,4 +1,4 @@
-use Rattle.otio_tools.proofs.Planning.{conformed_to, few_conformed}
+use Rattle.otio_tools.proofs.PlanLemmas.{conformed_to, few_conformed}
 use Rattle.otio_tools.proofs.list_to_timeline.conformed_with.Goals as goal
 
 pub returns-clause-timeline : goal.returns-clause-timeline

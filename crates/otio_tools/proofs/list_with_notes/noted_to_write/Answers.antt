@@ -4,7 +4,7 @@ use Rattle.otio_model.specs.declared.timelines.Timeline.{Timeline}
 use Rattle.otio_model.specs.declared.objects.Object.{Timeline as ObjectOfTimeline}
 use Rattle.otio_tools.specs.Objects.{AnswersObject}
 use Rattle.otio_tools.specs.Written.{AnswersNoted}
-use Rattle.otio_tools.proofs.Planning.{of_conformed, of_noted, not_conformed_as}
+use Rattle.otio_tools.proofs.PlanLemmas.{of_conformed, of_noted, not_conformed_as}
 use Rattle.otio_tools.proofs.list_with_notes.noted_to_write.Goals as goal
 
 pub returns-in-Ok-noted-clause-owed : goal.returns-in-Ok-noted-clause-owed

@@ -3,7 +3,7 @@ use Rattle.source_files.specs.declared.file_kinds.Content.TheVariants as content
 use Rattle.otio_tools.specs.Asked.{kind_of}
 use Rattle.otio_tools.specs.Plan.{media_content}
 use Rattle.otio_tools.specs.declared.planning.Planned.TheVariants as planned
-use Rattle.otio_tools.proofs.Planning.{again_as, held_as, media_is, objects_as, suits_of_list}
+use Rattle.otio_tools.proofs.PlanLemmas.{again_as, held_as, media_is, objects_as, suits_of_list}
 use Rattle.otio_tools.proofs.planning.judge.Goals as goal
 
 pub list_again-requires : goal.list_again-requires

@@ -1,5 +1,5 @@
 use Rattle.otio_tools.specs.Plan.{media_content}
-use Rattle.otio_tools.proofs.Planning.{are_contents, first_suits, held_planned_as, refused_held_as}
+use Rattle.otio_tools.proofs.PlanLemmas.{are_contents, first_suits, held_planned_as, refused_held_as}
 use Rattle.otio_tools.proofs.planning.judged.Goals as goal
 
 pub parted-content-requires : goal.parted-content-requires

@@ -2,7 +2,7 @@ use Rattle.std.proofs.Common.{refl}
 use Rattle.command_words.specs.declared.requests.Command.TheVariants.{ListToObjects}
 use Rattle.source_files.specs.declared.file_kinds.Content.TheVariants as content
 use Rattle.otio_tools.specs.Plan.{media_content}
-use Rattle.otio_tools.proofs.Planning.{held_as, media_is, noted_suits, plain_suits}
+use Rattle.otio_tools.proofs.PlanLemmas.{held_as, media_is, noted_suits, plain_suits}
 use Rattle.otio_tools.proofs.planning.list_to_objects.Goals as goal
 
 pub noted_in-list-requires : goal.noted_in-list-requires

@@ -1,7 +1,7 @@
 use Rattle.command_words.specs.Asked.{other_names}
 use Rattle.otio_tools.specs.Asked.{asked_alone}
 use Rattle.otio_tools.specs.Texts.{text_at}
-use Rattle.otio_tools.proofs.Planning.{held_planned, stop_planned}
+use Rattle.otio_tools.proofs.PlanLemmas.{held_planned, stop_planned}
 use Rattle.otio_tools.proofs.planning.plan_alone.Goals as goal
 
 pub returns-in-Ok-clause-told : goal.returns-in-Ok-clause-told

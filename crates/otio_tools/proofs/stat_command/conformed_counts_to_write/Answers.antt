@@ -1,5 +1,5 @@
 use Rattle.otio_tools.specs.Tools.{AnswersCounted}
-use Rattle.otio_tools.proofs.Planning.{of_conformed, not_conformed_as}
+use Rattle.otio_tools.proofs.PlanLemmas.{of_conformed, not_conformed_as}
 use Rattle.otio_tools.proofs.stat_command.conformed_counts_to_write.Goals as goal
 
 pub returns-in-Ok-clause-owed : goal.returns-in-Ok-clause-owed

@@ -1,4 +1,4 @@
-use Rattle.otio_tools.proofs.Planning.{unsound_counts}
+use Rattle.otio_tools.proofs.PlanLemmas.{unsound_counts}
 use Rattle.otio_tools.proofs.stat_command.counts_to_write.Goals as goal
 
 pub returns-in-Err-clause-owed : goal.returns-in-Err-clause-owed

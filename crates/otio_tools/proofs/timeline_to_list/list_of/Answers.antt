@@ -1,4 +1,4 @@
-use Rattle.otio_tools.proofs.Planning.{carried_by, left_by}
+use Rattle.otio_tools.proofs.PlanLemmas.{carried_by, left_by}
 use Rattle.otio_tools.proofs.timeline_to_list.list_of.Goals as goal
 
 pub returns-clause-list : goal.returns-clause-list

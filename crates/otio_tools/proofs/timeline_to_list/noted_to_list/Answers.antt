@@ -3,7 +3,7 @@ use Rattle.otio_tools.specs.Carried.{Carried}
 use Rattle.otio_tools.proofs.CalmTimelines.{tables_are_calm}
 use Rattle.otio_tools.proofs.FoundNotes.{found_fit}
 use Rattle.otio_tools.proofs.OneCarried.{has_list}
-use Rattle.otio_tools.proofs.Planning.{left_as}
+use Rattle.otio_tools.proofs.PlanLemmas.{left_as}
 use Rattle.otio_tools.proofs.WrittenLists.{carried_fits}
 use Rattle.otio_tools.proofs.timeline_to_list.noted_to_list.Goals as goal
 

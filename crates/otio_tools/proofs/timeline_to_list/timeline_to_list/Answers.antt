@@ -1,4 +1,4 @@
-use Rattle.otio_tools.proofs.Planning.{unsound_list}
+use Rattle.otio_tools.proofs.PlanLemmas.{unsound_list}
 use Rattle.otio_tools.proofs.timeline_to_list.timeline_to_list.Goals as goal
 
 pub returns-in-Err-clause-owed : goal.returns-in-Err-clause-owed

@@ -1,4 +1,4 @@
-use Rattle.otio_tools.proofs.Planning.{without_form}
+use Rattle.otio_tools.proofs.PlanLemmas.{without_form}
 use Rattle.otio_tools.proofs.written_objects.object_to_write.Goals as goal
 
 pub returns-in-Err-clause-owed : goal.returns-in-Err-clause-owed
