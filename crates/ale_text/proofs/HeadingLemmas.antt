@@ -4,8 +4,8 @@ use Rattle.std.proofs.Math.Seq.{drop-append-add}
 use Rattle.std.proofs.lemmas.List.Splits.{slice_split_at}
 use Rattle.tick_time.specs.Rates.{nominal}
 use Rattle.tick_time.specs.declared.rates.Rate.{Rate}
-use Rattle.smpte_tc.specs.RateWords.{IsRateWord}
-use Rattle.smpte_tc.proofs.RateLemmas.{rate_once}
+use Rattle.tick_time.specs.RateWords.{IsRateWord}
+use Rattle.tick_time.proofs.RateWordLemmas.{rate_once}
 use Rattle.media_list.specs.Lines.{tab_fields}
 use Rattle.ale_text.specs.Words.{spaceless, IsLogRate, IsSection}
 use Rattle.ale_text.specs.Lines.{IsEntry, IsTabbed, GivesRate, Follows, IsWrong, column_word}

@@ -1,10 +1,11 @@
 -- Bytes have one outcome.
-use Rattle.std.proofs.Common.{◌≡◌, ◌≢◌, ◌<◌, ◌+◌, ◌⊎◌, inl, inr, ℕ, List, [], ◌∷◌, ◌++◌, length, Option, Some, None, codes, refl, sym, ap, ap₂, subst, ◌∙◌, ⊎_elim, arith}
-use Rattle.std.proofs.lemmas.Bool.{cases_lt}
+use Rattle.std.proofs.Common.{◌≡◌, ◌≢◌, ◌<◌, ◌+◌, ◌⊎◌, inl, inr, ℕ, List, [], ◌∷◌, ◌++◌, length, Option, Some, None, codes, refl, sym, ap, ap₂, subst, ◌∙◌, arith}
 use Rattle.tick_time.specs.declared.rates.Rate.{Rate}
-use Rattle.smpte_tc.proofs.RateLemmas.{rate_once}
+use Rattle.tick_time.proofs.RateWordLemmas.{rate_once}
 use Rattle.media_rows.specs.declared.row.MediaRow.{MediaRow}
 use Rattle.media_list.proofs.OneOutcome.{stands_before, stands_same}
+use Rattle.std.proofs.lemmas.Option.{same_Some}
+use Rattle.media_list.proofs.OneOutcome.{same_place}
 use Rattle.ale_text.specs.Words.{IsSection, IsLogRate}
 use Rattle.ale_text.specs.Lines.{IsHeadingEntry, GivesRate, IsColumns, Taking, Takes, LacksLabel, RowSays, taken, nothing, Follows, LineSays, blank, full, IsMisplaced, LacksRate, LacksLabelAt, IsWrong, IsLineFault, column_word, frame_of, field_of}
 use Rattle.ale_text.specs.Logs.{LinesSay, IsLog, IsFirstFault, EndsEarly, MustGoOn, IsFault, log_lines, log_rows}
@@ -16,9 +17,6 @@ use Rattle.ale_text.specs.declared.sections.Due.TheVariants.{Heading, Entry, Nam
 use Rattle.ale_text.proofs.HeadingLemmas.{entry_names, entry_values}
 
 -- ---- a line of the heading
-
-some_once : {A : Type 0} {x y : A} → Some x ≡ Some y → x ≡ y
-some_once e = cc
 
 same_word : (a b : List ℕ) → a ≡ b → a ≢ b → ⊥
 same_word a b e other = other e
@@ -49,9 +47,9 @@ made_columns tape start end = record { tape = tape; start = start; end = end }
 
 columns_once : (names : List ℕ) (a b : Columns) → IsColumns names a → IsColumns names b → a ≡ b
 columns_once names a b p q =
-    ap (λ x. made_columns x a.start a.end) (some_once (sym p.tape ∙ q.tape))
-    ∙ ap (λ x. made_columns b.tape x a.end) (some_once (sym p.start ∙ q.start))
-    ∙ ap (made_columns b.tape b.start) (some_once (sym p.end ∙ q.end))
+    ap (λ x. made_columns x a.start a.end) (same_Some _ _ (sym p.tape ∙ q.tape))
+    ∙ ap (λ x. made_columns b.tape x a.end) (same_Some _ _ (sym p.start ∙ q.start))
+    ∙ ap (made_columns b.tape b.start) (same_Some _ _ (sym p.end ∙ q.end))
 
 -- ---- rows
 
@@ -62,8 +60,8 @@ takes_once : (rate : Rate) (columns : Columns) (row : List ℕ) (a b : Taking)
     → Takes rate columns row a → Takes rate columns row b → a ≡ b
 takes_once rate columns row a b p q =
     ap (λ x. made_taking x a.start a.end) (sym p.tape ∙ q.tape)
-    ∙ ap (λ x. made_taking b.tape x a.end) (some_once (sym p.start ∙ q.start))
-    ∙ ap (made_taking b.tape b.start) (some_once (sym p.end ∙ q.end))
+    ∙ ap (λ x. made_taking b.tape x a.end) (same_Some _ _ (sym p.start ∙ q.start))
+    ∙ ap (made_taking b.tape b.start) (same_Some _ _ (sym p.end ∙ q.end))
 
 row_once : (rate : Rate) (columns : Columns) (row : List ℕ) (a b : List Taking)
     → RowSays rate columns row a → RowSays rate columns row b → a ≡ b
@@ -114,7 +112,7 @@ follows_once (Entry before) (Names r) (Data s c) line a b p q = absurd q
 follows_once (Entry before) (Names r) (Row s c) line a b p q = absurd q
 follows_once (Entry before) (Names r) (Entry y) line a b p q = absurd (q.0.other p.0)
 follows_once (Entry before) (Names r) (Names s) line a b p q =
-    same a b (Names r) (Names s) (p.2 ∙ sym q.2) (ap Names (some_once (sym p.1 ∙ q.1)))
+    same a b (Names r) (Names s) (p.2 ∙ sym q.2) (ap Names (same_Some _ _ (sym p.1 ∙ q.1)))
 follows_once (Names rate) Heading n line a b p q = absurd p
 follows_once (Names rate) (Entry x) n line a b p q = absurd p
 follows_once (Names rate) (Names r) n line a b p q = absurd p
@@ -296,11 +294,11 @@ say_split due last (line ∷ lines) more all p =
     }
 
 -- lines that are right have no fault
-fault_refuted : (before : List (List ℕ)) (line : List ℕ) (behind : List (List ℕ))
+right_lines-no_fault : (before : List (List ℕ)) (line : List ℕ) (behind : List (List ℕ))
     (said all : List Taking) (due last : Due) (n : ℕ) (fault : AleFault)
     → LinesSay Heading before said due → LinesSay Heading (before ++ line ∷ behind) all last
     → IsLineFault due n line fault → ⊥
-fault_refuted before line behind said all due last n fault say says wrong =
+right_lines-no_fault before line behind said all due last n fault say says wrong =
     let both = say_split Heading last before (line ∷ behind) all says in
     let once = say_once Heading both.mid due before both.first said both.here say in
     let there = both.there in
@@ -312,7 +310,7 @@ earlier_wrong : (lines : List (List ℕ)) (f g : AleFault) (p : IsFirstFault lin
 earlier_wrong lines f g p q below =
     let at = stands_before p.before q.before p.behind q.behind p.line q.line (sym p.split
     ∙ q.split) below in
-    fault_refuted p.before p.line at.0 p.said q.said p.due q.due _ f p.say
+    right_lines-no_fault p.before p.line at.0 p.said q.said p.due q.due _ f p.say
     (subst (λ l. LinesSay Heading l q.said q.due) at.1 q.say) p.wrong
 
 same_wrong : (lines : List (List ℕ)) (f g : AleFault) (p : IsFirstFault lines f)
@@ -330,18 +328,14 @@ same_wrong lines f g p q same =
 
 first_once : (lines : List (List ℕ)) (f g : AleFault) → IsFirstFault lines f
     → IsFirstFault lines g → f ≡ g
-first_once lines f g p q =
-    ⊎_elim (λ below. absurd (earlier_wrong lines f g p q below))
-    (λ above. ⊎_elim (λ behind. absurd (earlier_wrong lines g f q p behind))
-    (λ le. same_wrong lines f g p q (omega (arith, above, le)))
-    (cases_lt (length q.before) (length p.before)))
-    (cases_lt (length p.before) (length q.before))
+first_once lines f g p q = same_place (length p.before) (length q.before)
+    (earlier_wrong lines f g p q) (earlier_wrong lines g f q p) (same_wrong lines f g p q)
 
 -- lines with a fault aren't all right
 right_or_wrong : (lines : List (List ℕ)) (said : List Taking) (last : Due) (fault : AleFault)
     → LinesSay Heading lines said last → IsFirstFault lines fault → ⊥
 right_or_wrong lines said last fault say f =
-    fault_refuted f.before f.line f.behind f.said said f.due last _ fault f.say
+    right_lines-no_fault f.before f.line f.behind f.said said f.due last _ fault f.say
     (subst (λ l. LinesSay Heading l said last) f.split say) f.wrong
 
 both_once : (lines : List (List ℕ)) (f g : AleFault)
@@ -371,7 +365,7 @@ unfolding rate_of
 log_once bytes a b p q =
     let once = say_once Heading (Row p.rate p.columns) (Row q.rate q.columns) (log_lines bytes)
     p.takings q.takings p.say q.say in
-    p.are ∙ ap₂ log_rows (some_once (ap rate_of once.due)) once.said ∙ sym q.are
+    p.are ∙ ap₂ log_rows (same_Some _ _ (ap rate_of once.due)) once.said ∙ sym q.are
 
 -- bytes that are a log have no fault
 pub log_or_fault : (bytes : List ℕ) (rows : List MediaRow) (fault : AleFault) → IsLog bytes rows

@@ -144,14 +144,14 @@ IsMisplaced (Data rate columns) line = IsSection data_word line → ⊥
 IsMisplaced (Row rate columns) line = ⊥
 
 -- the first `FPS` gives no rate with timecode
-pub record HasNoRate (line : List ℕ) : Type 0 where
+pub record HasNoTimecodeRate (line : List ℕ) : Type 0 where
   pub value : List ℕ
   pub other : IsSection column_word line → ⊥
   pub is : IsEntry line (codes "FPS") value
   pub none : (rate : Rate) → IsLogRate value rate → ⊥
 
 abbrev pub LacksRate : Due → List ℕ → Type 0
-LacksRate (Entry None) line = HasNoRate line
+LacksRate (Entry None) line = HasNoTimecodeRate line
 LacksRate due line = ⊥
 
 abbrev pub LacksLabelAt : Due → List ℕ → Type 0

@@ -2,10 +2,10 @@
 use Rattle.std.specs.Prelude.{◌≡◌, ◌==◌, ℕ, Bool, false, List, [], ◌∷◌, IsSome, reverse, if◌then◌else◌}
 use Rattle.tick_time.specs.Rates.{nominal}
 use Rattle.tick_time.specs.declared.rates.Rate.{Rate}
-use Rattle.smpte_tc.specs.RateWords.{IsRateWord}
+use Rattle.tick_time.specs.RateWords.{IsRateWord}
 use Rattle.text_lines.specs.Lines.{trimmed}
 use Rattle.text_lines.specs.ReelNames.{IsReelName}
-use Rattle.media_list.specs.Lines.{is_comment}
+use Rattle.text_lines.specs.Lines.{is_comment}
 
 -- whether a space stands at the front
 abbrev pub begins_with_space : List ℕ → Bool

@@ -9,9 +9,8 @@ ghost use Rattle.ale_text.specs.Lines.{Follows, GivesRate, IsEntry, IsTabbed, Is
 use crate::faults::AleFault;
 use crate::sections::Due;
 use crate::spaces::{is_section, trim_spaces};
-use smpte_tc::rate_of;
 use text_lines::{after, before, first_byte, is_text};
-use tick_time::Rate;
+use tick_time::{Rate, rate_of};
 
 /// A line of the heading: a name, a tab and a value.
 #[derive(Clone, Copy)]

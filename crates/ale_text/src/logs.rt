@@ -114,7 +114,7 @@ fn take_line(
         Due::Data(rate, columns) => {
             due_after_section(line, b"Data", Due::Row(rate, columns), number)
         }
-        Due::Row(rate, columns) => take_row(tapes, alloc, rate, columns, line, number),
+        Due::Row(rate, columns) => take_row(tapes, alloc, RowForm { rate, columns }, line, number),
     }
 }
 
@@ -131,24 +131,31 @@ fn due_after_section(line: &[u8], word: &[u8], next: Due, number: u32) -> Result
     }
 }
 
-// Takes a row of a log of this rate and these columns.
+// How the rows of a log are read: the rate of their labels, and the columns of their fields.
+#[derive(Clone, Copy)]
+struct RowForm {
+    rate: Rate,
+    columns: Columns,
+}
+
+// Takes a row of a log of this form.
 fn take_row(
     tapes: &mut Tapes,
     alloc: Global,
-    rate: Rate,
-    columns: Columns,
+    form: RowForm,
     line: &[u8],
     number: u32,
 ) -> Result<Due, AleFault>
     requires kept { IsKept tapes.old }
-    requires timecode { HasTimecode rate }
+    requires timecode { HasTimecode form.rate }
     requires full { IsBlankLine line.now → ⊥ }
-    ensures steps { IfOk result (λ next. Steps (Row rate columns) line.now next
+    ensures steps { IfOk result (λ next. Steps (Row form.rate form.columns) line.now next
         tapes.old.rows.items tapes.new.rows.items) }
     ensures kept { OnOk result (IsKept tapes.new) }
     ensures fault { IfErr result (λ fault. (fault ≡ AleFault.Memory)
-        ⊎ IsLineFault (Row rate columns) number line.now fault) }
+        ⊎ IsLineFault (Row form.rate form.columns) number line.now fault) }
 {
+    let RowForm { rate, columns } = form;
     match take_of(line, rate, columns, number) {
         Ok(Some(take)) => {
             tapes.add(alloc, take, rate)?;

@@ -1,11 +1,12 @@
 -- The words of commands.
-use Rattle.std.proofs.Common.{◌≡◌, ℕ, Bool, true, false, List, [], ◌∷◌, Option, Some, refl, sym, ◌∙◌, ap, subst, bytes_eq, if◌then◌else◌}
+use Rattle.std.proofs.Common.{◌≡◌, ℕ, Bool, true, false, List, [], ◌∷◌, Option, Some, refl, sym, ◌∙◌, ap, subst, bytes_eq, cond}
 use Rattle.std.proofs.lemmas.Slice.Eq.{bytes_eq-Decides}
-use Rattle.command_words.specs.Names.{meaning, word_of, verb_words}
+use Rattle.text_lines.specs.KeyWords.{meaning}
+use Rattle.command_words.specs.Names.{word_of, command_verbs}
 use Rattle.command_words.specs.declared.names.Verb.{Verb}
 use Rattle.command_words.specs.declared.names.Verb.TheVariants.{Convert, Cat, Stat, Tool, Frames, Edit, Drill, Pull, Media}
 
-word_is : (verb : Verb) → meaning (word_of verb) verb_words ≡ Some verb
+word_is : (verb : Verb) → meaning (word_of verb) command_verbs ≡ Some verb
 word_is Convert = refl
 word_is Cat = refl
 word_is Stat = refl
@@ -19,11 +20,11 @@ word_is Media = refl
 -- a word is that of at most one command
 pub verb_once : (one other : Verb) → word_of one ≡ word_of other → one ≡ other
 verb_once one other e = let k : Some one ≡ Some other =
-    sym (word_is one) ∙ ap (λ w. meaning w verb_words) e ∙ word_is other in cc
+    sym (word_is one) ∙ ap (λ w. meaning w command_verbs) e ∙ word_is other in cc
 
 by_row : {A : Type 0} (b : Bool) (word : List ℕ) (row : List ℕ × A) (rest : Option A) (x : A) (P : A
     → Type 0) → bytes_eq word row.0 ≡ b → (word ≡ row.0 → P row.1) → (rest ≡ Some x → P x)
-    → (if b then Some row.1 else rest) ≡ Some x → P x
+    → cond b (Some row.1) rest ≡ Some x → P x
 by_row true word row rest x P same here others e = let k : row.1 ≡ x =
     cc in subst P k (here ((bytes_eq-Decides word row.0).0 same))
 by_row false word row rest x P other here others e = others e
@@ -41,8 +42,8 @@ by_table word verb (row ∷ rows) are e =
     (λ h. h ∙ are.0) (λ f. by_table word verb rows are.1 f) e
 
 -- a word that stands for a command is the word of that command
-pub verb_word : (word : List ℕ) (verb : Verb) → meaning word verb_words ≡ Some verb
+pub verb_word : (word : List ℕ) (verb : Verb) → meaning word command_verbs ≡ Some verb
     → word ≡ word_of verb
 verb_word word verb e =
-    by_table word verb verb_words
+    by_table word verb command_verbs
     (refl, (refl, (refl, (refl, (refl, (refl, (refl, (refl, (refl, tt))))))))) e

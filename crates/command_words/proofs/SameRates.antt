@@ -2,7 +2,7 @@
 use Rattle.std.proofs.Common.{◌≡◌, ℕ, List, Option, Some, None, sym, ◌∙◌}
 use Rattle.tick_time.specs.declared.rates.Rate.{Rate}
 use Rattle.tick_time.proofs.SameValues.{same_rate}
-use Rattle.smpte_tc.proofs.RateLemmas.{rate_once}
+use Rattle.tick_time.proofs.RateWordLemmas.{rate_once}
 use Rattle.command_words.specs.Asked.{IsRate}
 
 -- at most one rate is asked for

@@ -1,32 +1,22 @@
 -- Seeds and the digits that spell them.
-use Rattle.std.proofs.Common.{◌≡◌, ◌≢◌, ◌⊎◌, ℕ, zero, suc, subst, ◌<◌, ◌^◌, List, length, get_or, refl, sym, ap, ◌∙◌, inl, inr, arith, decimal}
+use Rattle.std.proofs.Common.{◌≡◌, ◌≢◌, ℕ, subst, ◌<◌, ◌^◌, List, length, get_or, sym, ap, ◌∙◌, arith, decimal}
 use Rattle.std.specs.Str.Parse.{AllDigits, IsNumeral, digits_value, without_leading_plus}
-use Rattle.std.proofs.lemmas.Str.Parse.{IsNumeralModel, numerals_by_value, tells_digits, not_in_digits, without_leading_plus_none}
-use Rattle.std.proofs.lemmas.Fmt.{decimal_injective, decimal_is_IsNumeral, decimal_digit, first_decimal, decimal-digits_value}
+use Rattle.std.proofs.lemmas.Str.Parse.{not_in_digits, without_leading_plus_none}
+use Rattle.std.proofs.lemmas.Fmt.{decimal_injective, decimal_is_IsNumeral, decimal-digits_value}
+use Rattle.tick_time.proofs.Scans.{count-none_or_more}
+use Rattle.smpte_tc.proofs.WholeNumbers.{digits_model, zero-alone}
 use Rattle.command_words.specs.Drills.{IsSeed, IsUnsigned}
-
-own : IsNumeralModel (AllDigits 10) (digits_value 10)
-own = numerals_by_value (AllDigits 10) tells_digits
-
-zero_or_more : (n : ℕ) → (n ≡ 0) ⊎ (0 < n)
-zero_or_more zero = inl refl
-zero_or_more (suc n) = inr (omega arith)
-
-zero_alone : (n : ℕ) → n < 2 ^ 64 → (n ≡ 0) ⊎ (0 < n) → get_or (decimal n) 0 0 ≡ 48
-    → length (decimal n) ≡ 1
-zero_alone n small (inl e) first = ap length (ap decimal e ∙ decimal_digit 0 (omega arith))
-zero_alone n small (inr more) first = absurd (omega (arith, first_decimal n more small, first))
 
 -- digits have no sign
 no_sign : (word : List ℕ) → AllDigits 10 word → 0 < length word → get_or word 0 0 ≢ 43
-no_sign word digits some = not_in_digits own word 43 digits (λ r. omega (arith, r)) 0 some
+no_sign word digits some = not_in_digits digits_model word 43 digits (λ r. omega (arith, r)) 0 some
 
 decimal_unsigned : (n : ℕ) → n < 2 ^ 64 → IsUnsigned (decimal n)
 decimal_unsigned n small =
     let numeral = (decimal_is_IsNumeral n small).0 in record {
       some = numeral.0;
       no_plus = no_sign (decimal n) numeral.1 numeral.0;
-      one = zero_alone n small (zero_or_more n);
+      one = zero-alone n small (count-none_or_more n);
     }
 
 -- a seed is spelled without a sign
@@ -42,7 +32,7 @@ read_seed word n w numeral small e =
     let value = e ∙ ap (digits_value 10) plain in
     let digits = subst (IsNumeral 10) plain numeral in
     let within = subst (λ t. digits_value 10 t < 2 ^ 64) plain small in (
-      sym (ap decimal value ∙ decimal-digits_value own word digits.1 w.some w.one within),
+      sym (ap decimal value ∙ decimal-digits_value digits_model word digits.1 w.some w.one within),
       subst (λ m. m < 2 ^ 64) (sym e) small,
     )
 

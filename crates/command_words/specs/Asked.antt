@@ -2,7 +2,7 @@
 use Rattle.std.specs.Prelude.{◌≡◌, ◌⊎◌, ℕ, ◌<◌, ◌≤◌, pos, Bool, true, false, List, [], ◌∷◌, ◌++◌, Option, Some, None, IsSome, bytes_eq, codes, count_by, length, map}
 use Rattle.std.specs.Option.{option_map}
 use Rattle.tick_time.specs.declared.rates.Rate.{Rate}
-use Rattle.smpte_tc.specs.RateWords.{IsRateWord}
+use Rattle.tick_time.specs.RateWords.{IsRateWord}
 use Rattle.smpte_tc.specs.Words.{IsWholeNumber, IsPoint}
 use Rattle.command_words.specs.Names.{HasList, IsListName, word_of}
 use Rattle.command_words.specs.Given.{Given, Gives, IsValue}

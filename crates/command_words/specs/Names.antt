@@ -1,12 +1,7 @@
 -- The words of commands, and the names of files.
-use Rattle.std.specs.Prelude.{◌≡◌, ◌⊎◌, ℕ, List, [], ◌∷◌, ◌++◌, Option, Some, None, codes, bytes_eq, if◌then◌else◌}
+use Rattle.std.specs.Prelude.{◌≡◌, ◌⊎◌, ℕ, List, [], ◌∷◌, ◌++◌, codes}
 use Rattle.command_words.specs.declared.names.Verb.{Verb}
 use Rattle.command_words.specs.declared.names.Verb.TheVariants.{Convert, Cat, Stat, Tool, Frames, Edit, Drill, Pull, Media}
-
--- what a word stands for in a table of words
-abbrev pub meaning : {A : Type 0} → List ℕ → List (List ℕ × A) → Option A
-meaning word [] = None
-meaning word (row ∷ rows) = if bytes_eq word row.0 then Some row.1 else meaning word rows
 
 -- the word of a command
 abbrev pub word_of : Verb → List ℕ
@@ -21,8 +16,8 @@ word_of Pull = codes "pull"
 word_of Media = codes "media"
 
 -- the commands by their words
-abbrev pub verb_words : List (List ℕ × Verb)
-verb_words = (word_of Convert, Convert) ∷ (word_of Cat, Cat) ∷ (word_of Stat, Stat)
+abbrev pub command_verbs : List (List ℕ × Verb)
+command_verbs = (word_of Convert, Convert) ∷ (word_of Cat, Cat) ∷ (word_of Stat, Stat)
     ∷ (word_of Tool, Tool) ∷ (word_of Frames, Frames) ∷ (word_of Edit, Edit)
     ∷ (word_of Drill, Drill) ∷ (word_of Pull, Pull) ∷ (word_of Media, Media) ∷ []
 

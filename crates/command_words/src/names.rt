@@ -1,8 +1,9 @@
 // The words of commands, and the names of files.
-ghost use Rattle.std.specs.Prelude.{◌≡◌, ◌↔◌, [], ◌∷◌, length, map, string_bytes, IsTrue, MatchOption, bytes_eq};
-ghost use Rattle.command_words.specs.Names.{meaning, verb_words, HasList, IsListName, IsLogName};
+ghost use Rattle.std.specs.Prelude.{◌≡◌, ◌↔◌, [], ◌∷◌, length, map, string_bytes, IsTrue, MatchOption};
+ghost use Rattle.text_lines.specs.KeyWords.{meaning};
+ghost use Rattle.command_words.specs.Names.{command_verbs, HasList, IsListName, IsLogName};
 
-use text_lines::strip_back;
+use text_lines::{is_word, strip_back};
 
 /// A command, by its own word.
 #[derive(Clone, Copy, PartialEq, Eq)]
@@ -40,43 +41,37 @@ pub fn first_word(words: &[String]) -> Option<(&str, &[String])>
 
 /// The command of that word.
 pub fn verb_of(word: &str) -> Option<Verb>
-    ensures { result ≡ meaning word.now verb_words }
+    ensures { result ≡ meaning word.now command_verbs }
 {
-    if is_word(word, "convert") {
+    let word = word.as_bytes();
+    if is_word(word, b"convert") {
         return Some(Verb::Convert);
     }
-    if is_word(word, "cat") {
+    if is_word(word, b"cat") {
         return Some(Verb::Cat);
     }
-    if is_word(word, "stat") {
+    if is_word(word, b"stat") {
         return Some(Verb::Stat);
     }
-    if is_word(word, "tool") {
+    if is_word(word, b"tool") {
         return Some(Verb::Tool);
     }
-    if is_word(word, "frames") {
+    if is_word(word, b"frames") {
         return Some(Verb::Frames);
     }
-    if is_word(word, "edit") {
+    if is_word(word, b"edit") {
         return Some(Verb::Edit);
     }
-    if is_word(word, "drill") {
+    if is_word(word, b"drill") {
         return Some(Verb::Drill);
     }
-    if is_word(word, "pull") {
+    if is_word(word, b"pull") {
         return Some(Verb::Pull);
     }
-    if is_word(word, "media") {
+    if is_word(word, b"media") {
         return Some(Verb::Media);
     }
     None
-}
-
-// Whether a word is this one, byte by byte.
-fn is_word(word: &str, text: &str) -> bool
-    ensures { result ≡ bytes_eq word.now text.now }
-{
-    word == text
 }
 
 /// Whether a name ends with `.edl`.

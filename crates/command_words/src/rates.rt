@@ -1,10 +1,9 @@
 // The rate that a command line asks for.
-ghost use Rattle.std.specs.Prelude.{MatchOption, None};
+ghost use Rattle.std.specs.Prelude.{MatchOption};
 ghost use Rattle.std.specs.Option.{option_map};
 ghost use Rattle.command_words.specs.Asked.{IsRate};
 
-use smpte_tc::rate_of;
-use tick_time::Rate;
+use tick_time::{Rate, rate_24, rate_of};
 
 /// The rate of lists: the one that is asked for, else 24 frames a second.
 pub fn rate_asked(word: Option<&str>) -> Option<Rate>
@@ -13,13 +12,6 @@ pub fn rate_asked(word: Option<&str>) -> Option<Rate>
 {
     match word {
         Some(word) => rate_of(word.as_bytes()),
-        None => Some(film_rate()),
+        None => Some(rate_24()),
     }
-}
-
-// 24 frames a second.
-fn film_rate() -> Rate
-    ensures { IsRate None result }
-{
-    Rate { num: 24, den: 1 }
 }

@@ -1,7 +1,8 @@
 // What command lines of `cat`, `stat` and `tool` ask for.
-ghost use Rattle.std.specs.Prelude.{◌≡◌, ◌↔◌, ◌∷◌, [], ℕ, List, map, IsTrue, MatchOption};
+ghost use Rattle.std.specs.Prelude.{◌≡◌, ◌↔◌, ◌∷◌, [], ℕ, List, Some, map, IsTrue, MatchOption};
 ghost use Rattle.command_words.specs.Asked.{AreFew, IsByNames, IsCat, IsStat, IsTool};
 ghost use Rattle.command_words.specs.Given.{given_by};
+ghost use Rattle.command_words.specs.Names.{HasList};
 ghost use Rattle.command_words.specs.declared.requests.Command.TheVariants.{Tool as ToolCommand, ListTool as ListToolCommand, ListCat as ListCatCommand, ListStat as ListStatCommand};
 
 use crate::lines::Line;
@@ -20,24 +21,21 @@ pub fn cat_of<'a>(line: &Line<'a>) -> Option<(Command, &'a str)>
         ((command : Command) (name : List ℕ) → IsCat command name given → ⊥)
         (λ asked. IsCat asked.0 asked.1.now given) }
 {
-    let Some(name) = line.file else {
+    let Some(name) = first_of_few(line) else {
         return None;
     };
-    if !are_few(line.more.as_slice()) {
-        return None;
-    }
     match rate_asked(line.rate) {
-        Some(rate) => Some((cat_command(name, line.more.as_slice(), rate), name)),
+        Some(rate) => Some((cat_command(name, line, rate), name)),
         None => None,
     }
 }
 
 // The command `cat` on files of these names.
-fn cat_command(name: &str, more: &[&str], rate: Rate) -> Command
+fn cat_command(name: &str, line: &Line<'_>, rate: Rate) -> Command
     ensures { IsByNames Command.Cat ListCatCommand result
-        (name.now ∷ map (λ n. n.now) more.now) rate }
+        (name.now ∷ (given_by line.now).more) rate }
 {
-    if is_list_name(name) || has_list(more) {
+    if names_list(name, line) {
         Command::ListCat { rate }
     } else {
         Command::Cat
@@ -76,27 +74,24 @@ pub fn tool_of<'a>(line: &Line<'a>) -> Option<(Command, &'a str)>
         ((command : Command) (name : List ℕ) → IsTool command name given → ⊥)
         (λ asked. IsTool asked.0 asked.1.now given) }
 {
-    let Some(name) = line.file else {
+    let Some(name) = first_of_few(line) else {
         return None;
     };
-    if !are_few(line.more.as_slice()) {
-        return None;
-    }
     let Some(tool) = tool_asked(line) else {
         return None;
     };
     match rate_asked(line.rate) {
-        Some(rate) => Some((tool_command(name, line.more.as_slice(), rate, tool), name)),
+        Some(rate) => Some((tool_command(name, line, rate, tool), name)),
         None => None,
     }
 }
 
 // The command `tool` on files of these names.
-fn tool_command(name: &str, more: &[&str], rate: Rate, tool: ToolAsked) -> Command
+fn tool_command(name: &str, line: &Line<'_>, rate: Rate, tool: ToolAsked) -> Command
     ensures { IsByNames (ToolCommand tool) (λ r. ListToolCommand r tool) result
-        (name.now ∷ map (λ n. n.now) more.now) rate }
+        (name.now ∷ (given_by line.now).more) rate }
 {
-    if is_list_name(name) || has_list(more) {
+    if names_list(name, line) {
         Command::ListTool { rate, tool }
     } else {
         Command::Tool(tool)
@@ -108,4 +103,27 @@ fn are_few(more: &[&str]) -> bool
     ensures { IsTrue result ↔ AreFew (map (λ n. n.now) more.now) }
 {
     more.len() < MOST_FILES
+}
+
+// The first file of a command line that names no more files than it may.
+fn first_of_few<'a>(line: &Line<'a>) -> Option<&'a str>
+    ensures { let given = given_by line.now in MatchOption result
+        ((name : List ℕ) → given.file ≡ Some name → AreFew given.more → ⊥)
+        (λ name. (given.file ≡ Some name.now) × AreFew given.more) }
+{
+    let Some(name) = line.file else {
+        return None;
+    };
+    if are_few(line.more.as_slice()) {
+        Some(name)
+    } else {
+        None
+    }
+}
+
+// Whether this file or one of those after it is a list, by its name.
+fn names_list(name: &str, line: &Line<'_>) -> bool
+    ensures { IsTrue result ↔ HasList (name.now ∷ (given_by line.now).more) }
+{
+    is_list_name(name) || has_list(line.more.as_slice())
 }

@@ -1,32 +1,13 @@
 -- 24 frames a second are a rate at which items are worked out, and what they show.
-use Rattle.std.proofs.Common.{◌≡◌, refl, ℕ, pos, ◌≤ℤ◌, true, arith, rules}
+use Rattle.std.proofs.Common.{◌≡◌, refl, ℕ, pos, ◌≤ℤ◌, true, arith}
 use Rattle.std.specs.Prelude.{nat_le}
-use Rattle.std.specs.Bool.{IsTrue}
 use Rattle.std.proofs.lemmas.Int.{ints}
-use Rattle.std.proofs.lemmas.Nat.Gcd.{dvd_antisymm, dvd_of_mod-eq-zero}
 use Rattle.limits.specs.Limits.{most_ticks}
-use Rattle.tick_time.specs.declared.rates.Rate.{Rate}
+use Rattle.tick_time.specs.FixedRates.{rate_24}
 use Rattle.tick_time.specs.Times.{IsWhole}
-use Rattle.tick_time.specs.Rates.{unit, is_rate}
+use Rattle.tick_time.specs.Rates.{unit}
 use Rattle.coord.specs.Worked.{frames}
 use Rattle.coord.specs.WorkedItems.{Clock, IsClock24, AreWorkedItems}
-
-given_24 : IsTrue (is_rate 24 1)
-unfolding is_rate
-given_24 = search rules
-
-abbrev rate_24 : Rate
-rate_24 = record {
-  num = pos 24;
-  den = pos 1;
-  positive = omega (arith, ints);
-  at_least_one = omega (arith, ints);
-  small_num = omega (arith, ints);
-  small_den = omega (arith, ints);
-  whole = refl;
-  lowest = λ k _ h. dvd_antisymm h (dvd_of_mod-eq-zero 1 (omega arith));
-  given = given_24;
-}
 
 whole_24 : (n : ℕ) → IsWhole (pos (frames n)) (unit (pos 24) (pos 1))
 whole_24 n = omega (arith, ints)

@@ -11,7 +11,7 @@ use Rattle.coord.specs.Soundness.{fault_of, AreFaultless, Precedes, IsFirstFault
 use Rattle.coord.specs.Walk.{AreFaultlessTo, IsFirstBelow, IsFoundIn, IsFoundAt, IsUnder}
 use Rattle.coord.proofs.Members.{got_below}
 
-split_last : (i j : ℕ) → j < suc i → (j < i) ⊎ (j ≡ i)
+pub split_last : (i j : ℕ) → j < suc i → (j < i) ⊎ (j ≡ i)
 split_last zero zero h = inr refl
 split_last zero (suc j) h = absurd (omega (arith, h))
 split_last (suc i) zero h = inl (omega arith)

@@ -1,5 +1,8 @@
-mod MediaTicks
+pub mod MediaTicks
 pub mod Members
+pub mod Within
+pub mod ChildStarts
+pub mod FrameRates
 pub mod Clips
 pub mod JudgingLemmas
 pub mod SpeedProducts

@@ -1,15 +1,13 @@
 -- Members of a list from an index on, and how many items children have.
 use Rattle.std.proofs.Common.{◌≡◌, ℕ, zero, suc, ◌+◌, ◌<◌, ◌≤◌, ◌^◌, List, [], ◌∷◌, Some, refl, ap, length, drop, slice_get, add-one, arith}
+-- what stands in two equal ones is the same
+pub use Rattle.std.proofs.lemmas.Option.{same_Some as same_some}
 use Rattle.otio_model.specs.declared.compositions.ItemOf.{ItemOf}
 use Rattle.otio_model.specs.declared.compositions.Listed.{Listed}
 use Rattle.otio_model.specs.Trees.{items_of, listed}
 use Rattle.otio_model.specs.Counts.{count, count_of}
 use Rattle.otio_model.specs.Falls.{child_counts, count-listed}
 use Rattle.otio_model.proofs.LengthLimits.{few_enough}
-
--- what stands in two equal ones is the same
-pub same_some : {A : Type 0} (x y : A) → Some x ≡ Some y → x ≡ y
-same_some x y e = cc e
 
 next_in : {A : Type 0} (xs : List A) (i : ℕ) (x : A) → slice_get xs i ≡ Some x → drop i xs ≡ x ∷ drop (suc i) xs
 next_in [] zero x e = absurd (cc e)

@@ -49,4 +49,4 @@ no_fault_of t F.StartOffFrame s a = a s.start
 no_fault_of t (F.NoLength p) s a = no_first t p NoLength s a
 no_fault_of t (F.Speed p) s a = no_first t p Speed s a
 no_fault_of t (F.Long p) s a = no_first t p Long s a
-no_fault_of t F.Memory s a = a s
+no_fault_of t F.Memory s a = a.1 s.items

@@ -47,4 +47,5 @@ fault_bare a b F.StartOffFrame e h = λ s. h (starts_bare b a (sym e) s)
 fault_bare a b (F.NoLength place) e h = first_bare a b place NoLength e h
 fault_bare a b (F.Speed place) e h = first_bare a b place Speed e h
 fault_bare a b (F.Long place) e h = first_bare a b place Long e h
-fault_bare a b F.Memory e h = λ s. h (faultless_bare b a (sym e) s)
+fault_bare a b F.Memory e h =
+    (starts_bare a b e h.0, λ s. h.1 (subst (λ (t : Timeline). AreFaultless t.tracks.children) (sym e) s))

@@ -1,5 +1,5 @@
 -- What timelines show at each record frame.
-use Rattle.std.specs.Prelude.{ℕ, ℤ, pos, ◌-ℤ◌, ◌*ℤ◌, cond, List, [], ◌∷◌, map, Option, Some, None, codes, slice_get, unwrap_or}
+use Rattle.std.specs.Prelude.{ℕ, ℤ, pos, ◌-ℤ◌, ◌*ℤ◌, cond, List, [], ◌∷◌, map, Option, Some, None, slice_get, unwrap_or}
 use Rattle.std.specs.Int.{int_div_euclid}
 use Rattle.tick_time.specs.Rates.{frame}
 use Rattle.otio_model.specs.declared.compositions.Clip.{Clip as ClipRow}
@@ -9,6 +9,7 @@ use Rattle.otio_model.specs.declared.compositions.Listed.{Listed, fold-Listed}
 use Rattle.otio_model.specs.declared.compositions.Listed.TheOpen.{Listed-F}
 use Rattle.otio_model.specs.declared.timelines.Timeline.{Timeline}
 use Rattle.otio_model.specs.Trees.{items_of}
+pub use Rattle.otio_model.specs.Trees.{kind_of}
 use Rattle.otio_model.specs.Overlaps.{within}
 use Rattle.otio_model.specs.Lengths.{or_zero}
 use Rattle.coord.specs.Looks.{Show, Blank, FrameRate}
@@ -69,14 +70,6 @@ start_frame t =
       | Some start ↦ int_div_euclid start.ticks
           (pos (frame_ticks (frame_rate start.rate)))
     ]
-
--- the kind of a root child: of a track its own, else video
-abbrev pub kind_of : ItemOf Listed → List ℕ
-kind_of (Clip c) = codes "Video"
-kind_of (Gap g) = codes "Video"
-kind_of (Transition t) = codes "Video"
-kind_of (Stack s) = codes "Video"
-kind_of (Track t) = t.kind
 
 -- what a root child shows at u ticks, Blank outside its length
 abbrev pub child_shows : (FrameRate → FrameRate) → ItemOf Listed → ℤ → Show

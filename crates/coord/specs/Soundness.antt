@@ -111,13 +111,13 @@ pub record IsFirstFault (l : Listed) (place : List ℕ) (fault : ItemFault) : Ty
 abbrev pub HasFirst : Timeline → List ℕ → ItemFault → Type 0
 HasFirst t place fault = StartsOnFrame t × IsFirstFault t.tracks.children place fault
 
--- what a fault says of a timeline; want of memory comes only where it has one
+-- what a fault says of a timeline; memory runs out only for the place of an item with a fault
 abbrev pub IsFaultOf : Timeline → CoordFault → Type 0
 IsFaultOf t F.StartOffFrame = StartsOnFrame t → ⊥
 IsFaultOf t (F.NoLength place) = HasFirst t place NoLength
 IsFaultOf t (F.Speed place) = HasFirst t place Speed
 IsFaultOf t (F.Long place) = HasFirst t place Long
-IsFaultOf t F.Memory = IsFaultless t → ⊥
+IsFaultOf t F.Memory = StartsOnFrame t × (AreFaultless t.tracks.children → ⊥)
 
 -- an item's fault as that of its timeline
 abbrev pub fault_at : List ℕ → ItemFault → CoordFault

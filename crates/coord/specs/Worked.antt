@@ -50,7 +50,7 @@ mix_of a b num den = Mix (codes "SMPTE_Dissolve") (frame_of (codes "a") a) (fram
     (record { num = pos num; den = pos den })
 
 -- what the two lists show at some frames
-pub record AreWorked : Type 0 where
+pub record IsDissolveWorked : Type 0 where
   pub before : list_shows joined (pos (frames 37)) ≡ frame_of (codes "a") 137
   pub begins : list_shows joined (pos (frames 38)) ≡ mix_of 138 190 0 1
   pub mixed : list_shows joined (pos (frames 43)) ≡ mix_of 143 195 5 24

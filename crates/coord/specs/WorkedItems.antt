@@ -1,17 +1,16 @@
 -- What small lists of items show at some frames, worked out by hand at 24 frames a second.
 use mathlib.Core.Path.{refl}
-use Rattle.std.specs.Prelude.{◌≡◌, ℕ, nat_le, pos, ◌≤ℤ◌, true, List, [], ◌∷◌, map, Some, None, codes}
+use Rattle.std.specs.Prelude.{◌≡◌, ℕ, nat_le, pos, ◌≤ℤ◌, true, List, [], ◌∷◌, map, Some, codes}
 use Rattle.limits.specs.Limits.{most_ticks}
 use Rattle.tick_time.specs.declared.rates.Rate.{Rate}
 use Rattle.tick_time.specs.declared.spans.Span.{Span}
 use Rattle.tick_time.specs.declared.times.Time.{Time}
 use Rattle.tick_time.specs.Times.{IsWhole}
 use Rattle.tick_time.specs.Rates.{unit}
-use Rattle.otio_model.specs.declared.media.Media.TheVariants as M
 use Rattle.otio_model.specs.declared.effect_types.Effect.{Effect}
 use Rattle.otio_model.specs.declared.effect_types.Effect.TheVariants as E
 use Rattle.otio_model.specs.declared.compositions.ItemOf.{ItemOf}
-use Rattle.otio_model.specs.declared.compositions.ItemOf.TheVariants.{Clip, Gap, Transition, Stack, Track}
+use Rattle.otio_model.specs.Plain.{at_speed, gap_with, shot_with, stack_with, track_with, transition_with}
 use Rattle.coord.specs.Looks.{Url, Show, Blank, Frame, Mix, list_shows}
 use Rattle.coord.specs.Keys.{frame_rate}
 use Rattle.coord.specs.Sights.{Sight, exact, seen, sight_by}
@@ -49,57 +48,18 @@ Item = ItemOf (List Sight)
 
 -- a clip of the first 240 frames of a file, with a source_range and effects
 abbrev pub clip : Clock → List ℕ → Span → List Effect → Item
-clip c url range effects = Clip (record {
-  metadata = [];
-  name = codes "n";
-  source_range = Some range;
-  effects = effects;
-  markers = [];
-  enabled = true;
-  media_references = (
-    codes "m",
-    M.External (record {
-      metadata = [];
-      name = [];
-      available_range = Some (span c 0 240 refl refl);
-      target_url = url;
-      rest = [];
-    }),
-  ) ∷ [];
-  active_media_reference_key = codes "m";
-  rest = [];
-})
+clip c url range effects =
+    shot_with (codes "n") (Some range) effects (Some (span c 0 240 refl refl)) url
 
 abbrev pub gap : Span → Item
-gap range = Gap (record {
-  metadata = [];
-  name = [];
-  source_range = Some range;
-  effects = [];
-  markers = [];
-  enabled = true;
-  rest = [];
-})
+gap range = gap_with (Some range)
 
 abbrev pub dissolve : Time → Time → Item
-dissolve before after = Transition (record {
-  metadata = [];
-  name = [];
-  transition_type = codes "SMPTE_Dissolve";
-  in_offset = Some before;
-  out_offset = Some after;
-  rest = [];
-})
+dissolve before after = transition_with (codes "SMPTE_Dissolve") (Some before) (Some after)
 
 -- twice the speed, and none
 abbrev pub twice : List Effect
-twice = E.Warp (record {
-  metadata = [];
-  name = [];
-  effect_name = [];
-  time_scalar = pos 2000000;
-  rest = [];
-}) ∷ []
+twice = at_speed (pos 2000000)
 
 abbrev pub still : List Effect
 still = E.Freeze (record {
@@ -116,27 +76,9 @@ look = sight_by (λ l. l)
 
 -- a stack of one track of two clips of 30 frames, of which 20 are shown at twice the speed
 abbrev pub stack : Clock → Item
-stack c = Stack (record {
-  metadata = [];
-  name = [];
-  source_range = Some (span c 0 20 refl refl);
-  effects = twice;
-  markers = [];
-  enabled = true;
-  children = look (Track (record {
-    metadata = [];
-    name = [];
-    source_range = None;
-    effects = [];
-    markers = [];
-    enabled = true;
-    children = look (clip c (codes "q.mov") (span c 0 30 refl refl) [])
-        ∷ look (clip c (codes "r.mov") (span c 0 30 refl refl) []) ∷ [];
-    kind = codes "Video";
-    rest = [];
-  })) ∷ [];
-  rest = [];
-})
+stack c = stack_with (Some (span c 0 20 refl refl)) twice (look (track_with (codes "Video") []
+    (look (clip c (codes "q.mov") (span c 0 30 refl refl) [])
+    ∷ look (clip c (codes "r.mov") (span c 0 30 refl refl) []) ∷ [])) ∷ [])
 
 -- a dissolve of 12 frames round a cut
 abbrev pub cut : Clock → List Item

@@ -12,7 +12,7 @@ ghost use Rattle.coord.specs.Soundness as soundness;
 ghost use Rattle.coord.specs.Walk.{IsFoundIn, IsFoundAt, IsUnder};
 
 use crate::faults::{CoordFault, ItemFault};
-use crate::speeds::item_speed;
+use crate::speeds::{item_speed, media_millionths};
 use crate::timing::trimmed_start;
 use limits::MOST_TICKS;
 use otio_model::{Children, Item, ItemOf, Place, Timeline};
@@ -70,8 +70,8 @@ fn media_end(start: i128, ticks: u128, speed: i64) -> i128
     start * 1_000_000 + media_ticks(ticks as i128, speed)
 }
 
-/// How much media so many ticks play, in millionths of a tick, at a speed in millionths; negative
-/// where they play backwards.
+/// How much media a length of up to a million seconds plays: [`media_millionths`] with closer
+/// bounds.
 pub fn media_ticks(ticks: i128, speed: i64) -> i128
     requires low { pos 0 ≤ℤ ticks }
     requires high { ticks ≤ℤ pos most_ticks }
@@ -81,7 +81,7 @@ pub fn media_ticks(ticks: i128, speed: i64) -> i128
     ensures least { (pos 0 -ℤ pos 1000000000000000000000000000000000) ≤ℤ result }
     ensures most { result ≤ℤ pos 1000000000000000000000000000000000 }
 {
-    ticks * i128::from(speed)
+    media_millionths(ticks, speed)
 }
 
 // Whether the item, so many ticks long, passes a million seconds.
@@ -182,8 +182,8 @@ fn judge_children(alloc: Global, children: &Children) -> Result<(), Found>
     Ok(())
 }
 
-// The place of these indexes; `None` where memory runs out.
-fn place_of(alloc: Global, way: &[u32]) -> Option<Place>
+/// The place of these indexes, from the root down; `None` where memory runs out.
+pub fn place_of(alloc: Global, way: &[u32]) -> Option<Place>
     ensures { IfSome result (λ place. place ≡ way.now) }
 {
     let mut place = Place::new(alloc);
@@ -224,7 +224,7 @@ fn starts_on_frame(timeline: &Timeline) -> bool
 /// - else that of the first item, in document order, that has one. An item's is
 /// [`CoordFault::NoLength`], else [`CoordFault::Speed`], else [`CoordFault::Long`]. The root stack
 /// and transitions have none;
-/// - [`CoordFault::Memory`]: it has a fault, and memory ran out.
+/// - [`CoordFault::Memory`]: an item has a fault, and memory ran out for its place.
 pub fn sound(alloc: Global, timeline: &Timeline) -> Result<(), CoordFault>
     requires few { count timeline.now.tracks.children < 2 ^ 32 }
     ensures ok { OnOk result (soundness.IsFaultless timeline.now) }

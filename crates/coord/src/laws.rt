@@ -13,7 +13,7 @@ ghost use Rattle.coord.specs.Sights.{sights, lengths_seen};
 ghost use Rattle.coord.specs.Looks.{divisor, weight};
 ghost use Rattle.coord.specs.Soundness.{IsFirstFault, IsFaultless, IsFaultOf, IsSound};
 ghost use Rattle.coord.specs.Agreement.{unrated};
-ghost use Rattle.coord.specs.Worked.{AreWorked};
+ghost use Rattle.coord.specs.Worked.{IsDissolveWorked};
 ghost use Rattle.coord.specs.WorkedItems.{Clock, IsClock24, AreWorkedItems};
 ghost use Rattle.coord.specs.Programs.{at, at_by, rate_24, program, record_rate, start_frame};
 
@@ -31,7 +31,7 @@ pub fn agreement_is_seen()
 /// Law: a dissolve of 24 frames is mixed as it is worked out by hand, also where its cut is moved
 /// to its first frame.
 pub fn dissolves_are_mixed()
-    ensures { AreWorked }
+    ensures { IsDissolveWorked }
 {}
 
 /// Law: small lists of items show what is worked out by hand: a dissolve of 12 frames, a clip at

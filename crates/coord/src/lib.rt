@@ -14,12 +14,12 @@ mod timing;
 mod wipes;
 
 pub use faults::{CoordFault, ItemFault};
-pub use judging::{item_fault, media_ticks, sound, speed};
+pub use judging::{item_fault, media_ticks, place_of, sound, speed};
 pub use laws::{
     agreement_is_seen, bare_is_seen, dissolves_are_mixed, divisor_is_greatest, first_fault_is_one,
     items_are_worked, lengths_are_seen, one_fault, sound_or_faulty, weights_are_lowest,
 };
 pub use media::{media_rate, own_reel};
-pub use speeds::item_speed;
-pub use timing::{record_rate, start_frame, trimmed_start};
+pub use speeds::{item_speed, media_millionths, media_offset};
+pub use timing::{frame_ticks, record_rate, start_frame, trimmed_start};
 pub use wipes::wipe_code;

@@ -1,6 +1,6 @@
 //! When items and timelines start, and at which rate a timeline is counted.
 
-ghost use Rattle.std.specs.Prelude.{◌≡◌, option_map};
+ghost use Rattle.std.specs.Prelude.{◌≡◌, ◌≤◌, option_map};
 ghost use Rattle.std.specs.Option.{option_copied, option_or};
 ghost use Rattle.otio_model.specs.Lengths as lengths;
 ghost use Rattle.coord.specs.Keys.{frame_rate};
@@ -8,7 +8,7 @@ ghost use Rattle.coord.specs.Programs as programs;
 
 use crate::media::media_rate;
 use otio_model::{Children, Clip, Item, ItemOf, Timeline};
-use tick_time::{Rate, Span};
+use tick_time::{Rate, Span, rate_24};
 
 // Where a span starts, else another one, else 0.
 fn start_of(span: Option<Span>, other: Option<Span>) -> i128
@@ -37,13 +37,6 @@ pub fn trimmed_start(item: &Item) -> i128
         ItemOf::Stack(stack) => start_of(stack.source_range, None),
         ItemOf::Track(track) => start_of(track.source_range, None),
     }
-}
-
-/// 24 frames a second.
-pub(crate) fn rate_24() -> Rate
-    ensures { frame_rate result ≡ programs.rate_24 }
-{
-    Rate { num: 24, den: 1 }
 }
 
 // The rate of a clip's media, or 24 where it has no range.
@@ -95,6 +88,15 @@ pub fn record_rate(timeline: &Timeline) -> Rate
             None => rate_24(),
         },
     }
+}
+
+/// How many ticks a record frame of the timeline takes.
+pub fn frame_ticks(timeline: &Timeline) -> u128
+    ensures value { result ≡ programs.frame_ticks (programs.record_rate timeline.now) }
+    ensures some { 1000000 ≤ result }
+    ensures few { result ≤ 705600000000000000 }
+{
+    record_rate(timeline).frame_ticks() as u128
 }
 
 /// The number of the first record frame: that of the start, else 0.

@@ -3,3 +3,4 @@ pub mod FileNumbers
 pub mod BufferLemmas
 pub mod PartLemmas
 pub mod Leaving
+pub mod Walks

@@ -6,9 +6,9 @@ use Rattle.dev_io.specs.Calls.{Tells, Adds, AddsPrefix}
 use Rattle.dev_io.specs.Causes.{Rose}
 use Rattle.dev_io.specs.declared.buffer.OutBuffer.{OutBuffer}
 
--- where a stream and the buffer beside it stand
+-- the state of a stream and of the buffer in front of it
 pub record Standing : Type 0 where
-  -- what the stream tells
+  -- what is known of the stream
   pub known : Option KnownOut
   -- its count of faults
   pub faults : ℕ
@@ -38,7 +38,7 @@ pub record Puts (old new : Standing) (bytes : List ℕ) : Type 0 where
       (Rose old.faults new.faults × Tells (AddsPrefix (old.held ++ bytes)) old.known new.known)
       (Tells (SendsFront (old.held ++ bytes) new.held) old.known new.known))
 
--- the bytes were handed over to a stream through the buffer beside it
+-- the bytes were handed over to a stream through its buffer
 abbrev pub HandsOver : {W : Type 0} → (W → Option KnownOut) → (W → ℕ) → (old new : W) →
     (before after : OutBuffer) → List ℕ → Type 0
 HandsOver known faults old new before after bytes =

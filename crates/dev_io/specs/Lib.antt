@@ -8,3 +8,8 @@ pub mod Parts
 pub mod Buffer
 pub mod Timetable
 pub mod Counted
+pub mod Past
+pub mod PastCodes
+pub mod Handed
+pub mod CallEvents
+pub mod OutputCauses

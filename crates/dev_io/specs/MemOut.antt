@@ -1,4 +1,4 @@
--- What a stream into memory tells.
+-- What is known of a stream into memory.
 use Rattle.std.specs.Prelude.{ℕ, ◌-◌, List, Some, None, length, string_bytes, if◌then◌else◌}
 use Rattle.dev_io.specs.Known.{KnownOut}
 use Rattle.dev_io.specs.Timetable.{Timetable, timetable_of}

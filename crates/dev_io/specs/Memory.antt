@@ -1,4 +1,4 @@
--- What the devices in memory tell.
+-- What is known of the devices in memory.
 use Rattle.std.specs.Prelude.{ℕ, List, [], drop, position, Some, None, slice_get, string_bytes}
 use Rattle.std.specs.declared.option.Option.{Option}
 use Rattle.std.specs.Option.{option_map, option_map_or}

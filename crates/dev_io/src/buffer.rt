@@ -38,7 +38,7 @@ impl OutBuffer {
     }
 
     /// Hands these bytes over. What was held is sent where there is no room for them, and they too
-    /// where they are too many for an empty buffer. Where a write fails, `flush` tells it, and
+    /// where they are too many for an empty buffer. Where a write fails, `flush` says so, and
     /// nothing is sent from then on.
     #[inline]
     pub fn put<W: Out>(&mut self, out: &mut W, bytes: &[u8])
@@ -80,7 +80,7 @@ impl OutBuffer {
         }
     }
 
-    /// Hands these parts over, one after another. Where a write fails, `flush` tells it, and
+    /// Hands these parts over, one after another. Where a write fails, `flush` says so, and
     /// nothing is sent from then on.
     pub fn put_parts<W: Out>(&mut self, out: &mut W, parts: &[&[u8]])
         ensures { HandsOver W.known W.faults out.old out.new self.old self.new (joined parts.now) }

@@ -4,7 +4,9 @@ ghost use Rattle.std.specs.Option.{ForSome};
 ghost use Rattle.std.specs.Io.{ReadsAtMost};
 ghost use Rattle.dev_io.specs.Calls.{Opens, Reads, Closes, Takes};
 ghost use Rattle.dev_io.specs.Causes.{HasExactCause, HasOpenCause};
+ghost use Rattle.dev_io.specs.Handed.{opened_as, read_as};
 
+use crate::call_record::{CallRecord, after_open, after_read};
 use crate::files::{Failed, Files, Opened};
 use crate::schedule::Schedule;
 use std::alloc::{AllocError, Global};
@@ -24,11 +26,11 @@ enum Last {
     Read(usize, usize),
 }
 
-/// Files in memory, which tell their names and bytes, the file in hand and the last call that
-/// failed.
+/// Files in memory, of which all is known: their names and bytes, the file in hand, the last call
+/// that failed, and what each call gave.
 ///
 /// The calls of `open_file` and `read` are numbered from 1 on, and the number stays at 2^64 - 1
-/// once it is there. The calls that `fail_on` was told fail, and no others; each failure raises the
+/// once it is there. The calls that `fail_on` listed fail, and no others; each failure raises the
 /// count of faults by one. Neither call takes memory.
 #[derive(Drop)]
 pub struct MemFiles {
@@ -37,11 +39,12 @@ pub struct MemFiles {
     hand: Option<(usize, usize)>,
     last: Last,
     schedule: Schedule,
+    kept: CallRecord,
     ghost in_hand: { ForSome hand (λ at. at.0 < vec_len files) },
 }
 
 impl MemFiles {
-    ghost use Rattle.dev_io.specs.MemFiles.{known_of, files_timetable};
+    ghost use Rattle.dev_io.specs.MemFiles.{known_of, calls_of, files_timetable};
     ghost use Rattle.dev_io.specs.Calls.{Puts, IsNew};
     ghost use Rattle.dev_io.specs.Timetable.{fresh_timetable};
 
@@ -50,6 +53,7 @@ impl MemFiles {
     pub fn new(alloc: Global) -> MemFiles
         ensures known { IsNew (known_of result) }
         ensures calls { files_timetable result ≡ fresh_timetable }
+        ensures handed { calls_of result ≡ [] }
     {
         MemFiles {
             alloc,
@@ -57,6 +61,7 @@ impl MemFiles {
             hand: None,
             last: Last::Never,
             schedule: Schedule::new(alloc),
+            kept: CallRecord::new(),
         }
     }
 
@@ -67,6 +72,7 @@ impl MemFiles {
         ensures ok { OnOk result (Puts name.now bytes.now (known_of self.old) (known_of self.new)) }
         ensures err { OnErr result (known_of self.new ≡ known_of self.old) }
         ensures calls { files_timetable self.new ≡ files_timetable self.old }
+        ensures handed { calls_of self.new ≡ calls_of self.old }
     {
         let file = MemFile {
             name: String::from_str(self.alloc, name)?,
@@ -88,6 +94,7 @@ impl MemFiles {
               failing = (files_timetable self.old).failing ++ call ∷ [];
             }) }
         ensures err { OnErr result (files_timetable self.new ≡ files_timetable self.old) }
+        ensures handed { calls_of self.new ≡ calls_of self.old }
     {
         self.schedule.fail_on(call)
     }
@@ -98,6 +105,7 @@ impl MemFiles {
         ensures known { known_of self.new ≡ known_of self.old }
         ensures calls { files_timetable self.new ≡
             record (files_timetable self.old) { most = most } }
+        ensures handed { calls_of self.new ≡ calls_of self.old }
     {
         self.schedule.piece(most);
     }
@@ -149,7 +157,7 @@ fn copy_from(bytes: &[u8], offset: usize, most: usize, buf: &mut [u8]) -> usize
 }
 
 impl MemFiles {
-    ghost use Rattle.dev_io.specs.MemFiles.{known_of, files_timetable, left_of};
+    ghost use Rattle.dev_io.specs.MemFiles.{known_of, calls_of, files_timetable, left_of};
     ghost use Rattle.dev_io.specs.Calls.{ReadsFrom};
 
     // Reads the next bytes of the file in hand, and none where there is none.
@@ -161,6 +169,7 @@ impl MemFiles {
         ensures count { result ≡ min (min (length (left_of (known_of self.old))) (length buf.old))
             (files_timetable self.old).most }
         ensures calls { files_timetable self.new ≡ files_timetable self.old }
+        ensures handed { calls_of self.new ≡ calls_of self.old }
     {
         let Some((i, offset)) = self.hand else {
             return 0;
@@ -191,16 +200,12 @@ fn last_read(hand: Option<(usize, usize)>) -> Last
     }
 }
 
-impl Files for MemFiles {
-    ghost use Rattle.dev_io.specs.MemFiles.{known_of, files_timetable, left_of};
+impl MemFiles {
+    ghost use Rattle.dev_io.specs.MemFiles.{known_of, calls_of, files_timetable, left_of};
     ghost use Rattle.dev_io.specs.Timetable.{after_call, is_failed, IsDue};
-    ghost use Rattle.std.specs.Prelude.{Some};
 
-    ghost known = { λ s. Some (known_of s) };
-
-    ghost faults = { λ s. (files_timetable s).faults };
-
-    fn open_file(&mut self, name: &str) -> Opened
+    // Opens the file of that name, or fails where the call's number is listed.
+    fn open_due(&mut self, name: &str) -> Opened
         ensures told { Opens name.now result (known_of self.old) (known_of self.new) }
         ensures cause { HasOpenCause (files_timetable self.old).faults
             (files_timetable self.new).faults result }
@@ -208,6 +213,7 @@ impl Files for MemFiles {
         ensures due { (result ≡ Opened.Failed) ↔ IsDue (files_timetable self.old) }
         ensures calls { files_timetable self.new ≡
             after_call (is_failed result) (files_timetable self.old) }
+        ensures handed { calls_of self.new ≡ calls_of self.old }
     {
         let found = find(&self.files, name);
         self.hand = None;
@@ -224,6 +230,59 @@ impl Files for MemFiles {
         }
     }
 
+    // Reads the next bytes, or fails where the call's number is listed.
+    fn read_due(&mut self, buf: &mut [u8]) -> Result<usize, Failed>
+        requires { 0 < length buf.old }
+        ensures bound { ReadsAtMost result buf.new }
+        ensures told { Reads result buf.new (known_of self.old) (known_of self.new) }
+        ensures cause { HasExactCause (files_timetable self.old).faults
+            (files_timetable self.new).faults result }
+        // It fails where its number is listed, and nowhere else.
+        ensures due { IsErr result ↔ IsDue (files_timetable self.old) }
+        ensures calls { files_timetable self.new ≡
+            after_call (is_err result) (files_timetable self.old) }
+        // A failed read leaves the buffer as it was.
+        ensures unread { OnErr result (buf.new ≡ buf.old) }
+        // It gives as many bytes as are left, as the buffer holds and as a read gives at most.
+        ensures count { IfOk result (λ n. n ≡
+            min (min (length (left_of (known_of self.old))) (length buf.old))
+            (files_timetable self.old).most) }
+        ensures handed { calls_of self.new ≡ calls_of self.old }
+    {
+        if self.schedule.fails() {
+            self.last = last_read(self.hand);
+            return Err(Failed);
+        }
+        Ok(self.read_hand(buf))
+    }
+}
+
+impl Files for MemFiles {
+    ghost use Rattle.dev_io.specs.MemFiles.{known_of, calls_of, files_timetable, left_of};
+    ghost use Rattle.dev_io.specs.Timetable.{after_call, is_failed, IsDue};
+    ghost use Rattle.std.specs.Prelude.{Some};
+
+    ghost known = { λ s. Some (known_of s) };
+
+    ghost faults = { λ s. (files_timetable s).faults };
+
+    ghost handed = { λ s. calls_of s };
+
+    fn open_file(&mut self, name: &str) -> Opened
+        ensures told { Opens name.now result (known_of self.old) (known_of self.new) }
+        ensures cause { HasOpenCause (files_timetable self.old).faults
+            (files_timetable self.new).faults result }
+        // It fails where its number is listed, and nowhere else.
+        ensures due { (result ≡ Opened.Failed) ↔ IsDue (files_timetable self.old) }
+        ensures calls { files_timetable self.new ≡
+            after_call (is_failed result) (files_timetable self.old) }
+        ensures handed { calls_of self.new ≡ calls_of self.old ++ opened_as name.now result ∷ [] }
+    {
+        let opened = self.open_due(name);
+        self.kept = after_open(&self.kept, name, opened);
+        opened
+    }
+
     fn read(&mut self, buf: &mut [u8]) -> Result<usize, Failed>
         requires { 0 < length buf.old }
         ensures bound { ReadsAtMost result buf.new }
@@ -234,21 +293,23 @@ impl Files for MemFiles {
         ensures due { IsErr result ↔ IsDue (files_timetable self.old) }
         ensures calls { files_timetable self.new ≡
             after_call (is_err result) (files_timetable self.old) }
+        // A failed read leaves the buffer as it was.
+        ensures unread { OnErr result (buf.new ≡ buf.old) }
         // It gives as many bytes as are left, as the buffer holds and as a read gives at most.
         ensures count { IfOk result (λ n. n ≡
             min (min (length (left_of (known_of self.old))) (length buf.old))
             (files_timetable self.old).most) }
+        ensures handed { calls_of self.new ≡ calls_of self.old ++ read_as result buf.new ∷ [] }
     {
-        if self.schedule.fails() {
-            self.last = last_read(self.hand);
-            return Err(Failed);
-        }
-        Ok(self.read_hand(buf))
+        let read = self.read_due(buf);
+        self.kept = after_read(&self.kept, buf, read);
+        read
     }
 
     fn close(&mut self)
         ensures told { Closes (known_of self.old) (known_of self.new) }
         ensures calls { files_timetable self.new ≡ files_timetable self.old }
+        ensures handed { calls_of self.new ≡ calls_of self.old }
     {
         self.hand = None;
     }

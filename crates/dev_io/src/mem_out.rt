@@ -13,10 +13,10 @@ use std::alloc::{AllocError, Global};
 /// How many bytes of a name a `MemOut` has room for.
 const NAME_ROOM: usize = 4096;
 
-/// A stream into memory of a fixed room, which tells where it is aimed and what was sent.
+/// A stream into memory of a fixed room, of which it is known where it is aimed and what was sent.
 ///
 /// The calls of `aim` and `write` are numbered from 1 on, and the number stays at 2^64 - 1 once it
-/// is there. A call fails, and raises the count of faults by one, where `fail_on` was told its
+/// is there. A call fails, and raises the count of faults by one, where `fail_on` listed its
 /// number, where `aim` has a name of more than 4096 bytes, where `write` has a piece that is not
 /// empty and no room is left, and nowhere else. Neither call takes memory.
 #[derive(Drop)]

@@ -28,17 +28,17 @@ impl From<Failed> for WriteFault {
 
 /// A stream of bytes to standard output, or after `aim` to a file.
 ///
-/// It may tell its target and the bytes sent. A call that fails leaves both as they were. Its count
-/// of faults never falls.
+/// Its target and the bytes sent may be known. A call that fails leaves both as they were. Its
+/// count of faults never falls.
 pub trait Out {
-    /// What it tells of where it writes and what was sent, where it tells.
+    /// Where it writes and what was sent, where that is known.
     ghost known: { Self → Option KnownOut };
 
     /// How often a call failed.
     ghost faults: { Self → ℕ };
 
     /// From here on the bytes go to the file of that name. Nothing may have been written yet, where
-    /// that is told. After `Failed` they go where they went before, the bytes sent are as they
+    /// that is known. After `Failed` they go where they went before, the bytes sent are as they
     /// were, and the count of faults rose, or stands at 2^64 - 1.
     fn aim(&mut self, name: &str) -> Result<(), Failed>
         requires { IsFresh (known self.old) }

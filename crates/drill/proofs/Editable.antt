@@ -17,18 +17,18 @@ use Rattle.otio_model.proofs.Views.{items-listed}
 use Rattle.coord.specs.Soundness.{AreCalm, IsSound}
 use Rattle.coord.proofs.Members.{one_counts}
 use Rattle.coord.proofs.SpareLemmas.{sound_bare}
-use Rattle.edits.specs.Finest.{rate_24}
+use Rattle.tick_time.specs.FixedRates.{rate_24}
 use Rattle.edit_script.specs.Keeping.{IsEditable}
-use Rattle.drill.specs.Starting.{IsStart, start_clips, timeline_with, track_with}
+use Rattle.drill.specs.Starting.{IsStart, start_clips, timeline_with, video_track}
 use Rattle.drill.proofs.PlainClips.{IsPlain}
-use Rattle.drill.proofs.SoundStart.{ArePlain, in_ticks_is, items_plain, most, plain_at, root_sound, ticks}
+use Rattle.drill.proofs.SoundStart.{ArePlainClips, in_ticks_is, items_plain, most, plain_at, root_sound, ticks}
 
 -- ---- transitions
 
 pairs_step : (a b c : Bool) → a ≡ false → c ≡ false → ((a && b) || c) ≡ false
 pairs_step a b c e f = rw (e, f) refl
 
-no_pairs : (xs : List (ItemOf Listed)) → ArePlain xs → side_by_side xs ≡ false
+no_pairs : (xs : List (ItemOf Listed)) → ArePlainClips xs → side_by_side xs ≡ false
 no_pairs [] h = refl
 no_pairs (x ∷ []) h = refl
 no_pairs (x ∷ y ∷ xs) h =
@@ -45,32 +45,32 @@ calm_in z y (i ∷ place) p e =
     absurd (cc none)
 
 through : (xs : List (ItemOf Listed)) (i : ℕ) (y : ItemOf Listed) (place : List ℕ)
-    (o : Option (ItemOf Listed)) → ArePlain xs → slice_get xs i ≡ o
+    (o : Option (ItemOf Listed)) → ArePlainClips xs → slice_get xs i ≡ o
     → option_and_then (below place) o ≡ Some y → has_misplaced y ≡ false
 through xs i y place None h e f = absurd (let g : None ≡ Some y = f in cc g)
 through xs i y place (Some z) h e f = calm_in z y place (plain_at xs i z h e) f
 
-calm_track : (xs : List (ItemOf Listed)) (y : ItemOf Listed) (place : List ℕ) → ArePlain xs
-    → below place (track_with xs) ≡ Some y → has_misplaced y ≡ false
+calm_track : (xs : List (ItemOf Listed)) (y : ItemOf Listed) (place : List ℕ) → ArePlainClips xs
+    → below place (video_track xs) ≡ Some y → has_misplaced y ≡ false
 calm_track xs y [] h e =
-    let same : track_with xs ≡ y = cc e in
+    let same : video_track xs ≡ y = cc e in
     subst (λ x. has_misplaced x ≡ false) same (ap side_by_side (items-listed xs) ∙ no_pairs xs h)
 calm_track xs y (i ∷ place) h e =
     through xs i y place (slice_get xs i) h refl
     (ap (λ l. option_and_then (below place) (slice_get l i)) (sym (items-listed xs)) ∙ e)
 
 calm_from : (xs : List (ItemOf Listed)) (i : ℕ) (y : ItemOf Listed) (place : List ℕ)
-    → ArePlain xs
-    → option_and_then (below place) (slice_get (track_with xs ∷ []) i) ≡ Some y
+    → ArePlainClips xs
+    → option_and_then (below place) (slice_get (video_track xs ∷ []) i) ≡ Some y
     → has_misplaced y ≡ false
 calm_from xs zero y place h e = calm_track xs y place h e
 calm_from xs (suc i) y place h e = absurd (let g : None ≡ Some y = e in cc g)
 
-calm_root : (xs : List (ItemOf Listed)) → ArePlain xs → AreCalm (listed (track_with xs ∷ []))
+calm_root : (xs : List (ItemOf Listed)) → ArePlainClips xs → AreCalm (listed (video_track xs ∷ []))
 calm_root xs h [] y e = absurd (cc e)
 calm_root xs h (i ∷ place) y e =
     calm_from xs i y place h (ap (λ l. option_and_then (below place) (slice_get l i))
-    (sym (items-listed (track_with xs ∷ []))) ∙ e)
+    (sym (items-listed (video_track xs ∷ []))) ∙ e)
 
 -- ---- counts
 
@@ -81,14 +81,14 @@ count_one (Transition t) e = refl
 count_one (Stack s) e = absurd (let g : Some s.children ≡ None = e in cc g)
 count_one (Track t) e = absurd (let g : Some t.children ≡ None = e in cc g)
 
-count_all : (xs : List (ItemOf Listed)) → ArePlain xs → counts_by count xs ≡ length xs
+count_all : (xs : List (ItemOf Listed)) → ArePlainClips xs → counts_by count xs ≡ length xs
 count_all [] h = refl
 count_all (x ∷ xs) h = omega (arith, count_one x h.0.alone, count_all xs h.1)
 
-few_root : (xs : List (ItemOf Listed)) → ArePlain xs → length xs ≤ 1000
-    → count (listed (track_with xs ∷ [])) < 2 ^ 32
+few_root : (xs : List (ItemOf Listed)) → ArePlainClips xs → length xs ≤ 1000
+    → count (listed (video_track xs ∷ [])) < 2 ^ 32
 few_root xs h few =
-    omega (arith, few, one_counts (track_with xs), count-listed xs, count_all xs h)
+    omega (arith, few, one_counts (video_track xs), count-listed xs, count_all xs h)
 
 -- ---- the timeline
 
@@ -110,7 +110,7 @@ start_editable x t s =
         items = root_sound s.items p.0 few;
       };
       calm = record {
-        root = ap (list_any is_transition) (items-listed (track_with s.items ∷ []));
+        root = ap (list_any is_transition) (items-listed (video_track s.items ∷ []));
         items = calm_root s.items p.0;
       };
     } in

@@ -6,6 +6,7 @@ use Rattle.std.proofs.lemmas.Int.{ints}
 use Rattle.std.proofs.lemmas.Bool.Decides.{nat_tests}
 use Rattle.std.proofs.lemmas.Nat.{mul-le}
 use Rattle.std.proofs.Math.Nat.{add-mul, mul_assoc, mul_comm}
+use Rattle.limits.proofs.IntegerSums.{size-of_natural}
 use Rattle.limits.specs.Limits.{most_ticks}
 use Rattle.tick_time.specs.declared.rates.Rate.{Rate}
 use Rattle.tick_time.specs.declared.spans.Span.{Span}
@@ -71,9 +72,6 @@ no_fault x n item f =
 abs_low : (z : ℤ) (m : ℕ) → pos 0 ≤ℤ z → z ≤ℤ pos m → unsigned_abs z ≤ m
 abs_low z m low high = omega (arith, ints, low, high)
 
-abs_is : (z : ℤ) → pos 0 ≤ℤ z → pos (unsigned_abs z) ≡ z
-abs_is z h = omega (arith, ints)
-
 -- a span lasts a million seconds at most
 span_low : (o : Option Span) → span_ticks o ≤ most_ticks
 span_low None = omega arith
@@ -92,7 +90,7 @@ lasts : (rate : Rate) (start n : ℤ) (o : Option Span) (r : Option Range) → H
 lasts rate start n o r h = record {
   ticks_are = unsigned_abs h.0.len.ticks;
   long = ap (λ q. option_map (λ (r : Range). r.len) (option_or (option_map range_of q) r)) h.1;
-  is = abs_is h.0.len.ticks h.0.forward ∙ h.2.long.ticks;
+  is = size-of_natural h.0.len.ticks h.0.forward ∙ h.2.long.ticks;
   few = abs_low h.0.len.ticks most_ticks h.0.forward h.0.len.high;
 }
 

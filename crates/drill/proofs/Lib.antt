@@ -1,6 +1,5 @@
 -- Lemmas on drills.
 pub mod ActSteps
-pub mod WorkedLemmas
 pub mod LineLemmas
 pub mod ListLemmas
 pub mod MadeClips

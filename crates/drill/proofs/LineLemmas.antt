@@ -17,7 +17,7 @@ use Rattle.object_law.proofs.Spellings.{fraction_once, long_same, parts_once}
 use Rattle.media_rows.specs.declared.row.MediaRow.{MediaRow}
 use Rattle.media_list.specs.Lines.{Fields, IsRow, field_list, is_comment, tab_fields}
 use Rattle.media_list.specs.Words.{IsNumber}
-use Rattle.edits.specs.Finest.{rate_24}
+use Rattle.tick_time.specs.FixedRates.{rate_24}
 
 -- ---- the rate
 

@@ -7,13 +7,13 @@ use Rattle.otio_model.specs.declared.compositions.Listed.{Listed}
 use Rattle.otio_model.specs.declared.compositions.StackOf.{StackOf}
 use Rattle.otio_model.specs.declared.timelines.Timeline.{Timeline}
 use Rattle.tick_time.specs.declared.times.Time.{Time}
-use Rattle.edits.specs.Finest.{rate_24}
+use Rattle.tick_time.specs.FixedRates.{rate_24}
 use Rattle.edit_script.specs.Items.{IsItem}
 use Rattle.tick_time.specs.Frames.{IsFrames}
 use Rattle.drill.specs.Acts.{clip_at, clips}
 use Rattle.drill.specs.Draws.{after}
 use Rattle.drill.specs.Media.{rows}
-use Rattle.drill.specs.Starting.{AreItems, IsStart, behind, behind_start, first_frame, stack_with, start_clips, track_with}
+use Rattle.drill.specs.Starting.{AreItems, IsStart, behind, behind_start, first_frame, root_of, start_clips, video_track}
 use Rattle.drill.specs.Making.{AreMade}
 
 -- none is made
@@ -74,11 +74,11 @@ behind_is x y e = e
 -- the timeline of what was made
 pub started : (x : ℕ) (t : Timeline) (start : Time) (items : List (ItemOf Listed))
     (track : ItemOf Listed) (tracks : StackOf Listed) → IsFrames rate_24 first_frame start
-    → AreItems (start_clips x) items → track ≡ track_with items → tracks ≡ stack_with track
+    → AreItems (start_clips x) items → track ≡ video_track items → tracks ≡ root_of track
     → t.metadata ≡ [] → t.name ≡ codes "drill" → t.global_start_time ≡ Some start
     → t.tracks ≡ tracks → t.rest ≡ [] → IsStart x t
 started x t start items track tracks begins drawn e f g h i j k =
-    let whole : t.tracks ≡ stack_with (track_with items) = j ∙ f ∙ ap stack_with e in
+    let whole : t.tracks ≡ root_of (video_track items) = j ∙ f ∙ ap root_of e in
     record {
       start = start;
       begins = begins;

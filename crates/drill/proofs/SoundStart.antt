@@ -16,12 +16,12 @@ use Rattle.media_rows.specs.Rows.{by_reel}
 use Rattle.coord.specs.Soundness.{AreFaultless, IsFaultlessItem, available_ticks, fault_of, is_long, ranged_fault}
 use Rattle.coord.specs.declared.faults.ItemFault.TheVariants.{Long, NoLength}
 use Rattle.coord.proofs.JudgingLemmas.{sound_all, sound_alone, sound_with}
-use Rattle.edits.specs.Finest.{rate_24}
+use Rattle.tick_time.specs.FixedRates.{rate_24}
 use Rattle.edit_script.specs.Items.{IsItem}
 use Rattle.drill.specs.Draws.{after, draw, next}
 use Rattle.drill.specs.Acts.{clip_at, clips, name_at, reel}
 use Rattle.drill.specs.Media.{row, rows}
-use Rattle.drill.specs.Starting.{AreItems, track_with}
+use Rattle.drill.specs.Starting.{AreItems, video_track}
 use Rattle.drill.proofs.PlainClips.{IsPlain, clip_plain, is_short}
 
 -- ---- the clips
@@ -90,16 +90,16 @@ item_plain i x c (r, e, is) =
       short = omega (arith, long, plain.short);
     })
 
-abbrev pub ArePlain : List (ItemOf Listed) → Type 0
-ArePlain [] = Unit {0}
-ArePlain (x ∷ xs) = IsPlain most x × ArePlain xs
+abbrev pub ArePlainClips : List (ItemOf Listed) → Type 0
+ArePlainClips [] = Unit {0}
+ArePlainClips (x ∷ xs) = IsPlain most x × ArePlainClips xs
 
 pub items_plain : (i n x : ℕ) (xs : List (ItemOf Listed)) → AreItems (clips i n x) xs
-    → ArePlain xs × (length xs ≡ n)
-items_plain i zero x xs h = subst (λ l. ArePlain l × (length l ≡ zero)) (sym h) (tt, refl)
+    → ArePlainClips xs × (length xs ≡ n)
+items_plain i zero x xs h = subst (λ l. ArePlainClips l × (length l ≡ zero)) (sym h) (tt, refl)
 items_plain i (suc n) x xs (c, others, e, is, rest) =
     let more = items_plain (i + 1) n (after 2 x) others rest in
-    subst (λ l. ArePlain l × (length l ≡ suc n)) (sym e)
+    subst (λ l. ArePlainClips l × (length l ≡ suc n)) (sym e)
     ((item_plain i x c is, more.0), ap suc more.1)
 
 -- ---- the track
@@ -114,7 +114,7 @@ sum_step : (o : Option ℕ) (ns : List (Option ℕ)) (n m : ℕ) → o ≡ Some 
     → added ns ≡ m → (sum_of (o ∷ ns) ≡ Some (n + m)) × (added (o ∷ ns) ≡ n + m)
 sum_step o ns n m e f g = rw (e, f, g) (refl, refl)
 
-has_sum : (xs : List (ItemOf Listed)) → ArePlain xs → HasSum xs
+has_sum : (xs : List (ItemOf Listed)) → ArePlainClips xs → HasSum xs
 has_sum [] h = record { total = 0; sum = refl; added = refl; short = omega arith }
 has_sum (x ∷ xs) h =
     let more = has_sum xs h.1 in
@@ -127,11 +127,11 @@ has_sum (x ∷ xs) h =
       short = omega (arith, h.0.short, more.short);
     }
 
-track_fault : (xs : List (ItemOf Listed)) → ArePlain xs → length xs ≤ 1000
-    → fault_of (track_with xs) ≡ None
+track_fault : (xs : List (ItemOf Listed)) → ArePlainClips xs → length xs ≤ 1000
+    → fault_of (video_track xs) ≡ None
 track_fault xs h few =
     let s = has_sum xs h in
-    let x = track_with xs in
+    let x = video_track xs in
     let long : length_of x ≡ Some s.total =
     ap (λ ns. option_map (λ (r : Range). r.len) (option_map from_zero (sum_of ns)))
     (lengths-listed xs)
@@ -145,13 +145,13 @@ track_fault xs h few =
 
 -- ---- no faults
 
-pub plain_at : (xs : List (ItemOf Listed)) (i : ℕ) (y : ItemOf Listed) → ArePlain xs
+pub plain_at : (xs : List (ItemOf Listed)) (i : ℕ) (y : ItemOf Listed) → ArePlainClips xs
     → slice_get xs i ≡ Some y → IsPlain most y
 plain_at [] i y h e = absurd (cc e)
 plain_at (x ∷ xs) zero y h e = let same : x ≡ y = cc e in subst (IsPlain most) same h.0
 plain_at (x ∷ xs) (suc i) y h e = plain_at xs i y h.1 e
 
-children_sound : (xs : List (ItemOf Listed)) → ArePlain xs → AreFaultless (listed xs)
+children_sound : (xs : List (ItemOf Listed)) → ArePlainClips xs → AreFaultless (listed xs)
 children_sound xs h =
     sound_all (listed xs) (length xs) (subst (λ l. length l ≤ length xs) (sym (items-listed xs))
     (omega arith)) (λ i y below got.
@@ -160,26 +160,26 @@ children_sound xs h =
     let p = plain_at xs i y h there in
     sound_alone y p.alone p.fault)
 
-track_sound : (xs : List (ItemOf Listed)) → ArePlain xs → length xs ≤ 1000
-    → IsFaultlessItem (track_with xs)
+track_sound : (xs : List (ItemOf Listed)) → ArePlainClips xs → length xs ≤ 1000
+    → IsFaultlessItem (video_track xs)
 track_sound xs h few =
-    sound_with (track_with xs) (listed xs) refl (track_fault xs h few) (children_sound xs h)
+    sound_with (video_track xs) (listed xs) refl (track_fault xs h few) (children_sound xs h)
 
 only : (x y : ItemOf Listed) (i : ℕ) → slice_get (x ∷ []) i ≡ Some y → x ≡ y
 only x y zero e = cc e
 only x y (suc i) e = absurd (cc e)
 
-pub root_sound : (xs : List (ItemOf Listed)) → ArePlain xs → length xs ≤ 1000
-    → AreFaultless (listed (track_with xs ∷ []))
+pub root_sound : (xs : List (ItemOf Listed)) → ArePlainClips xs → length xs ≤ 1000
+    → AreFaultless (listed (video_track xs ∷ []))
 root_sound xs h few =
-    let t = track_with xs in
+    let t = video_track xs in
     sound_all (listed (t ∷ [])) 1 (subst (λ l. length l ≤ 1) (sym (items-listed (t ∷ [])))
     (omega arith)) (λ i y below got.
     subst IsFaultlessItem (only t y i (subst (λ l. slice_get l i ≡ Some y) (items-listed (t ∷ []))
     got)) (track_sound xs h few))
 
 pub started_sound : (x : ℕ) (xs : List (ItemOf Listed)) → AreItems (clips 0 40 x) xs
-    → AreFaultless (listed (track_with xs ∷ []))
+    → AreFaultless (listed (video_track xs ∷ []))
 started_sound x xs h =
     let p = items_plain 0 40 x xs h in
     root_sound xs p.0 (omega (arith, p.1))

@@ -5,7 +5,7 @@ use Rattle.otio_model.specs.declared.compositions.ItemOf.{ItemOf}
 use Rattle.otio_model.specs.declared.compositions.Listed.{Listed}
 use Rattle.otio_model.specs.declared.timelines.Timeline.{Timeline}
 use Rattle.otio_model.specs.Timelines.{bare}
-use Rattle.edits.specs.Finest.{rate_24}
+use Rattle.tick_time.specs.FixedRates.{rate_24}
 use Rattle.edit_script.specs.declared.commands.Put.{Put}
 use Rattle.edit_script.proofs.OnceRun.{one_item, one_time}
 use Rattle.drill.specs.Media.{rows}

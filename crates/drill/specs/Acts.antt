@@ -42,7 +42,7 @@ shift x = pos (draw 21 x) -ℤ pos 10
 abbrev pub track : List ℕ
 track = 0 ∷ []
 
--- an act that is drawn, and the generator's number behind it
+-- an act that is drawn, and the generator's number after it
 pub record Drawn : Type 0 where
   pub act : Act
   pub state : ℕ

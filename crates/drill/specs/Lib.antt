@@ -1,4 +1,4 @@
--- What a drill draws, makes, does, sums and tells.
+-- What a drill draws, makes, does, sums and reports.
 pub mod Draws
 pub mod Acts
 pub mod Worked

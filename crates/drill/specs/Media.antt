@@ -1,7 +1,7 @@
 -- The media that a drill's clips show.
 use Rattle.std.specs.Prelude.{ℕ, pos, List, [], ◌∷◌, ◌++◌, codes, decimal}
 use Rattle.media_rows.specs.declared.row.MediaRow.{MediaRow}
-use Rattle.edits.specs.Finest.{rate_24}
+use Rattle.tick_time.specs.FixedRates.{rate_24}
 use Rattle.drill.specs.Acts.{reel}
 
 -- the URL of a number

@@ -3,12 +3,12 @@ use Rattle.std.specs.Prelude.{◌≡◌, ℕ, zero, suc, ℤ, pos, true, List, [
 use Rattle.tick_time.specs.declared.times.Time.{Time}
 use Rattle.otio_model.specs.declared.compositions.StackOf.{StackOf}
 use Rattle.otio_model.specs.declared.compositions.ItemOf.{ItemOf}
-use Rattle.otio_model.specs.declared.compositions.ItemOf.TheVariants.{Track}
 use Rattle.otio_model.specs.declared.compositions.Listed.{Listed}
 use Rattle.otio_model.specs.declared.timelines.Timeline.{Timeline}
 use Rattle.otio_model.specs.Timelines.{bare}
 use Rattle.otio_model.specs.Trees.{listed}
-use Rattle.edits.specs.Finest.{rate_24}
+use Rattle.otio_model.specs.Plain.{track_with}
+use Rattle.tick_time.specs.FixedRates.{rate_24}
 use Rattle.edit_script.specs.declared.commands.Put.{Put}
 use Rattle.edit_script.specs.Items.{IsItem}
 use Rattle.tick_time.specs.Frames.{IsFrames}
@@ -21,22 +21,12 @@ abbrev pub first_frame : ℤ
 first_frame = pos 86400
 
 -- a Video track with these items, and nothing else
-abbrev pub track_with : List (ItemOf Listed) → ItemOf Listed
-track_with xs = Track (record {
-  metadata = [];
-  name = [];
-  source_range = None;
-  effects = [];
-  markers = [];
-  enabled = true;
-  children = listed xs;
-  kind = codes "Video";
-  rest = [];
-})
+abbrev pub video_track : List (ItemOf Listed) → ItemOf Listed
+video_track xs = track_with (codes "Video") [] (listed xs)
 
 -- the root stack with an item alone
-abbrev pub stack_with : ItemOf Listed → StackOf Listed
-stack_with x = record {
+abbrev pub root_of : ItemOf Listed → StackOf Listed
+root_of x = record {
   metadata = [];
   name = codes "tracks";
   source_range = None;
@@ -53,17 +43,17 @@ timeline_with start xs = record {
   metadata = [];
   name = codes "drill";
   global_start_time = Some start;
-  tracks = stack_with (track_with xs);
+  tracks = root_of (video_track xs);
   rest = [];
   spare = record { room = 0; taken = 0 };
 }
 
--- the generator's number behind so many clips
+-- the generator's number after so many clips
 abbrev pub behind : ℕ → ℕ → ℕ
 behind zero x = x
 behind (suc n) x = behind n (after 2 x)
 
--- the forty clips of the timeline, and the generator's number behind them
+-- the forty clips of the timeline, and the generator's number after them
 unfoldable pub start_clips : ℕ → List Put
 start_clips x = clips 0 40 x
 

@@ -1,4 +1,4 @@
--- What a drill comes to, and what it tells.
+-- What a drill comes to, and what it reports.
 use Rattle.std.specs.Prelude.{◌≡◌, ℕ, ◌+◌, Option, Some, None, length, slice_get}
 use Rattle.otio_model.specs.declared.compositions.ItemOf.{ItemOf}
 use Rattle.otio_model.specs.declared.compositions.Listed.{Listed as Children}
@@ -33,15 +33,15 @@ children_in (Some x) = length_of (children_of x)
 abbrev pub track_children : Timeline → ℕ
 track_children t = children_in (slice_get (items_of t.tracks.children) 0)
 
--- what is told of what became of the list of a timeline: how many events it has, how many record
--- frames the first root child of the timeline takes, and the numbers of the source frames that the
--- timeline which the list conforms to shows at them, added up; else why there is no list
+-- what is reported of what became of the list of a timeline: how many events it has, how many
+-- record frames the first root child of the timeline takes, and the numbers of the source frames
+-- that the timeline which the list conforms to shows at them, added up; else why there is no list
 abbrev pub carried_of : Timeline → Listed → Carried
 carried_of t (L.List events again) =
     C.List events (frames_of t) (channel_sum again (start_frame t) (frames_of t))
 carried_of t (L.No why) = C.No why
 
--- what is told of the list of a timeline
+-- what is reported of the list of a timeline
 pub record IsToldOf (t : Timeline) (carried : Carried) : Type 0 where
   pub list : Listed
   pub is : IsListed t rows list

@@ -11,7 +11,7 @@ use Rattle.edit_script.specs.Steps.{IsReady}
 use Rattle.drill.specs.Rounds.{Drills, IsRefusedAct, Round}
 use Rattle.drill.specs.Rewinding.{rewound}
 
--- the round that a log and its timeline stand for
+-- the round that a log and its timeline are
 abbrev pub round_of : ℕ → History → Timeline → ℕ → Round
 round_of number h t accepted =
     record { number = number; state = state_of h t; accepted = accepted }

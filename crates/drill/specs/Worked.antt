@@ -1,4 +1,4 @@
--- The first draws of seed 0, reckoned.
+-- The first draws of seed 0, computed by hand.
 use Rattle.std.specs.Prelude.{◌≡◌, ℕ, ◌+◌, ◌-◌, ◌*◌, ◌/◌, pos, ◌-ℤ◌, unsigned_abs, List, [], ◌∷◌}
 use Rattle.edit_script.specs.declared.commands.Act.TheVariants as A
 use Rattle.edit_script.specs.declared.commands.Put.{Put}
@@ -21,8 +21,8 @@ abbrev pub added : (Put → ℕ) → List Put → ℕ
 added f [] = 0
 added f (put ∷ puts) = f put + added f puts
 
--- the first draw, the first clip, the forty clips, and the first edit behind them
-pub record AreWorked : Type 0 where
+-- the first draw, the first clip, the forty clips, and the first edit after them
+pub record IsDrawWorked : Type 0 where
   pub first : draw 1000 0 ≡ 807
   pub clip : clip_at 0 0 ≡ P.Clip (name_at 0) (reel 0) (pos 1807) (pos 48)
   pub frames : added length_of (clips 0 40 0) ≡ 1734

@@ -4,14 +4,14 @@ ghost use Rattle.std.specs.Prelude.{◌≡◌, ◌≤◌, ◌<◌, ◌^◌, ◌+
 ghost use Rattle.drill.specs.Acts as acts;
 ghost use Rattle.drill.specs.Draws as draws;
 
-use crate::generator::Generator;
+use crate::generator::Random;
 use edit_script::{Act, Put};
 use itoa::Buffer;
 use otio_model::{Place, RemoveMode};
 use sequences::Text;
 use std::alloc::{AllocError, Global};
 
-// A text and a number behind it.
+// A text and a number after it.
 fn numbered(alloc: Global, text: &str, number: u64) -> Result<Text, AllocError>
     ensures { IfOk result (λ made. made ≡ text.now ++ decimal number) }
 {
@@ -31,7 +31,7 @@ fn track(alloc: Global) -> Result<Place, AllocError>
     Ok(place)
 }
 
-impl Generator {
+impl Random {
     // A clip of a name and a reel, so many frames long at least.
     fn clip(&mut self, name: Text, reel: Text, least: u64) -> Put
         requires { least ≤ 24 }
@@ -154,7 +154,7 @@ impl Generator {
         Ok(self.moving(kind, place, at))
     }
 
-    // A frame of the one track, where that is so many frames long, or of the ten behind it.
+    // A frame of the one track, where that is so many frames long, or of the ten after it.
     fn frame(&mut self, frames: u128) -> i64
         requires { frames < 2 ^ 127 }
         ensures frame { result ≡ pos (draws.draw (frames + 10) self.old.state) }

@@ -13,14 +13,12 @@ use media_list::MediaList;
 use otio_model::Timeline;
 use std::alloc::{AllocError, Global};
 
-// Want of memory, which is all that conforming such a list fails for.
-fn want_of_memory(fault: ConformFault) -> AllocError
+// Out of memory, which is all that conforming such a list fails for.
+fn out_of_memory(fault: ConformFault) -> AllocError
     requires { fault ≡ ConformFault.Memory }
 {
-    match fault {
-        ConformFault::Memory => AllocError,
-        _ => unreachable!(),
-    }
+    drop(fault);
+    AllocError
 }
 
 /// The timeline of a list whose events its media list holds and that makes no more items than a
@@ -37,6 +35,6 @@ pub(crate) fn conform_held(
 {
     match conform(alloc, list, Some(media)) {
         Ok(timeline) => Ok(timeline),
-        Err(fault) => Err(want_of_memory(fault)),
+        Err(fault) => Err(out_of_memory(fault)),
     }
 }

@@ -1,8 +1,8 @@
 //! Laws of what is drawn. Their functions do nothing.
 
-ghost use Rattle.drill.specs.Worked.{AreWorked};
+ghost use Rattle.drill.specs.Worked.{IsDrawWorked};
 
-/// Law: the first draws of seed 0 are those that are reckoned outside the program.
+/// Law: the first draws of seed 0 are those that were computed by hand.
 pub fn draws_are_worked()
-    ensures { AreWorked }
+    ensures { IsDrawWorked }
 {}

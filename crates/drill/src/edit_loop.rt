@@ -10,31 +10,40 @@ ghost use Rattle.drill.specs.Turns as turns;
 ghost use Rattle.drill.specs.Turns.{round_of};
 
 use crate::frames::track_frames;
-use crate::generator::Generator;
+use crate::generator::Random;
 use crate::one_edit::{step_back, try_act};
 use media_list::MediaList;
 use otio_model::Timeline;
 use std::alloc::{AllocError, Global};
 use undo_log::Log;
 
+/// A timeline that is edited, and the log of its edits.
+#[derive(Drop)]
+pub struct Edited {
+    /// The timeline as it is now.
+    pub timeline: Timeline,
+    /// The edits that were accepted, and those that were undone.
+    pub log: Log,
+}
+
 // Draws an edit and tries it, and says whether it was accepted.
 fn run_edit(
     alloc: Global,
-    timeline: &mut Timeline,
-    log: &mut Log,
+    edited: &mut Edited,
     media: &MediaList,
-    generator: &mut Generator,
+    random: &mut Random,
 ) -> Result<bool, AllocError>
-    requires ready { IsReady log.old timeline.old }
+    requires ready { IsReady edited.old.log edited.old.timeline }
     ensures goes { IfOk result (λ done. (n : ℕ) → Goes (Some media.now)
-        (round_of generator.old.state log.old timeline.old n)
-        (round_of generator.new.state log.new timeline.new (turns.counted n done))) }
-    ensures ready { IsReady log.new timeline.new }
-    ensures holds { HoldsEdits log.old timeline.old → HoldsEdits log.new timeline.new }
+        (round_of random.old.state edited.old.log edited.old.timeline n)
+        (round_of random.new.state edited.new.log edited.new.timeline (turns.counted n done))) }
+    ensures ready { IsReady edited.new.log edited.new.timeline }
+    ensures holds { HoldsEdits edited.old.log edited.old.timeline
+        → HoldsEdits edited.new.log edited.new.timeline }
 {
-    let frames = track_frames(timeline);
-    match generator.act(alloc, frames) {
-        Ok(act) => try_act(alloc, timeline, log, media, act),
+    let frames = track_frames(&edited.timeline);
+    match random.act(alloc, frames) {
+        Ok(act) => try_act(alloc, &mut edited.timeline, &mut edited.log, media, act),
         Err(error) => Err(error),
     }
 }
@@ -48,28 +57,28 @@ fn counted(accepted: u32, done: bool) -> u32
     if done { accepted + 1 } else { accepted }
 }
 
-/// Draws so many edits, tries each on what those before it gave, and says how many were accepted.
-/// A refused edit is passed over. An error comes where memory runs out; some of the edits were made
+/// Draws so many edits, tries each on what those before it gave, and counts the accepted ones. A
+/// refused edit is passed over. An error comes where memory runs out; some of the edits were made
 /// then.
 pub fn run_edits(
     alloc: Global,
-    timeline: &mut Timeline,
-    log: &mut Log,
+    edited: &mut Edited,
     media: &MediaList,
-    generator: &mut Generator,
+    random: &mut Random,
     count: u32,
 ) -> Result<u32, AllocError>
-    requires ready { IsReady log.old timeline.old }
+    requires ready { IsReady edited.old.log edited.old.timeline }
     ensures drills { IfOk result (λ accepted. Drills (Some media.now) count
-        (round_of generator.old.state log.old timeline.old 0)
-        (round_of generator.new.state log.new timeline.new accepted)) }
+        (round_of random.old.state edited.old.log edited.old.timeline 0)
+        (round_of random.new.state edited.new.log edited.new.timeline accepted)) }
     ensures few { IfOk result (λ accepted. accepted ≤ count) }
-    ensures ready { IsReady log.new timeline.new }
-    ensures edits { HoldsEdits log.old timeline.old → HoldsEdits log.new timeline.new }
+    ensures ready { IsReady edited.new.log edited.new.timeline }
+    ensures edits { HoldsEdits edited.old.log edited.old.timeline
+        → HoldsEdits edited.new.log edited.new.timeline }
 {
     let mut accepted: u32 = 0;
     'edits: for index in 0..count {
-        match run_edit(alloc, timeline, log, media, generator) {
+        match run_edit(alloc, edited, media, random) {
             Ok(done) => accepted = counted(accepted, done),
             Err(error) => return Err(error),
         }

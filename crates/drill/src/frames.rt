@@ -1,11 +1,10 @@
 //! How long the one track of a drill is.
 
-ghost use Rattle.std.specs.Prelude.{◌≡◌, ◌≤◌, ◌<◌, ◌^◌};
+ghost use Rattle.std.specs.Prelude.{◌≡◌, ◌<◌, ◌^◌};
 ghost use Rattle.otio_model.specs.Counts.{count};
-ghost use Rattle.coord.specs.Programs as programs;
 ghost use Rattle.drill.specs.Frames as frames;
 
-use coord::record_rate;
+use coord::frame_ticks;
 use otio_model::Timeline;
 
 /// How long the first root child is, in ticks; 0 where there is none.
@@ -18,14 +17,6 @@ pub fn track_ticks(timeline: &Timeline) -> u128
         Some(item) => item.length_or_zero() as u128,
         None => 0,
     }
-}
-
-/// The ticks of a record frame.
-pub fn frame_ticks(timeline: &Timeline) -> u128
-    ensures value { result ≡ programs.frame_ticks (programs.record_rate timeline.now) }
-    ensures some { 1 ≤ result }
-{
-    record_rate(timeline).frame_ticks() as u128
 }
 
 /// How long the first root child is, in whole record frames; 0 where there is none.

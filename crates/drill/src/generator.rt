@@ -6,12 +6,12 @@ ghost use Rattle.drill.specs.Draws as draws;
 /// A generator of numbers, each made from the one before (a linear congruential generator modulo
 /// 2^64, of which the upper 31 bits are used).
 #[derive(Clone, Copy)]
-pub struct Generator {
+pub struct Random {
     /// The number that it stands at: the seed at first.
     pub state: u64,
 }
 
-// The generator's number behind a draw.
+// The generator's number after a draw.
 fn next(state: u64) -> u64
     ensures { result ≡ draws.next state }
 {
@@ -19,7 +19,7 @@ fn next(state: u64) -> u64
     (raised % 18_446_744_073_709_551_616) as u64
 }
 
-impl Generator {
+impl Random {
     /// A number that is drawn of those below `below`.
     pub fn draw(&mut self, below: u128) -> u64
         requires { 1 ≤ below }

@@ -29,9 +29,9 @@ mod whole_drill;
 
 pub use channels::channel_sum;
 pub use draw_laws::draws_are_worked;
-pub use edit_loop::{run_edits, undo_all};
-pub use frames::{frame_ticks, track_frames, track_ticks};
-pub use generator::Generator;
+pub use edit_loop::{Edited, run_edits, undo_all};
+pub use frames::{track_frames, track_ticks};
+pub use generator::Random;
 pub use laws::{one_outcome, undone_is_start};
 pub use lines::write_tally;
 pub use list_outcome::Listed;

@@ -17,7 +17,7 @@ use media_list::MediaList;
 use otio_model::Timeline;
 use std::alloc::{AllocError, Global};
 
-// The reason that a fault tells; none where it is want of memory.
+// The reason that a fault has; `None` where memory ran out.
 fn why_of(fault: NotCarried) -> Option<Why>
     ensures { result ≡ reasons.why_of fault }
 {

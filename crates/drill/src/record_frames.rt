@@ -4,7 +4,8 @@ ghost use Rattle.std.specs.Prelude.{◌≡◌, ◌<◌, ◌^◌};
 ghost use Rattle.otio_model.specs.Counts.{count as count_all};
 ghost use Rattle.drill.specs.Sums as sums;
 
-use crate::frames::{frame_ticks, track_ticks};
+use crate::frames::track_ticks;
+use coord::frame_ticks;
 use otio_model::Timeline;
 
 /// How many record frames the first root child takes, the last one whole; 0 where there is no

@@ -10,14 +10,12 @@ use std::alloc::{AllocError, Global};
 const LINES: &[u8] = b"R0\t24\t0\t100000\tr0.mov\nR1\t24\t0\t100000\tr1.mov\n\
     R2\t24\t0\t100000\tr2.mov\nR3\t24\t0\t100000\tr3.mov";
 
-// Want of memory, which is all that reading the lines fails for.
-fn want_of_memory(fault: MediaFault) -> AllocError
+// Out of memory, which is all that reading the lines fails for.
+fn out_of_memory(fault: MediaFault) -> AllocError
     requires { fault ≡ MediaFault.Memory }
 {
-    match fault {
-        MediaFault::Memory => AllocError,
-        _ => unreachable!(),
-    }
+    drop(fault);
+    AllocError
 }
 
 /// The media that a drill's clips show: four reels. An error comes where memory runs out.
@@ -26,6 +24,6 @@ pub fn media(alloc: Global) -> Result<MediaList, AllocError>
 {
     match MediaList::read(alloc, LINES) {
         Ok(list) => Ok(list),
-        Err(fault) => Err(want_of_memory(fault)),
+        Err(fault) => Err(out_of_memory(fault)),
     }
 }

@@ -17,7 +17,7 @@ use otio_model::Timeline;
 use show_prog::{Clock, clock_of, show_at};
 use std::alloc::{AllocError, Global};
 
-// The record frame so many behind another; an error where its number leaves 128 bits.
+// The record frame so many after another; an error where its number leaves 128 bits.
 fn frame_behind(first: i128, count: u128) -> Result<i128, AllocError>
     ensures { IfOk result (λ frame. frame ≡ first +ℤ pos count) }
 {

@@ -1,8 +1,8 @@
-//! What a drill tells.
+//! What a drill reports.
 
 use edl_frames::Why;
 
-/// What a drill tells of the list of its timeline.
+/// What a drill reports of the list of its timeline.
 #[derive(Clone, Copy)]
 pub enum Carried {
     /// The list was made and conformed.
@@ -18,7 +18,7 @@ pub enum Carried {
     No(Why),
 }
 
-/// What a drill tells.
+/// What a drill reports.
 #[derive(Clone, Copy)]
 pub struct Tally {
     /// How many edits were accepted.

@@ -1,35 +1,32 @@
 //! The timeline.
 
 ghost use Rattle.std.specs.Prelude.{◌≡◌, IfOk, OnOk, codes};
-ghost use Rattle.edits.specs.Finest as finest;
+ghost use Rattle.tick_time.specs.FixedRates as rates;
 ghost use Rattle.drill.specs.Media.{rows};
 ghost use Rattle.tick_time.specs.Frames.{IsFrames};
 ghost use Rattle.edit_script.specs.Keeping.{IsEditable};
-ghost use Rattle.drill.specs.Starting.{IsStart, behind_start, first_frame, stack_with, track_with};
+ghost use Rattle.drill.specs.Starting.{IsStart, behind_start, first_frame, root_of, video_track};
 
-use crate::clips::{rate_24, start_items};
-use crate::generator::Generator;
+use crate::clips::start_items;
+use crate::generator::Random;
 use media_list::MediaList;
 use otio_model::{
     Children, Effects, Item, ItemOf, Items, Markers, Stack, StackOf, Timeline, TrackOf,
 };
 use sequences::{NamedValues, Text};
 use std::alloc::{AllocError, Global};
-use tick_time::Time;
+use tick_time::{Time, rate_24};
 
 // Where the timeline begins.
 fn start() -> Time
-    ensures { IsFrames finest.rate_24 first_frame result }
+    ensures { IsFrames rates.rate_24 first_frame result }
 {
-    match Time::frames(86_400, rate_24()) {
-        Ok(time) => time,
-        Err(_) => unreachable!(),
-    }
+    Time::of_frames(86_400, rate_24())
 }
 
 // A Video track with these items.
 fn track(alloc: Global, items: Items) -> Result<Item, AllocError>
-    ensures { IfOk result (λ track. track ≡ track_with items) }
+    ensures { IfOk result (λ track. track ≡ video_track items) }
 {
     let children = Children::of(alloc, items)?;
     let kind = Text::of(alloc, "Video")?;
@@ -48,7 +45,7 @@ fn track(alloc: Global, items: Items) -> Result<Item, AllocError>
 
 // The root stack with this track alone.
 fn tracks(alloc: Global, track: Item) -> Result<Stack, AllocError>
-    ensures { IfOk result (λ tracks. tracks ≡ stack_with track) }
+    ensures { IfOk result (λ tracks. tracks ≡ root_of track) }
 {
     let mut list = match Vec::with_capacity(alloc, 1) {
         Ok(list) => list,
@@ -77,14 +74,14 @@ fn tracks(alloc: Global, track: Item) -> Result<Stack, AllocError>
 pub fn start_timeline(
     alloc: Global,
     media: &MediaList,
-    generator: &mut Generator,
+    random: &mut Random,
 ) -> Result<Timeline, AllocError>
     requires { media.now ≡ rows }
-    ensures timeline { IfOk result (IsStart generator.old.state) }
+    ensures timeline { IfOk result (IsStart random.old.state) }
     ensures editable { IfOk result IsEditable }
-    ensures state { OnOk result (generator.new.state ≡ behind_start generator.old.state) }
+    ensures state { OnOk result (random.new.state ≡ behind_start random.old.state) }
 {
-    let items = start_items(alloc, media, generator)?;
+    let items = start_items(alloc, media, random)?;
     let tracks = tracks(alloc, track(alloc, items)?)?;
     let name = Text::of(alloc, "drill")?;
     let metadata = NamedValues::new(alloc);

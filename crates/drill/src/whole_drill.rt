@@ -14,8 +14,8 @@ ghost use Rattle.drill.specs.Sums as sums;
 ghost use Rattle.edit_script.specs.Steps.{IsReady};
 
 use crate::channels::channel_sum;
-use crate::edit_loop::{run_edits, undo_all};
-use crate::generator::Generator;
+use crate::edit_loop::{Edited, run_edits, undo_all};
+use crate::generator::Random;
 use crate::list_outcome::Listed;
 use crate::list_round_trip::conformed;
 use crate::record_frames::frames_of;
@@ -33,7 +33,7 @@ use undo_log::Log;
 /// What a drill has come to.
 #[derive(Drop)]
 pub struct Drilled {
-    /// What it tells.
+    /// What it reports.
     pub tally: Tally,
     /// The timeline after all edits are undone, which is that before the first.
     pub timeline: Timeline,
@@ -50,25 +50,21 @@ pub fn drill(alloc: Global, seed: u64, count: u32) -> Result<Drilled, AllocError
     ensures edits { IfOk result (λ done. HoldsEdits done.log done.timeline) }
 {
     let media = media(alloc)?;
-    let mut generator = Generator { state: seed };
-    let mut timeline = start_timeline(alloc, &media, &mut generator)?;
-    let mut log = Log::new(alloc);
-    match go_through(
-        alloc,
-        &mut timeline,
-        &mut log,
-        &media,
-        &mut generator,
-        count,
-    ) {
-        Ok(tally) => Ok(Drilled {
-            tally,
-            timeline,
-            log,
-        }),
+    let mut random = Random { state: seed };
+    let timeline = start_timeline(alloc, &media, &mut random)?;
+    let log = Log::new(alloc);
+    let mut edited = Edited { timeline, log };
+    match go_through(alloc, &mut edited, &media, &mut random, count) {
+        Ok(tally) => {
+            let Edited { timeline, log } = edited;
+            Ok(Drilled {
+                tally,
+                timeline,
+                log,
+            })
+        }
         Err(error) => {
-            mem::forget(timeline);
-            mem::forget(log);
+            mem::forget(edited);
             Err(error)
         }
     }
@@ -78,25 +74,25 @@ pub fn drill(alloc: Global, seed: u64, count: u32) -> Result<Drilled, AllocError
 // edits.
 fn go_through(
     alloc: Global,
-    timeline: &mut Timeline,
-    log: &mut Log,
+    edited: &mut Edited,
     media: &MediaList,
-    generator: &mut Generator,
+    random: &mut Random,
     count: u32,
 ) -> Result<Tally, AllocError>
     requires media { media.now ≡ rows }
-    requires ready { IsReady log.old timeline.old }
+    requires ready { IsReady edited.old.log edited.old.timeline }
     ensures gone { IfOk result (λ tally. GoesThrough
-        (round_of generator.old.state log.old timeline.old 0) count tally
-        (state_of log.new timeline.new)) }
-    ensures ready { IsReady log.new timeline.new }
-    ensures edits { HoldsEdits log.old timeline.old → HoldsEdits log.new timeline.new }
+        (round_of random.old.state edited.old.log edited.old.timeline 0) count tally
+        (state_of edited.new.log edited.new.timeline)) }
+    ensures ready { IsReady edited.new.log edited.new.timeline }
+    ensures edits { HoldsEdits edited.old.log edited.old.timeline
+        → HoldsEdits edited.new.log edited.new.timeline }
 {
-    let edits = run_edits(alloc, timeline, log, media, generator, count)?;
-    let items = track_children(timeline);
-    let carried = told(alloc, timeline, media)?;
-    undo_all(alloc, timeline, log)?;
-    match back_sum(alloc, timeline) {
+    let edits = run_edits(alloc, edited, media, random, count)?;
+    let items = track_children(&edited.timeline);
+    let carried = told(alloc, &edited.timeline, media)?;
+    undo_all(alloc, &mut edited.timeline, &mut edited.log)?;
+    match back_sum(alloc, &edited.timeline) {
         Ok(back) => Ok(Tally {
             edits,
             refused: count - edits,
@@ -121,7 +117,7 @@ fn track_children(timeline: &Timeline) -> usize
     }
 }
 
-// What is told of the list of a timeline. The timeline that it conforms to isn't freed: what is
+// What is reported of the list of a timeline. The timeline that it conforms to isn't freed: what is
 // left of a run is little.
 fn told(alloc: Global, timeline: &Timeline, media: &MediaList) -> Result<Carried, AllocError>
     requires media { media.now ≡ rows }

@@ -1,6 +1,5 @@
 -- What fills a gap, as a list.
-use Rattle.std.proofs.Common.{◌≡◌, ◌≢◌, refl, sym, ap, ◌∙◌, ℤ, pos, ◌≤◌, ◌≤ℤ◌, true, false, List, [], ◌∷◌, Some, length, arith}
-use Rattle.limits.specs.Limits.{most_ticks}
+use Rattle.std.proofs.Common.{◌≡◌, ◌≢◌, refl, sym, ap, ◌∙◌, ℤ, ◌≤◌, true, false, List, [], ◌∷◌, Some, length, arith}
 use Rattle.tick_time.specs.declared.rates.Rate.{Rate}
 use Rattle.otio_model.specs.declared.compositions.ItemOf.{ItemOf}
 use Rattle.otio_model.specs.declared.compositions.Listed.{Listed}
@@ -9,14 +8,13 @@ use Rattle.otio_model.specs.declared.edit_types.EditFault.TheVariants as F
 use Rattle.otio_model.specs.declared.edit_types.FillMode.{FillMode}
 use Rattle.otio_model.specs.declared.edit_types.RemoveMode.{RemoveMode}
 use Rattle.otio_model.specs.declared.edit_types.RemoveMode.TheVariants as R
-use Rattle.edits.specs.Children.{all_made, is_far, made, new_gap, with_first}
+use Rattle.edits.specs.Children.{all_made, made, new_gap, with_first}
 use Rattle.edits.specs.Edits.{filling}
 use Rattle.edits.specs.Refusals.{cuts_filling}
 use Rattle.edit_plans.specs.Filled.{IsFilling, IsMisfit, is_wrong}
 use Rattle.edit_plans.specs.declared.gap_fill.FillFault.{FillFault}
 use Rattle.edit_plans.specs.declared.gap_fill.FillFault.TheVariants as G
 use Rattle.edit_ops.specs.Zoned.{in_place, misfit, told}
-use Rattle.edit_ops.proofs.Items.{gap_near}
 
 pub right_of : (mode : FillMode) (x y : ItemOf Listed) (m room : ℤ) (rate : Rate)
     → IsFilling mode x m rate y → m ≡ room → is_wrong mode x room ≡ false
@@ -65,7 +63,3 @@ gap_made rate mode n m y put h f e g =
     ap (λ z. all_made rate (in_place z n)) h
     ∙ ap (λ z. all_made rate (new_gap z ∷ [])) (sym e)
     ∙ ap (λ o. with_first o (Some [])) f ∙ ap Some (sym g)
-
-pub gap_close : (n m : ℤ) → is_far (new_gap m) ≡ true → m ≡ n → pos 0 ≤ℤ n → n ≤ℤ pos most_ticks
-    → ⊥
-gap_close n m f e low high = gap_near n low high (ap (λ z. is_far (new_gap z)) (sym e) ∙ f)

@@ -1,5 +1,5 @@
 -- Each of the five edits of lists: its tests, and what it puts between two instants.
-use Rattle.std.proofs.Common.{◌≡◌, refl, sym, ap, subst, ◌∙◌, ℕ, ◌≤◌, ℤ, pos, ◌+ℤ◌, ◌*ℤ◌, Bool, true, false, not, List, [], ◌∷◌, Option, Some, None, length, arith}
+use Rattle.std.proofs.Common.{◌≡◌, refl, sym, ap, subst, ◌∙◌, ℕ, ◌≤◌, ℤ, pos, ◌+ℤ◌, ◌*ℤ◌, Bool, true, false, not, cond, List, [], ◌∷◌, Option, Some, None, length, arith}
 use Rattle.std.specs.Prelude.{option_map}
 use Rattle.std.proofs.lemmas.Int.{ints}
 use Rattle.tick_time.specs.declared.rates.Rate.{Rate}
@@ -16,13 +16,14 @@ use Rattle.otio_model.specs.declared.edit_types.RemoveMode.TheVariants as R
 use Rattle.edits.specs.Children.{Child, Old, all_made, child_ticks, ticks}
 use Rattle.edits.specs.Cuts.{olds, put_between, strip}
 use Rattle.edits_law.specs.Editable.{IsEditItem}
-use Rattle.edits.specs.After.{frame_of, list_of, rate_of}
+use Rattle.edits.specs.After.{at_of, frame_of, list_of, place_of, rate_of}
 use Rattle.edits.specs.Edges.{Held, Zone, held_at, end, is_zero, item_zone, start}
 use Rattle.edits.specs.Edits.{at_held, edited, filled, filling, removed}
 use Rattle.edits.specs.Narrow.{touched}
 use Rattle.edits.specs.Refusals.{cuts_filling, early_fault, long, pin_fault, test}
 use Rattle.edits.specs.Zones.{touches}
 use Rattle.edit_plans.specs.Filled.{is_wrong}
+use Rattle.edit_ops.specs.Answered.{put_edit}
 use Rattle.edit_ops.specs.Begun.{IsBegun, IsHolding}
 use Rattle.edit_ops.specs.Zoned.{IsZoned, cuts_then, in_place, in_place_ticks, misfit, phase_by}
 use Rattle.edit_ops.proofs.Tests.{begun_tests, fill_tests}
@@ -35,15 +36,6 @@ cuts_same t e a b c d f g =
 
 one_more : (n : ℤ) → n ≡ n +ℤ pos 0
 one_more n = omega (arith, ints)
-
--- what holds an instant, as the code has the list and the instant
-nothing : (l m : List (ItemOf Listed)) (v w : ℤ) → l ≡ m → v ≡ w → held_at l v ≡ None
-    → held_at m w ≡ None
-nothing l m v w e f h = ap (λ y. held_at y w) (sym e) ∙ ap (held_at l) (sym f) ∙ h
-
-kept_at : (l m : List (ItemOf Listed)) (v w : ℤ) (h : Held) → l ≡ m → v ≡ w → held_at l v ≡ Some h
-    → held_at m w ≡ Some h
-kept_at l m v w h e f k = ap (λ y. held_at y w) (sym e) ∙ ap (held_at l) (sym f) ∙ k
 
 -- an edit of a held item, and what it touches
 by_held : (l : List (ItemOf Listed)) (w : ℤ) (h : Held) (g : Held → List Child)
@@ -67,7 +59,7 @@ overwrite_early : (t : Timeline) (p : List ℕ) (at : ℤ) (x : ItemOf Listed) (
     ≡ overwrite_tests t (A.Overwrite p at x) x (at *ℤ frame_of t) ((at *ℤ frame_of t) +ℤ ticks x)
 overwrite_early t p at x r w k = begun_tests t (A.Overwrite p at x) p at r w _ refl refl k refl
 
-pub overwrite_empty : (t : Timeline) (p : List ℕ) (at : ℤ) (x : ItemOf Listed) (r : Rate) (w : ℤ)
+overwrite_empty : (t : Timeline) (p : List ℕ) (at : ℤ) (x : ItemOf Listed) (r : Rate) (w : ℤ)
     (b : Bool) → IsBegun t p at r w → b ≡ is_zero (ticks x) → b ≡ true
     → early_fault t (A.Overwrite p at x) ≡ Some F.Empty
 overwrite_empty t p at x r w b k f g =
@@ -75,7 +67,7 @@ overwrite_empty t p at x r w b k f g =
     ∙ ap (λ z. test z F.Empty (cuts_then t (A.Overwrite p at x) (at *ℤ frame_of t)
     ((at *ℤ frame_of t) +ℤ ticks x))) (sym f ∙ g)
 
-pub overwrite_zone : (t : Timeline) (p : List ℕ) (at : ℤ) (x : ItemOf Listed) (r : Rate)
+overwrite_zone : (t : Timeline) (p : List ℕ) (at : ℤ) (x : ItemOf Listed) (r : Rate)
     (w a n to : ℤ) (b : Bool) (put : List (ItemOf Listed)) → IsEditItem x → IsBegun t p at r w
     → b ≡ is_zero (ticks x) → b ≡ false → a ≡ w → n ≡ ticks x → to ≡ w +ℤ ticks x → put ≡ x ∷ []
     → IsZoned t (A.Overwrite p at x) p a to (Old x ∷ []) put n
@@ -104,7 +96,7 @@ insert_early : (t : Timeline) (p : List ℕ) (at : ℤ) (x : ItemOf Listed) (r :
     ≡ overwrite_tests t (A.Insert p at x) x (at *ℤ frame_of t) (at *ℤ frame_of t)
 insert_early t p at x r w k = begun_tests t (A.Insert p at x) p at r w _ refl refl k refl
 
-pub insert_empty : (t : Timeline) (p : List ℕ) (at : ℤ) (x : ItemOf Listed) (r : Rate) (w : ℤ)
+insert_empty : (t : Timeline) (p : List ℕ) (at : ℤ) (x : ItemOf Listed) (r : Rate) (w : ℤ)
     (b : Bool) → IsBegun t p at r w → b ≡ is_zero (ticks x) → b ≡ true
     → early_fault t (A.Insert p at x) ≡ Some F.Empty
 insert_empty t p at x r w b k f g =
@@ -112,7 +104,7 @@ insert_empty t p at x r w b k f g =
     ∙ ap (λ z. test z F.Empty (cuts_then t (A.Insert p at x) (at *ℤ frame_of t)
     (at *ℤ frame_of t))) (sym f ∙ g)
 
-pub insert_zone : (t : Timeline) (p : List ℕ) (at : ℤ) (x : ItemOf Listed) (r : Rate)
+insert_zone : (t : Timeline) (p : List ℕ) (at : ℤ) (x : ItemOf Listed) (r : Rate)
     (w a n to : ℤ) (b : Bool) (put : List (ItemOf Listed)) → IsEditItem x → IsBegun t p at r w
     → b ≡ is_zero (ticks x) → b ≡ false → a ≡ w → n ≡ ticks x → to ≡ w → put ≡ x ∷ []
     → IsZoned t (A.Insert p at x) p a to (Old x ∷ []) put n (cuts_then t (A.Insert p at x) a to)
@@ -133,30 +125,50 @@ insert_zone t p at x r w a n to b put j k f g q e h i =
       touches = refl;
     }) from end e i (cuts_same t (A.Insert p at x) _ _ a to from end)
 
+-- ---- both
+
+pub put_place : (over : Bool) (p : List ℕ) (at : ℤ) (x : ItemOf Listed)
+    → place_of (put_edit over p at x) ≡ p
+put_place true p at x = refl
+put_place false p at x = refl
+
+pub put_frame : (over : Bool) (p : List ℕ) (at : ℤ) (x : ItemOf Listed)
+    → at_of (put_edit over p at x) ≡ at
+put_frame true p at x = refl
+put_frame false p at x = refl
+
+pub put_empty : (over : Bool) (t : Timeline) (p : List ℕ) (at : ℤ) (x : ItemOf Listed) (r : Rate)
+    (w : ℤ) (b : Bool) → IsBegun t p at r w → b ≡ is_zero (ticks x) → b ≡ true
+    → early_fault t (put_edit over p at x) ≡ Some F.Empty
+put_empty true t p at x r w b k f g = overwrite_empty t p at x r w b k f g
+put_empty false t p at x r w b k f g = insert_empty t p at x r w b k f g
+
+pub put_zoned : (over : Bool) (t : Timeline) (p : List ℕ) (at : ℤ) (x : ItemOf Listed) (r : Rate)
+    (w a n to : ℤ) (b : Bool) (put : List (ItemOf Listed)) → IsEditItem x → IsBegun t p at r w
+    → b ≡ is_zero (ticks x) → b ≡ false → a ≡ w → n ≡ ticks x
+    → to ≡ w +ℤ cond over (ticks x) (pos 0) → put ≡ x ∷ []
+    → IsZoned t (put_edit over p at x) p a to (Old x ∷ []) put n
+    (cuts_then t (put_edit over p at x) a to)
+put_zoned true t p at x r w a n to b put j k f g q e h i =
+    overwrite_zone t p at x r w a n to b put j k f g q e h i
+put_zoned false t p at x r w a n to b put j k f g q e h i =
+    insert_zone t p at x r w a n to b put j k f g q e (h ∙ sym (one_more w)) i
+
 -- ---- slice
 
--- nothing holds the instant
-pub slice_none : (t : Timeline) (p : List ℕ) (at : ℤ) (r : Rate) (w v : ℤ)
-    (l : List (ItemOf Listed)) → IsBegun t p at r w → l ≡ list_of t (A.Slice p at)
-    → held_at l v ≡ None → v ≡ w → early_fault t (A.Slice p at) ≡ Some F.NoItem
-slice_none t p at r w v l b e m f =
-    begun_tests t (A.Slice p at) p at r w None refl refl b (nothing l _ v w e f m)
-
-pub slice_held : (t : Timeline) (p : List ℕ) (at : ℤ) (r : Rate) (w a to k v : ℤ)
-    (put l : List (ItemOf Listed)) (from n : ℤ) (gap : Bool) → IsBegun t p at r w
-    → l ≡ list_of t (A.Slice p at) → IsHolding l v from n gap → v ≡ w → a ≡ w → to ≡ w
+pub slice_held : (t : Timeline) (p : List ℕ) (at : ℤ) (r : Rate) (w a to k : ℤ)
+    (put : List (ItemOf Listed)) (from n : ℤ) (gap : Bool) → IsBegun t p at r w
+    → IsHolding (list_of t (A.Slice p at)) w from n gap → a ≡ w → to ≡ w
     → k ≡ pos 0 → put ≡ [] → IsZoned t (A.Slice p at) p a to [] put k
     (cuts_then t (A.Slice p at) a to)
-slice_held t p at r w a to k v put l from n gap b s h q f g e i =
+slice_held t p at r w a to k put from n gap b h f g e i =
     let first : a ≡ at *ℤ frame_of t = f ∙ b.stands in
     let last : to ≡ at *ℤ frame_of t = g ∙ b.stands in
-    let there : held_at (list_of t (A.Slice p at)) w ≡ Some h.held =
-    kept_at l _ v w h.held s q h.there in
     zoned_as t (A.Slice p at) p (at *ℤ frame_of t) (at *ℤ frame_of t) a to
     (pos 0) k [] [] put _ _ (record {
       there = refl;
       item = tt;
-      tests = begun_tests t (A.Slice p at) p at r w (Some h.held) refl refl b there;
+      tests = begun_tests t (A.Slice p at) p at r w (Some h.held) refl refl b h.there;
       edited = refl;
       made = refl;
       few = omega arith;
@@ -165,17 +177,6 @@ slice_held t p at r w a to k v put l from n gap b s h q f g e i =
     }) first last e i (cuts_same t (A.Slice p at) _ _ a to first last)
 
 -- ---- remove
-
-pub remove_none : (t : Timeline) (p : List ℕ) (at : ℤ) (mode : RemoveMode) (r : Rate) (w v : ℤ)
-    (l : List (ItemOf Listed)) → IsBegun t p at r w → l ≡ list_of t (A.Remove p at mode)
-    → held_at l v ≡ None → v ≡ w → early_fault t (A.Remove p at mode) ≡ Some F.NoItem
-remove_none t p at mode r w v l b e m f =
-    begun_tests t (A.Remove p at mode) p at r w None refl refl b (nothing l _ v w e f m)
-
--- how long what comes in its place is, as the code counts
-pub left_known : (mode : RemoveMode) (n m j k : ℤ) → j ≡ in_place_ticks mode m → m ≡ n → k ≡ j
-    → k ≡ in_place_ticks mode n
-left_known mode n m j k e f g = g ∙ e ∙ ap (in_place_ticks mode) f
 
 in_place_long : (mode : RemoveMode) (n : ℤ) → in_place_ticks mode n ≡ long (in_place mode n)
 in_place_long R.Gap n = one_more n
@@ -233,18 +234,6 @@ remove_zone t p at mode r w a n c m to k gap put b i q v e f g few =
 
 -- ---- fill
 
-pub fill_none : (t : Timeline) (p : List ℕ) (at : ℤ) (mode : FillMode) (x : ItemOf Listed)
-    (r : Rate) (w v : ℤ) (l : List (ItemOf Listed)) → IsBegun t p at r w
-    → l ≡ list_of t (A.Fill p at mode x) → held_at l v ≡ None → v ≡ w
-    → early_fault t (A.Fill p at mode x) ≡ Some F.NoItem
-fill_none t p at mode x r w v l b e m f =
-    begun_tests t (A.Fill p at mode x) p at r w None refl refl b (nothing l _ v w e f m)
-
--- how long a filling is, as the code counts
-pub filling_known : (mode : FillMode) (x : ItemOf Listed) (m j k : ℤ)
-    → j ≡ child_ticks (filling mode x m) → k ≡ j → k ≡ child_ticks (filling mode x m)
-filling_known mode x m j k e f = f ∙ e
-
 -- the tests of a fill in a gap of so many ticks
 abbrev pub fill_rest : Timeline → List ℕ → ℤ → FillMode → ItemOf Listed → Bool → ℤ → ℤ → ℤ
     → Option EditFault
@@ -277,13 +266,10 @@ fill_early t p at mode x r w a n to gap b i e =
 
 -- what holds the instant is no gap
 pub fill_other : (t : Timeline) (p : List ℕ) (at : ℤ) (mode : FillMode) (x : ItemOf Listed)
-    (r : Rate) (w a n : ℤ) (gap : Bool) (v : ℤ) (l : List (ItemOf Listed)) → IsBegun t p at r w
-    → l ≡ list_of t (A.Fill p at mode x) → v ≡ w → IsHolding l v a n gap → gap ≡ false
+    (r : Rate) (w a n : ℤ) (gap : Bool) → IsBegun t p at r w
+    → IsHolding (list_of t (A.Fill p at mode x)) w a n gap → gap ≡ false
     → early_fault t (A.Fill p at mode x) ≡ Some F.NotGap
-fill_other t p at mode x r w a n gap v l b e f h g =
-    let i : IsHolding (list_of t (A.Fill p at mode x)) w a n gap =
-    subst (λ y. IsHolding (list_of t (A.Fill p at mode x)) y a n gap) f
-    (subst (λ y. IsHolding y v a n gap) e h) in
+fill_other t p at mode x r w a n gap b i g =
     fill_early t p at mode x r w a n (a +ℤ child_ticks (filling mode x n)) gap b i refl
     ∙ ap (λ z. fill_rest t p at mode x z n a (a +ℤ child_ticks (filling mode x n))) g
 

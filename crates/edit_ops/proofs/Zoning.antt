@@ -21,7 +21,8 @@ use Rattle.edits.specs.Refusals.{cuts_ends, early_fault, IsRefused, long, pin_fa
 use Rattle.edits.specs.Zones.{touches}
 use Rattle.edit_plans.proofs.LongLemmas.{long_between}
 use Rattle.edit_plans.specs.Planned.{IsMiddle}
-use Rattle.edit_ops.specs.Zoned.{IsZoned, change, cuts_then, phase_by, pin_by}
+use Rattle.edit_plans.specs.Pins.{pin_by}
+use Rattle.edit_ops.specs.Zoned.{IsZoned, change, cuts_then, phase_by}
 
 -- ---- the test of pinned lengths
 
@@ -183,55 +184,50 @@ far_known t p l put a b from to f far g h e n k z =
 
 -- what the test of pinned lengths comes to
 pub pin_known : (t : Timeline) (p : List ℕ) (l put : List (ItemOf Listed))
-    (a b c d m from to ticks total more : ℤ) (res : Option EditFault)
+    (from to ticks a m total more : ℤ) (res : Option EditFault)
     → ((e : Edit) → place_of e ≡ p → l ≡ list_of t e) → total ≡ added l → pos 0 ≤ℤ from
-    → from ≤ℤ to → more ≡ change a b c d → pin_by m p t ≡ res → a ≡ total → b ≡ from → c ≡ ticks
-    → d ≡ to → m ≡ more → (e : Edit) (n : List Child)
-    → IsZoned t e p from to n put ticks (pin_fault t e) → pin_fault t e ≡ res
-pin_known t p l put a b c d m from to ticks total more res f sum low high o y ga gb gc gd gm e n z =
+    → from ≤ℤ to → more ≡ change a from ticks to → pin_by m p t ≡ res → a ≡ total → m ≡ more
+    → (e : Edit) (n : List Child) → IsZoned t e p from to n put ticks (pin_fault t e)
+    → pin_fault t e ≡ res
+pin_known t p l put from to ticks a m total more res f sum low high o y ga gm e n z =
     pin_is t e p l from to ticks total more n put (pin_fault t e) z (f e z.there) sum low
-    (omega (arith, ints, low, high))
-    (o ∙ ap (λ y. change y b c d) ga ∙ ap (λ y. change total y c d) gb
-    ∙ ap (λ y. change total from y d) gc ∙ ap (change total from ticks) gd)
+    (omega (arith, ints, low, high)) (o ∙ ap (λ y. change y from ticks to) ga)
     ∙ ap (λ y. pin_by y p t) (sym gm) ∙ y
 
-pub pin_passed : (t : Timeline) (p : List ℕ) (put : List (ItemOf Listed)) (a b from to ticks : ℤ)
-    → a ≡ from → b ≡ to → (e : Edit) (n : List Child)
-    → IsZoned t e p from to n put ticks (pin_fault t e) → pin_fault t e ≡ None
-    → IsZoned t e p a b n put ticks None
-pin_passed t p put a b from to ticks g h e n z k =
-    zoned_as t e p from to a b ticks ticks n put put _ None z g h refl refl k
+pub pin_passed : {t : Timeline} {e : Edit} {p : List ℕ} {from to ticks : ℤ} {n : List Child}
+    {put : List (ItemOf Listed)} → IsZoned t e p from to n put ticks (pin_fault t e)
+    → pin_fault t e ≡ None → IsZoned t e p from to n put ticks None
+pin_passed {t} {e} {p} {from} {to} {ticks} {n} {put} z k =
+    subst (λ y. IsZoned t e p from to n put ticks y) k z
 
-pub pin_refused : (t : Timeline) (p : List ℕ) (put : List (ItemOf Listed)) (from to ticks : ℤ)
-    (e : Edit) (n : List Child) (fault : EditFault)
+pub pin_refused : {t : Timeline} {e : Edit} {p : List ℕ} {from to ticks : ℤ} {n : List Child}
+    {put : List (ItemOf Listed)} {fault : EditFault}
     → IsZoned t e p from to n put ticks (pin_fault t e) → pin_fault t e ≡ Some fault
     → IsRefused t e fault
-pin_refused t p put from to ticks e n fault z k = at_once (z.tests ∙ k)
+pin_refused z k = at_once (z.tests ∙ k)
 
 -- what the test of cuts comes to
-cuts_same : (t : Timeline) (e : Edit) (l : List (ItemOf Listed)) (a b from to : ℤ) (w : Bool)
-    → l ≡ list_of t e → w ≡ cuts_ends l a b → a ≡ from → b ≡ to
+cuts_same : (t : Timeline) (e : Edit) (l : List (ItemOf Listed)) (from to : ℤ) (w : Bool)
+    → l ≡ list_of t e → w ≡ cuts_ends l from to
     → cuts_then t e from to ≡ phase_by w (pin_fault t e)
-cuts_same t e l a b from to w s c g h =
-    ap (λ y. phase_by (cuts_ends (list_of t e) y to) (pin_fault t e)) (sym g)
-    ∙ ap (λ y. phase_by (cuts_ends (list_of t e) a y) (pin_fault t e)) (sym h)
-    ∙ ap (λ y. phase_by (cuts_ends y a b) (pin_fault t e)) (sym s)
+cuts_same t e l from to w s c =
+    ap (λ y. phase_by (cuts_ends y from to) (pin_fault t e)) (sym s)
     ∙ ap (λ y. phase_by y (pin_fault t e)) (sym c)
 
-pub cuts_passed : (t : Timeline) (p : List ℕ) (l put : List (ItemOf Listed))
-    (a b c d k from to ticks : ℤ) (w : Bool) → ((e : Edit) → place_of e ≡ p → l ≡ list_of t e)
-    → w ≡ cuts_ends l a b → w ≡ true → a ≡ from → b ≡ to → c ≡ from → d ≡ to → k ≡ ticks
+pub cuts_passed : {t : Timeline} {p : List ℕ} {l put : List (ItemOf Listed)}
+    {from to ticks : ℤ} {w : Bool} → ((e : Edit) → place_of e ≡ p → l ≡ list_of t e)
+    → w ≡ cuts_ends l from to → w ≡ true
     → (e : Edit) (n : List Child) → IsZoned t e p from to n put ticks (cuts_then t e from to)
-    → IsZoned t e p c d n put k (pin_fault t e)
-cuts_passed t p l put a b c d k from to ticks w f o y g h i j m e n z =
-    zoned_as t e p from to c d ticks k n put put _ _ z i j m refl
-    (cuts_same t e l a b from to w (f e z.there) o g h
-    ∙ ap (λ q. phase_by q (pin_fault t e)) y)
+    → IsZoned t e p from to n put ticks (pin_fault t e)
+cuts_passed {t} {p} {l} {put} {from} {to} {ticks} {w} f o y e n z =
+    subst (λ q. IsZoned t e p from to n put ticks q)
+    (cuts_same t e l from to w (f e z.there) o ∙ ap (λ q. phase_by q (pin_fault t e)) y) z
 
-pub cuts_refused : (t : Timeline) (p : List ℕ) (l put : List (ItemOf Listed))
-    (a b from to ticks : ℤ) (w : Bool) → ((e : Edit) → place_of e ≡ p → l ≡ list_of t e)
-    → w ≡ cuts_ends l a b → w ≡ false → a ≡ from → b ≡ to → (e : Edit) (n : List Child)
-    → IsZoned t e p from to n put ticks (cuts_then t e from to) → IsRefused t e F.Phase
-cuts_refused t p l put a b from to ticks w f o y g h e n z =
-    at_once (z.tests ∙ cuts_same t e l a b from to w (f e z.there) o g h
+pub cuts_refused : {t : Timeline} {p : List ℕ} {l put : List (ItemOf Listed)}
+    {from to ticks : ℤ} {w : Bool} → ((e : Edit) → place_of e ≡ p → l ≡ list_of t e)
+    → w ≡ cuts_ends l from to → w ≡ false
+    → (e : Edit) (n : List Child) → IsZoned t e p from to n put ticks (cuts_then t e from to)
+    → IsRefused t e F.Phase
+cuts_refused {t} {p} {l} {put} {from} {to} {ticks} {w} f o y e n z =
+    at_once (z.tests ∙ cuts_same t e l from to w (f e z.there) o
     ∙ ap (λ q. phase_by q (pin_fault t e)) y)

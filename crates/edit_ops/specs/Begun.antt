@@ -6,7 +6,8 @@ use Rattle.otio_model.specs.declared.compositions.ItemOf.{ItemOf}
 use Rattle.otio_model.specs.declared.compositions.Listed.{Listed}
 use Rattle.otio_model.specs.declared.timelines.Timeline.{Timeline}
 use Rattle.edits.specs.Children.{ticks}
-use Rattle.edits.specs.After.{frame_of, rate_of}
+use Rattle.otio_model.specs.declared.edit_types.Edit.{Edit}
+use Rattle.edits.specs.After.{frame_of, list_of, place_of, rate_of}
 use Rattle.edits.specs.Edges.{Held, held_at, is_gap, start}
 use Rattle.edits.specs.Refusals.{place_fault}
 
@@ -31,3 +32,9 @@ pub record IsHolding (l : List (ItemOf Listed)) (instant from n : ℤ) (gap : Bo
   pub high : from ≤ℤ instant
   pub some : pos 0 <ℤ n
   pub short : n ≤ℤ pos most_ticks
+
+-- the edit is begun, and an item holds its instant, starts here and is so long; whether it is a gap
+pub record IsTaken (t : Timeline) (place : List ℕ) (at : ℤ) (rate : Rate) (instant from n : ℤ)
+    (gap : Bool) : Type 0 where
+  pub begun : IsBegun t place at rate instant
+  pub holding : (e : Edit) → place_of e ≡ place → IsHolding (list_of t e) instant from n gap

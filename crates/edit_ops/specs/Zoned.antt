@@ -1,5 +1,5 @@
 -- An edit of a list, as what it puts between two instants.
-use Rattle.std.specs.Prelude.{◌≡◌, ◌≤◌, ◌+ℤ◌, ◌-ℤ◌, ℕ, ℤ, pos, Bool, not, cond, List, [], ◌∷◌, Option, Some, None, option_map, length}
+use Rattle.std.specs.Prelude.{◌≡◌, ◌≤◌, ◌+ℤ◌, ◌-ℤ◌, ℕ, ℤ, pos, Bool, not, List, [], ◌∷◌, Option, Some, None, length}
 use Rattle.std.specs.Int.{int_max}
 use Rattle.otio_model.specs.declared.compositions.ItemOf.{ItemOf}
 use Rattle.otio_model.specs.declared.compositions.Listed.{Listed}
@@ -14,10 +14,9 @@ use Rattle.edits.specs.Children.{Child, all_made, new_gap}
 use Rattle.edits.specs.Cuts.{put_between, strip}
 use Rattle.edits_law.specs.Editable.{HasEditItem}
 use Rattle.edits.specs.After.{frame_of, list_of, place_of, rate_of}
-use Rattle.edits.specs.Edges.{is_zero}
 use Rattle.edits.specs.Edits.{edited}
 use Rattle.edits.specs.Narrow.{touched}
-use Rattle.edits.specs.Refusals.{cuts_ends, cuts_filling, early_fault, long, pin_fault, test, unpinned}
+use Rattle.edits.specs.Refusals.{cuts_ends, cuts_filling, early_fault, long, pin_fault, test}
 use Rattle.edits.specs.Zones.{touches}
 use Rattle.edit_plans.specs.Filled.{is_wrong}
 use Rattle.edit_plans.specs.declared.gap_fill.FillFault.{FillFault}
@@ -41,10 +40,6 @@ pub record IsZoned (t : Timeline) (e : Edit) (place : List ℕ) (from to : ℤ) 
 -- how much longer a list of so many ticks is with others between two instants
 abbrev pub change : ℤ → ℤ → ℤ → ℤ → ℤ
 change total from ticks to = ((from +ℤ ticks) +ℤ int_max (pos 0) (total -ℤ to)) -ℤ total
-
--- the fault where the track at a place would be so much longer
-abbrev pub pin_by : ℤ → List ℕ → Timeline → Option EditFault
-pin_by more place t = cond (is_zero more) None (option_map F.Unpinned (unpinned place t))
 
 -- the fault of cuts that aren't whole, else another one
 abbrev pub phase_by : Bool → Option EditFault → Option EditFault

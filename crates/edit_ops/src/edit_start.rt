@@ -1,6 +1,6 @@
 //! Where and when an edit is made.
 
-ghost use Rattle.std.specs.Prelude.{◌≡◌, ◌*ℤ◌, ◌≤ℤ◌, ◌<◌, ◌^◌, pos, IfErr, IfOk, None, Some};
+ghost use Rattle.std.specs.Prelude.{◌≡◌, ◌*ℤ◌, ◌≤ℤ◌, pos, IfErr, IfOk, None, Some};
 ghost use Rattle.otio_model.specs.declared.edit_types.Edit.{Edit as AnyEdit};
 ghost use Rattle.edits.specs.After.{at_of, place_of};
 ghost use Rattle.edits.specs.Refusals.{early_fault};
@@ -17,6 +17,8 @@ pub(crate) struct Moment {
     pub(crate) rate: Rate,
     /// The instant, in ticks from the track's start.
     pub(crate) instant: i128,
+    pub(crate) ghost low: { pos 0 ≤ℤ instant },
+    pub(crate) ghost high: { instant ≤ℤ pos 10000000000000000000000000000000000000 },
 }
 
 // So many frames, in ticks.

@@ -8,7 +8,7 @@ ghost use Rattle.edits_law.specs.Editable.{HasEditItem};
 ghost use Rattle.edits.specs.Refusals.{IsRefused};
 ghost use Rattle.edit_plans.specs.Planned.{is_list_edit, IsPlan, ShowsThrough};
 
-use crate::list_edits::{plan_fill, plan_insert, plan_overwrite, plan_remove, plan_slice};
+use crate::list_edits::{plan_fill, plan_put, plan_remove, plan_slice};
 use otio_model::{Edit, EditFault, Patch, Timeline};
 use std::alloc::Global;
 
@@ -25,8 +25,8 @@ pub fn plan_list(alloc: Global, timeline: &Timeline, edit: Edit) -> Result<Patch
         (λ fault. fault ≢ EditFault.Memory → IsRefused timeline.now edit fault) }
 {
     match edit {
-        Edit::Overwrite { place, at, item } => plan_overwrite(alloc, timeline, place, at, item),
-        Edit::Insert { place, at, item } => plan_insert(alloc, timeline, place, at, item),
+        Edit::Overwrite { place, at, item } => plan_put(alloc, timeline, place, at, item, true),
+        Edit::Insert { place, at, item } => plan_put(alloc, timeline, place, at, item, false),
         Edit::Slice { place, at } => plan_slice(alloc, timeline, place, at),
         Edit::Fill {
             place,
@@ -35,10 +35,6 @@ pub fn plan_list(alloc: Global, timeline: &Timeline, edit: Edit) -> Result<Patch
             item,
         } => plan_fill(alloc, timeline, place, at, mode, item),
         Edit::Remove { place, at, mode } => plan_remove(alloc, timeline, place, at, mode),
-        Edit::Trim { .. } => unreachable!(),
-        Edit::Slip { .. } => unreachable!(),
-        Edit::Slide { .. } => unreachable!(),
-        Edit::Ripple { .. } => unreachable!(),
-        Edit::Roll { .. } => unreachable!(),
+        _ => unreachable!(),
     }
 }

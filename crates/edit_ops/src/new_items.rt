@@ -1,6 +1,6 @@
 //! What the five edits of lists put into a track: the items themselves, pieces of them, and gaps.
 
-ghost use Rattle.std.specs.Prelude.{◌≡◌, ◌≢◌, ◌<◌, ◌^◌, ◌≤◌, ◌+ℤ◌, ◌≤ℤ◌, ◌<ℤ◌, pos, true, false};
+ghost use Rattle.std.specs.Prelude.{◌≡◌, ◌≢◌, ◌<◌, ◌^◌, ◌≤◌, ◌≤ℤ◌, ◌<ℤ◌, pos, true, false};
 ghost use Rattle.std.specs.Prelude.{[], ◌∷◌, length, IfErr, IfOk, Some};
 ghost use Rattle.limits.specs.Limits.{most_ticks};
 ghost use Rattle.otio_model.specs.declared.edit_types.EditFault.TheVariants.{Memory};
@@ -16,7 +16,7 @@ ghost use Rattle.edit_ops.specs.Zoned as zoned;
 
 use edit_plans::{FillFault, fill, filling_ticks, is_nothing};
 use otio_model::{EditFault, FillMode, Item, RemoveMode};
-use pieces::{RangedFault, new_gap, ticks_of};
+use pieces::{short_gap, ticks_of};
 use std::alloc::{AllocError, Global};
 use tick_time::Rate;
 
@@ -38,18 +38,6 @@ pub(crate) fn item_ticks(item: &Item) -> i128
     ensures high { result ≤ℤ pos most_ticks }
 {
     ticks_of(item)
-}
-
-/// The instant so many ticks behind another one.
-pub(crate) fn end_of(from: i128, ticks: i128) -> i128
-    requires from_low { pos 0 ≤ℤ from }
-    requires from_high { from ≤ℤ pos 10000000000000000000000000000000000000 }
-    requires low { pos 0 ≤ℤ ticks }
-    requires high { ticks ≤ℤ pos most_ticks }
-    ensures value { result ≡ from +ℤ ticks }
-    ensures least { from ≤ℤ result }
-{
-    from + ticks
 }
 
 /// Whether an item that may be put into a track has no length.
@@ -141,16 +129,7 @@ pub(crate) fn left(
     ensures few { IfOk result (λ put. length put.items ≤ 1) }
 {
     match mode {
-        RemoveMode::Gap => match new_gap(alloc, ticks, rate) {
-            Ok(gap) => match one(alloc, gap) {
-                Ok(put) => Ok(put),
-                Err(_) => Err(AllocError),
-            },
-            Err(fault) => match fault {
-                RangedFault::Memory => Err(AllocError),
-                RangedFault::Range => unreachable!(),
-            },
-        },
+        RemoveMode::Gap => one(alloc, short_gap(alloc, ticks, rate)),
         RemoveMode::Close => Ok(Vec::new(alloc)),
     }
 }

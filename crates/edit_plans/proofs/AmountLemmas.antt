@@ -5,18 +5,13 @@ use Rattle.otio_model.specs.declared.compositions.ItemOf.{ItemOf}
 use Rattle.otio_model.specs.declared.compositions.Listed.{Listed}
 use Rattle.otio_model.specs.Falls.{counts-append}
 use Rattle.otio_model.specs.Lengths.{added, length_of, or_zero}
-use Rattle.otio_model.proofs.KeptLemmas.{added-append, taken_all}
+use Rattle.otio_model.proofs.KeptLemmas.{added-append, taken_all, mapped-append}
 use Rattle.edit_plans.specs.declared.totals.Amount.{Amount}
 use Rattle.edit_plans.specs.Amounts.{amount_in, more, ticks_in}
 use Rattle.edit_plans.proofs.PinLemmas.{up_to}
 
 amounts_by : (a b : Amount) → a.ticks ≡ b.ticks → a.items ≡ b.items → a ≡ b
 amounts_by a b t n = λ i. record { ticks = t i; items = n i }
-
-mapped-append : {A B : Type 0} (f : A → B) (xs ys : List A)
-    → map f (xs ++ ys) ≡ map f xs ++ map f ys
-mapped-append f [] ys = refl
-mapped-append f (x ∷ xs) ys = ap (λ l. f x ∷ l) (mapped-append f xs ys)
 
 pub ticks-append : (xs ys : List (ItemOf Listed)) → ticks_in (xs ++ ys) ≡ ticks_in xs + ticks_in ys
 ticks-append xs ys = ap added (mapped-append length_of xs ys)

@@ -1,4 +1,4 @@
--- The nearest item before an index, and behind it.
+-- The nearest item before an index, and after it.
 use Rattle.std.proofs.Common.{◌≡◌, inl, inr, refl, sym, subst, ap, ◌∙◌, ℕ, zero, suc, ◌+◌, ◌<◌, ◌≤◌, true, false, cond, List, [], ◌∷◌, Some, None, take, drop, length, arith}
 use Rattle.std.specs.Prelude.{slice_get}
 use Rattle.std.proofs.Math.Nat.{eq-or-lt_of_le}
@@ -89,9 +89,9 @@ before_none l index n e p = p.same ∙ ap (λ m. last_item (take m l)) e ∙ not
     nothing [] = refl
     nothing (y ∷ m) = refl
 
--- ---- behind
+-- ---- after
 
--- the children behind the index and before n are transitions
+-- the children after the index and before n are transitions
 pub record Skipped (l : List (ItemOf Listed)) (index n : ℕ) : Type 0 where
   pub same : first_item (drop (index + 1) l) ≡ first_item (drop n l)
   pub between : (j : ℕ) (x : ItemOf Listed) → index < j → j < n → slice_get l j ≡ Some x

@@ -4,6 +4,7 @@ use Rattle.std.proofs.Common.{ℤ, pos, ◌+ℤ◌, ◌-ℤ◌, ◌≤ℤ◌, �
 use Rattle.std.proofs.Common.{List, [], ◌∷◌, ◌++◌, Option, Some, None, take, drop, length, arith}
 use Rattle.std.specs.Prelude.{int_lt, int_le, negsuc, unsigned_abs, ◌&&◌, ◌||◌}
 use Rattle.std.proofs.lemmas.Int.{ints}
+use Rattle.limits.proofs.IntegerSums.{minus-zero as from_zero, minus-minus as less_more}
 use Rattle.tick_time.specs.declared.times.Time.{Time}
 use Rattle.otio_model.specs.declared.compositions.ItemOf.{ItemOf}
 use Rattle.otio_model.specs.declared.compositions.ItemOf.TheVariants.{Clip, Gap, Transition}
@@ -78,7 +79,7 @@ first_no : (p q r s : Bool) → p ≡ false → s ≡ false → ((p && q) || (r 
 first_no p q true s e f = rw (e, f) refl
 first_no p q false s e f = rw e refl
 
--- an overlap that ends before the zone, or begins behind it, isn't stripped
+-- an overlap that ends before the zone, or begins after it, isn't stripped
 early_kept : (x : ItemOf Listed) (a b : ℤ) (far : ℕ) → reach_of x ≤ far → pos far <ℤ a
     → is_stripped a b (overlap_of x) ≡ false
 early_kept (Clip c) a b far h k = refl
@@ -137,12 +138,6 @@ late_none (x ∷ l) a b far h z k =
     (late_unmet x a b far (omega (arith, h)) k)
     (late_none l (a -ℤ ticks x) (b -ℤ ticks x) far (omega (arith, h)) (omega (arith, ints, z))
     (omega (arith, ints, k)))
-
-from_zero : (z : ℤ) → z ≡ z -ℤ pos 0
-from_zero z = omega (arith, ints)
-
-less_more : (z m n : ℤ) → (z -ℤ m) -ℤ n ≡ z -ℤ (m +ℤ n)
-less_more z m n = omega (arith, ints)
 
 -- those that end too early stand ahead
 pub clear_ahead : (l : List (ItemOf Listed)) (i : ℕ) (a b : ℤ) (far : ℕ) → reach_in l ≤ far

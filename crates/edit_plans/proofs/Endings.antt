@@ -3,6 +3,8 @@ use Rattle.std.proofs.Common.{◌≡◌, refl, sym, ap, subst, ◌∙◌, ◌⊎
 use Rattle.std.proofs.Common.{◌<◌, ◌≤◌, ◌^◌, Bool, true, false, List, [], ◌∷◌, ◌++◌, Option, Some}
 use Rattle.std.proofs.Common.{None, length, take, drop, slice_get, arith}
 use Rattle.std.specs.Prelude.{option_and_then, option_map, ◌||◌}
+use Rattle.std.proofs.lemmas.Bool.{or_parts as or_none}
+use Rattle.edits_law.proofs.Clean.{no_length}
 use Rattle.limits.specs.Limits.{most_items}
 use Rattle.tick_time.specs.declared.spans.Span.{Span}
 use Rattle.otio_model.specs.declared.compositions.ItemOf.{ItemOf}
@@ -74,9 +76,6 @@ keeps_fit = record {
   effect = effect_fit;
   gap = record { few = omega arith; known = λ e. cc e; below = λ i q y e. absurd (cc e) };
 }
-
-no_length : NoLength ≡ Long → ⊥
-no_length e = cc e
 
 item_fit : (x : ItemOf Listed) → IsEditItem x → Fit x
 item_fit (Clip c) h = record {
@@ -353,11 +352,6 @@ put_long t e at number put r k =
 or_cases : (a b : Bool) → (a || b) ≡ true → (a ≡ true) ⊎ (b ≡ true)
 or_cases true b e = inl refl
 or_cases false b e = inr e
-
-or_none : (a b : Bool) → (a || b) ≡ false → (a ≡ false) × (b ≡ false)
-or_none false false e = (refl, refl)
-or_none false true e = absurd (cc e)
-or_none true b e = absurd (cc e)
 
 same_timeline : (a b : Timeline) → Some a ≡ Some b → a ≡ b
 same_timeline a b e = cc e

@@ -1,6 +1,8 @@
 -- What fills a gap, and that it is never out of range.
 use Rattle.std.proofs.Common.{◌≡◌, refl, sym, ap, subst, ◌∙◌, ℤ, pos, ◌-ℤ◌, ◌≤ℤ◌, ◌<ℤ◌, Bool, true, false, Some, arith}
-use Rattle.std.specs.Prelude.{int_lt}
+use Rattle.std.specs.Prelude.{int_lt, IfErr}
+use Rattle.std.specs.declared.result.Result.{Result}
+use Rattle.std.specs.declared.result.Result.TheVariants.{Ok, Err}
 use Rattle.std.proofs.lemmas.Int.{ints}
 use Rattle.limits.specs.Limits.{most_ticks}
 use Rattle.otio_model.specs.declared.compositions.ItemOf.{ItemOf}
@@ -141,3 +143,9 @@ pub misfit_as : (mode own : FillMode) (x : ItemOf Listed) (m room : ℤ) (fault 
     → mode ≡ own → m ≡ room → IsMisfit own x m fault → IsMisfit mode x room fault
 misfit_as mode own x m room fault g e f =
     subst (λ z. IsMisfit z x room fault) (sym g) (misfit_in own x m room fault e f)
+
+-- two facts of one fault
+pub faults_both : {A E : Type 0} {P Q R : E → Type 0} (r : Result A E) → IfErr r P → IfErr r Q
+    → ((e : E) → P e → Q e → R e) → IfErr r R
+faults_both (Ok x) p q k = tt
+faults_both (Err e) p q k = k e p q

@@ -2,6 +2,8 @@
 use Rattle.std.proofs.Common.{◌≡◌, refl, sym, ap, ◌∙◌, ℕ, ℤ, pos, Bool, true, false, cond, ◌&&◌, ◌||◌, List, [], ◌∷◌, ◌++◌, Option, Some, None, ◌≤◌, ◌<◌, arith}
 use Rattle.std.specs.Prelude.{not}
 use Rattle.std.proofs.lemmas.Int.{ints}
+use Rattle.edits_law.proofs.Clean.{no_length, no_speed}
+use Rattle.limits.proofs.ListLemmas.{test-one_way as both_ways}
 use Rattle.otio_model.specs.declared.effect_types.Effect.{Effect}
 use Rattle.otio_model.specs.declared.compositions.ItemOf.{ItemOf}
 use Rattle.otio_model.specs.declared.compositions.ItemOf.TheVariants.{Clip, Gap, Transition, Stack, Track}
@@ -22,12 +24,6 @@ use Rattle.edits.specs.Refusals.{is_wrong_fit}
 use Rattle.edit_plans.specs.Filled.{has_no_speed, stands_still}
 
 -- ---- the item of an edit keeps its speed
-
-no_speed : Speed ≡ Long → ⊥
-no_speed e = cc e
-
-no_length : NoLength ≡ Long → ⊥
-no_length e = cc e
 
 kept_by : (k : Bool) (x : ItemOf Listed) (o : Option ℕ)
     → ((fault : ItemFault) → (elim o [
@@ -56,10 +52,6 @@ none_kept false v e = refl
 some_kept : (b : Bool) (v w : ℤ) → cond b (Some v) None ≡ Some w → b ≡ true
 some_kept true v w e = refl
 some_kept false v w e = absurd (cc e)
-
-both_ways : (b : Bool) → b ≡ true → b ≡ false → ⊥
-both_ways true e f = cc f
-both_ways false e f = cc e
 
 pub has_speed : (x : ItemOf Listed) (o : Option ℤ) → IsEditItem x
     → o ≡ kept_speed (pos 1000000) (effects_of x) → o ≡ None → ⊥

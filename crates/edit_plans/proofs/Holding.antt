@@ -1,10 +1,12 @@
--- The child that holds an instant, by the seat of it.
+-- The child that holds an instant, by its index and its start.
 use Rattle.std.proofs.Common.{◌≡◌, refl, sym, subst, ap, ap₂, ◌∙◌, ℕ, zero, suc, ◌+◌, ◌<◌}
 use Rattle.std.proofs.Common.{ℤ, pos, ◌+ℤ◌, ◌-ℤ◌, ◌≤ℤ◌, ◌<ℤ◌, Bool, true, false, arith}
 use Rattle.std.proofs.Common.{List, [], ◌∷◌, Option, Some, None, take, drop, length}
 use Rattle.std.specs.Prelude.{int_lt, int_le, ◌&&◌, ◌%◌, ◌==◌, ◌*ℤ◌, unsigned_abs, option_map}
 use Rattle.std.specs.Prelude.{IfNone, IfSome, slice_get}
 use Rattle.std.proofs.lemmas.Int.{ints, by_lt_z}
+use Rattle.std.proofs.lemmas.Bool.{and_right as and_no, and_from as both}
+pub use Rattle.limits.proofs.ListLemmas.{element-within as got}
 use Rattle.otio_model.specs.declared.compositions.ItemOf.{ItemOf}
 use Rattle.otio_model.specs.declared.compositions.Listed.{Listed}
 use Rattle.otio_model.specs.declared.seeks.Seat.{Seat}
@@ -26,15 +28,8 @@ use Rattle.edit_plans.specs.Parts.{IsHeldAt}
 
 -- ---- whether a child holds an instant
 
-and_no : (a b : Bool) → b ≡ false → (a && b) ≡ false
-and_no true b e = e
-and_no false b e = refl
-
 and_not : (a b : Bool) → a ≡ false → (a && b) ≡ false
 and_not a b e = rw e refl
-
-both : (a b : Bool) → a ≡ true → b ≡ true → (a && b) ≡ true
-both a b e f = rw (e, f) refl
 
 not_yet : (n w : ℤ) → w <ℤ pos 0 → within (pos 0) n w ≡ false
 not_yet n w h = and_not (int_le (pos 0) w) (int_lt w n) (le_no (pos 0) w h)
@@ -60,7 +55,7 @@ held_past (x ∷ l) w h =
     rw (no_longer (ticks x) w (omega (arith, ints, h, low)))
     (ap (option_map (held_behind x)) (held_past l (w -ℤ ticks x) (omega (arith, ints, h))))
 
--- the child at an index, with those before and behind it
+-- the child at an index, with those before and after it
 abbrev pub held_by : List (ItemOf Listed) → ℕ → ItemOf Listed → Held
 held_by l i x = record { before = take i l; item = x; behind = drop (suc i) l }
 
@@ -82,7 +77,7 @@ held_there (y ∷ l) w (suc i) x e h k =
     held_there l (w -ℤ ticks y) i x e (omega (arith, ints, h)) (omega (arith, ints, k)) in
     rw no (ap (option_map (held_behind y)) rest)
 
--- the child that is held starts at or before the instant and ends behind it
+-- the child that is held starts at or before the instant and ends after it
 is_in : (n w : ℤ) → within (pos 0) n w ≡ true → (pos 0 ≤ℤ w) × (w <ℤ n)
 is_in n w e = by_lt_z w (pos 0) (λ h. absurd (cc (e, not_yet n w h)))
     (λ h. by_lt_z w n (λ k. (h, k)) (λ k. absurd (cc (e, no_longer n w k))))
@@ -134,11 +129,6 @@ start_ticks l i =
 
 pub all_ticks : (l : Listed) → pos (lengths_of.added (lengths l)) ≡ added (items_of l)
 all_ticks l = ap pos (all-total l) ∙ sum_ticks (items_of l)
-
-pub got : {A : Type 0} (xs : List A) (i : ℕ) → i < length xs → (x : A) × (slice_get xs i ≡ Some x)
-got [] i h = absurd (omega (arith, h))
-got (x ∷ xs) zero h = (x, refl)
-got (x ∷ xs) (suc i) h = got xs i (omega (arith, h))
 
 one_more : (n : ℕ) → suc n ≡ n + 1
 one_more n = omega arith

@@ -3,7 +3,6 @@ pub mod Passing
 pub mod Clearing
 pub mod Holding
 pub mod LongLemmas
-mod MediaTicks
 pub mod ZoneLemmas
 pub mod Floors
 pub mod Steps

@@ -36,7 +36,7 @@ long_front (x ∷ l) t h = by_lt_z (pos 0) t
     rw (lt_yes (pos 0) t s, le_yes (ticks x) t k) (omega (arith, ints, e))))
     (λ s. rw (lt_no (pos 0) t s) (omega (arith, ints, h, s)))
 
--- a back is what is left of the list, and nothing where the cut lies behind it
+-- a back is what is left of the list, and nothing where the cut lies after it
 pub long_back_within : (l : List (ItemOf Listed)) (t : ℤ) → pos 0 ≤ℤ t → t ≤ℤ added l
     → long (back l t) ≡ added l -ℤ t
 long_back_within [] t h k = omega (arith, ints, h, k)
@@ -88,7 +88,7 @@ long_between l a b n h k =
     ∙ ap (λ z. (a +ℤ long n) +ℤ z) (long_back (strip l a b) b k
     ∙ ap (λ z. int_max (pos 0) (z -ℤ b)) (added_strip l a b))
 
--- the same where the zone ends within the list, and where it ends behind it
+-- the same where the zone ends within the list, and where it ends after it
 pub long_within : (l : List (ItemOf Listed)) (a b m : ℤ) (n : List Child) → pos 0 ≤ℤ a
     → pos 0 ≤ℤ b → b ≤ℤ added l → long n ≡ m
     → long (put_between (strip l a b) a n b) ≡ (a +ℤ m) +ℤ (added l -ℤ b)

@@ -5,6 +5,9 @@ use Rattle.std.proofs.Common.{List, [], ◌∷◌, ◌++◌, take, drop, length}
 use Rattle.std.proofs.Common.{length-append, length-take-le}
 use Rattle.std.specs.Prelude.{int_lt, int_le, ◌||◌}
 use Rattle.std.proofs.lemmas.Int.{ints}
+use Rattle.limits.proofs.IntegerTests.{int_lt-true as lt_is}
+pub use Rattle.limits.proofs.IntegerTests.{int_le-of_difference as lies_to}
+use Rattle.limits.proofs.IntegerSums.{minus-zero as from_zero, minus-minus as less_more}
 use Rattle.otio_model.specs.declared.compositions.ItemOf.{ItemOf}
 use Rattle.otio_model.specs.declared.compositions.Listed.{Listed}
 use Rattle.otio_model.specs.Kept.{reach_in}
@@ -20,23 +23,14 @@ use Rattle.edit_plans.proofs.Clearing.{clear_ahead, late_none, reach_drop}
 pub lies_from : (a b n : ℤ) → int_le b (a +ℤ n) ≡ int_le (b -ℤ a) n
 lies_from a b n = grind (arith, ints)
 
-pub lies_to : (a b : ℤ) → int_le a b ≡ int_le (pos 0) (b -ℤ a)
-lies_to a b = grind (arith, ints)
-
 pub ruleset meets = (lies_from, lies_to)
-
-less_more : (a s n : ℤ) → (a -ℤ s) -ℤ n ≡ a -ℤ (s +ℤ n)
-less_more a s n = omega (arith, ints)
-
-from_zero : (z : ℤ) → z ≡ z -ℤ pos 0
-from_zero z = omega (arith, ints)
 
 zero_more : (n : ℕ) → n ≡ 0 + n
 zero_more n = omega arith
 
 -- ---- the first that is met
 
--- i children that take so many ticks are passed, and the rest are to be asked
+-- i children that take so many ticks are passed, and the rest are still to be tested
 pub record Passing (l : List (ItemOf Listed)) (a b : ℤ) (rest : List (ItemOf Listed)) (at : ℤ)
     (i : ℕ) : Type 0 where
   pub count : length (ahead l a b) ≡ i + length (ahead rest (a -ℤ at) (b -ℤ at))
@@ -44,7 +38,7 @@ pub record Passing (l : List (ItemOf Listed)) (a b : ℤ) (rest : List (ItemOf L
   pub low : pos 0 ≤ℤ at
   pub high : at ≤ℤ pos (i * 705600000000000000000000)
 
-added_both : (l r : List (ItemOf Listed)) → added (l ++ r) ≡ added l +ℤ added r
+pub added_both : (l r : List (ItemOf Listed)) → added (l ++ r) ≡ added l +ℤ added r
 added_both [] r = omega (arith, ints)
 added_both (x ∷ l) r = let e = added_both l r in omega (arith, ints, e)
 
@@ -290,7 +284,7 @@ reach_nothing onto rest a b at k n i p e = p.is ∙ ap
     (λ q. cond (any_met q (a -ℤ at) (b -ℤ at)) (k + length (up_to_met q (a -ℤ at) (b -ℤ at))) n) e
     ∙ ap (λ c. cond c (k + 0) n) (lt_same a at)
 
--- the zone begins behind the end of the list, or it doesn't
+-- the zone begins after the end of the list, or it doesn't
 pub reach_behind : (onto : ℕ) (l : List (ItemOf Listed)) (a b at : ℤ) (k n i m : ℕ)
     → Reaching onto (drop i l) a b at k n i → length l ≤ i → int_lt at a ≡ true → m ≡ k → m ≡ onto
 reach_behind onto l a b at k n i m p h e f =
@@ -303,10 +297,7 @@ pub reach_end : (onto : ℕ) (l : List (ItemOf Listed)) (a b at : ℤ) (k n i : 
 reach_end onto l a b at k n i p h e = sym (reach_nothing onto (drop i l) a b at k n i p
     (none_left l i h) ∙ cond_false (int_lt at a) (k + 0) n e)
 
-lt_is : (a b : ℤ) → int_lt a b ≡ true → a <ℤ b
-lt_is a b e = grind (arith, ints)
-
--- what begins behind all that the zone reaches isn't met, nor is what follows
+-- what begins after all that the zone reaches isn't met, nor is what follows
 pub reach_over : (onto : ℕ) (l : List (ItemOf Listed)) (a b at t u : ℤ) (k n i : ℕ)
     → Reaching onto (drop i l) a b at k n i → a ≤ℤ b → int_lt t u ≡ true → t ≡ b
     → u ≡ at -ℤ pos (reach_in l) → n ≡ onto

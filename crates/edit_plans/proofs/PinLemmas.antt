@@ -19,7 +19,7 @@ up_to xs i x e = rw add-one (of xs i x e)
     of (y ∷ xs) zero x e = let same : y ≡ x = cc e in ap (λ z. z ∷ []) same
     of (y ∷ xs) (suc i) x e = ap (λ l. y ∷ l) (of xs i x e)
 
--- behind the last there is none
+-- after the last there is none
 pub past_end : {A : Type 0} (xs : List A) (i : ℕ) → slice_get xs i ≡ None → drop i xs ≡ []
 past_end [] zero e = refl
 past_end [] (suc i) e = refl

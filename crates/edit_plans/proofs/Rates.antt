@@ -1,21 +1,9 @@
--- The rate at which edits count, and its frame.
-use Rattle.std.proofs.Common.{◌≡◌, ℤ, ap, sym, ◌∙◌, pos}
+-- The frame at which edits count.
+use Rattle.std.proofs.Common.{◌≡◌, ℤ, ap, ◌∙◌, pos}
 use Rattle.tick_time.specs.Rates.{frame}
 use Rattle.tick_time.specs.declared.rates.Rate.{Rate}
-use Rattle.tick_time.proofs.SameValues.{same_rate}
 use Rattle.otio_model.specs.declared.timelines.Timeline.{Timeline}
-use Rattle.coord.specs.Looks.{FrameRate}
-use Rattle.coord.specs.Keys.{frame_rate}
-use Rattle.coord.specs.Programs.{record_rate}
 use Rattle.edits.specs.After.{frame_of, rate_of}
-use Rattle.edits.proofs.RecordRates.{rate_is}
-
--- rates of one fraction are one
-by_frames : (a b : Rate) → frame_rate a ≡ frame_rate b → a ≡ b
-by_frames a b e = same_rate a b (ap (λ (r : FrameRate). r.num) e) (ap (λ (r : FrameRate). r.den) e)
-
-pub edit_rate_is : (t : Timeline) (a : Rate) → frame_rate a ≡ record_rate t → a ≡ rate_of t
-edit_rate_is t a e = by_frames a (rate_of t) (e ∙ sym (rate_is t))
 
 pub frame_is_of : (a : Rate) (z : ℤ) → z ≡ pos (frame a.num a.den) → (t : Timeline) → a ≡ rate_of t
     → z ≡ frame_of t

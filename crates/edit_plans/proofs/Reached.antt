@@ -4,6 +4,8 @@ use Rattle.std.proofs.Common.{ℤ, pos, negsuc, ◌+ℤ◌, ◌-ℤ◌, ◌≤�
 use Rattle.std.proofs.Common.{List, Option, Some, None, length, drop, take, slice_get, add-one, arith}
 use Rattle.std.specs.Prelude.{IfSome, unwrap_or, int_le, int_lt}
 use Rattle.std.proofs.lemmas.Int.{ints}
+use Rattle.std.proofs.lemmas.Bool.{or_left as or_first}
+use Rattle.limits.proofs.IntegerTests.{int_le-true as le_is, int_lt-true as lt_is}
 use Rattle.limits.specs.Limits.{most_ticks}
 use Rattle.tick_time.proofs.BoolLemmas.{both}
 use Rattle.otio_model.specs.declared.compositions.ItemOf.{ItemOf}
@@ -25,13 +27,13 @@ use Rattle.coord.proofs.LookSteps.{is_within, missed_before, missed_behind}
 use Rattle.edits_law.specs.Down.{is_here, is_next, is_side, is_holder, where_so}
 use Rattle.edits_law.specs.Down.{reached, reached_above}
 use Rattle.edit_plans.specs.Way.{further, is_last, is_index, IsBefore, IsBehind, IsNear}
-use Rattle.edit_plans.proofs.Sides.{ticks, here_is, last_more, next_less, holds_at, holds_is}
+use Rattle.edit_plans.proofs.Sides.{holds_by, ticks, here_is, last_more, next_less, holds_at, holds_is}
 use Rattle.edit_plans.proofs.Sides.{side_found, side_none, holder_is, total_taken, total_all}
 use Rattle.edit_plans.proofs.Sides.{taken_more, above_is}
 
 -- ---- where children start
 
--- the child behind one
+-- the child after one
 pub start_after : (l : Listed) (i : ℕ) (x : ItemOf Listed) → slice_get (items_of l) i ≡ Some x
     → start_of l (i + 1) ≡ start_of l i + ticks x
 start_after l i x e =
@@ -58,7 +60,7 @@ has_overlap (Transition t) w e = refl
 has_overlap (Stack s) w e = absurd (cc e)
 has_overlap (Track t) w e = absurd (cc e)
 
--- ---- the children beside an index
+-- ---- the children next to an index
 
 -- the last one before it is found
 pub before_here : (l : Listed) (end n i : ℕ) (x : ItemOf Listed) → n ≡ suc i
@@ -129,9 +131,6 @@ behind_none l from i h side = record {
 }
 
 -- ---- what a track reaches
-
-abbrev holds_by : ℤ → Option (ItemOf Listed) → Bool
-holds_by u o = elim o [ None ↦ false | Some x ↦ overlaps x u ]
 
 same_holds : (l : Listed) (at : ℤ) (j : ℕ) → holds_at (items_of l) at j ≡ overlap_holds l at j
 same_holds l at j =
@@ -237,10 +236,6 @@ index_has : (P : ℕ → Type 0) (o : Option ℕ) (k : ℕ) → is_index o k ≡
 index_has P None k e h = absurd (cc e)
 index_has P (Some i) k e h = let same : i ≡ k = grind (arith, e) in subst P same h
 
-or_first : (a b : Bool) → a ≡ true → (a || b) ≡ true
-or_first true b e = refl
-or_first false b e = absurd (cc e)
-
 or_second : (a b : Bool) → a ≡ false → (a || b) ≡ b
 or_second true b e = absurd (cc e)
 or_second false b e = refl
@@ -274,7 +269,7 @@ cut_start l at j h = by (slice_get (items_of l) j) refl h
     by None e k = absurd (cc k)
     by (Some x) e k = behind_start l j x e (has_overlap x _ k)
 
--- the side behind it
+-- the side after it
 pub side_behind : (v : View) (l : Listed) (k : ℕ) (at r : ℤ) (s : Seat) (o p : Option ℕ)
     → within (pos 0) (pos (added (lengths l))) at ≡ true
     → IsFirstOverlap l at s → IsBefore l s.index o → IsBehind l (s.index + 1) p
@@ -322,12 +317,6 @@ above_none v l k x n u at get e f h =
     (ap₂ (λ m z. within (pos 0) m z) (sym e) (sym f) ∙ h))
 
 -- ---- bounds
-
-le_is : (a b : ℤ) → int_le a b ≡ true → a ≤ℤ b
-le_is a b e = grind (arith, ints)
-
-lt_is : (a b : ℤ) → int_lt a b ≡ true → a <ℤ b
-lt_is a b e = grind (arith, ints)
 
 -- what lies in a length is near
 pub near_within : (n u at : ℤ) → within (pos 0) n u ≡ true → u ≡ at → n ≤ℤ pos most_ticks

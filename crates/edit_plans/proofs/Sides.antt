@@ -40,7 +40,7 @@ here_is zero (suc k) = grind arith
 here_is (suc i) zero = none_further i ∙ grind arith
 here_is (suc i) (suc k) = here_is i k ∙ grind arith
 
--- ---- the items beside an index
+-- ---- the items next to an index
 
 -- one item more that is looked at for the last one
 pub last_more : (k : Option ℕ) (last : Bool) (xs : List (ItemOf Listed)) (i : ℕ) (x : ItemOf Listed)
@@ -80,7 +80,7 @@ holds_at [] w j = false
 holds_at (x ∷ xs) w zero = overlaps x w
 holds_at (x ∷ xs) w (suc j) = holds_at xs (w -ℤ pos (ticks x)) j
 
-abbrev holds_by : ℤ → Option (ItemOf Listed) → Bool
+abbrev pub holds_by : ℤ → Option (ItemOf Listed) → Bool
 holds_by u o = elim o [ None ↦ false | Some x ↦ overlaps x u ]
 
 pub holds_is : (xs : List (ItemOf Listed)) (w : ℤ) (j : ℕ)
@@ -92,7 +92,7 @@ holds_is (x ∷ xs) w (suc j) =
     ap (λ u. holds_by u (slice_get xs j)) (omega (arith, ints))
     ∙ holds_is xs (w -ℤ pos (ticks x)) j
 
--- the search goes on behind an item whose overlap doesn't hold the instant
+-- the search goes on after an item whose overlap doesn't hold the instant
 side_past : (v : View) (k : Option ℕ) (last : Bool) (x : ItemOf Listed) (xs : List (ItemOf Listed))
     (w : ℤ) → overlaps x w ≡ false → is_side k last (looks v (x ∷ xs)) w
     ≡ is_side (passed k) (cond (is_transition x) last (is_here k)) (looks v xs) (w -ℤ pos (ticks x))

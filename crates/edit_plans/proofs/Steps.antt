@@ -4,11 +4,11 @@ use Rattle.std.specs.Prelude.{option_map}
 use Rattle.otio_model.specs.declared.compositions.ItemOf.{ItemOf}
 use Rattle.otio_model.specs.declared.compositions.Listed.{Listed}
 use Rattle.edits.specs.Children.{ticks}
-use Rattle.edits.specs.Edges.{Held, Moves, Room, clamped, first_item, gap_ticks, head_room, is_zero}
-use Rattle.edits.specs.Edges.{last_item, lesser, media_room, room_in, ripple_by, roll_head}
+use Rattle.edits.specs.Edges.{Held, Moves, Handles, clamped, first_item, gap_ticks, head_room, is_zero}
+use Rattle.edits.specs.Edges.{last_item, lesser, clip_handles, handles_in, ripple_by, roll_head}
 use Rattle.edits.specs.Edges.{roll_tail, slip_by, tail_room, trim_by, whole_frames, whole_limit}
-use Rattle.edit_plans.specs.Meanings.{gap_of_before, room_of}
-use Rattle.edit_plans.specs.declared.media_handles.Room.{Room as RoomRow}
+use Rattle.edit_plans.specs.Meanings.{gap_of_before, handles_of}
+use Rattle.edit_plans.specs.declared.media_handles.Handles.{Handles as HandlesRow}
 use Rattle.tick_time.specs.declared.spans.Span.{Span}
 use Rattle.otio_model.specs.declared.compositions.Clip.{Clip as ClipRow}
 use Rattle.otio_model.specs.declared.compositions.ItemOf.TheVariants.{Clip}
@@ -16,16 +16,16 @@ use Rattle.otio_model.specs.Lengths.{clip_range, trimmed_start}
 use Rattle.coord.specs.Speeds.{speed_of}
 
 pub slips : (f by r a b : ℤ) (x : ItemOf Listed) → Some
-    (let m : Room = record { before = a; behind = b } in m) ≡ media_room x
+    (let m : Handles = record { before = a; behind = b } in m) ≡ clip_handles x
     → r ≡ clamped (Some (whole_frames f a)) (Some (whole_frames f b)) by
     → (h : Held) → h.item ≡ x → r ≡ slip_by f h by
 slips f by r a b x e g h k =
-    g ∙ ap (λ (o : Option Room). elim o [
+    g ∙ ap (λ (o : Option Handles). elim o [
       | None ↦ by
       | Some room ↦
           clamped (Some (whole_frames f room.before)) (Some (whole_frames f room.behind)) by
     ])
-    (e ∙ ap media_room (sym k))
+    (e ∙ ap clip_handles (sym k))
 
 abbrev pub both : ℤ → ℤ → Moves
 both a b = record { head = a; tail = b }
@@ -94,18 +94,18 @@ rolls_tail f head by r x y s g h k e =
     ∙ sym same
 
 -- the media that a clip has left
-pub room_is : (x : ItemOf Listed) (c : ClipRow) (media : Span) (s n v : ℤ) (r : RoomRow)
+pub room_is : (x : ItemOf Listed) (c : ClipRow) (media : Span) (s n v : ℤ) (r : HandlesRow)
     → x ≡ Clip c → clip_range c ≡ Some media → s ≡ trimmed_start x → n ≡ ticks x → v ≡ speed_of x
-    → r.before ≡ (room_in media s n v).before → r.behind ≡ (room_in media s n v).behind
-    → Some (room_of r) ≡ media_room x
+    → r.before ≡ (handles_in media s n v).before → r.behind ≡ (handles_in media s n v).behind
+    → Some (handles_of r) ≡ clip_handles x
 room_is x c media s n v r e f g h i j k =
-    let room : room_of r ≡ room_in media s n v = ap₂
-    (λ a b. let m : Room = record { before = a; behind = b } in m) j k in
-    let same : room_in media s n v ≡ room_in media (trimmed_start x) (ticks x) (speed_of x) =
-    ap₂ (λ a b. room_in media a b v) g h ∙ ap (room_in media (trimmed_start x) (ticks x)) i in
-    let whole : media_room (Clip c) ≡ Some (room_in media (trimmed_start {C = Listed} (Clip c))
+    let room : handles_of r ≡ handles_in media s n v = ap₂
+    (λ a b. let m : Handles = record { before = a; behind = b } in m) j k in
+    let same : handles_in media s n v ≡ handles_in media (trimmed_start x) (ticks x) (speed_of x) =
+    ap₂ (λ a b. handles_in media a b v) g h ∙ ap (handles_in media (trimmed_start x) (ticks x)) i in
+    let whole : clip_handles (Clip c) ≡ Some (handles_in media (trimmed_start {C = Listed} (Clip c))
     (ticks (Clip c)) (speed_of {C = Listed} (Clip c))) =
-    ap (option_map (λ m. room_in m (trimmed_start {C = Listed} (Clip c)) (ticks (Clip c))
+    ap (option_map (λ m. handles_in m (trimmed_start {C = Listed} (Clip c)) (ticks (Clip c))
     (speed_of {C = Listed} (Clip c)))) f in
-    ap Some (room ∙ same) ∙ ap (λ y. Some (room_in media (trimmed_start y) (ticks y) (speed_of y)))
-    e ∙ sym whole ∙ ap media_room (sym e)
+    ap Some (room ∙ same) ∙ ap (λ y. Some (handles_in media (trimmed_start y) (ticks y) (speed_of y)))
+    e ∙ sym whole ∙ ap clip_handles (sym e)

@@ -53,28 +53,19 @@ on_track (i ∷ place) t e = by (item_at (i ∷ place) t.tracks.children) refl e
     }
 
 -- nothing else stands there
-pub some_there : (place : List ℕ) (t : Timeline) → place_fault place t ≡ None
-    → item_at place t.tracks.children ≡ None → ⊥
-some_there place t e f = let o = on_track place t e in cc (f, o.there)
-
-pub has_children : (place : List ℕ) (t : Timeline) (x : ItemOf Listed) → place_fault place t ≡ None
-    → item_at place t.tracks.children ≡ Some x → children_of x ≡ None → ⊥
-has_children place t x e f g =
+pub some_children : (place : List ℕ) (t : Timeline) → place_fault place t ≡ None
+    → option_and_then children_of (item_at place t.tracks.children) ≡ None → ⊥
+some_children place t e f =
     let o = on_track place t e in
-    let same : x ≡ Track o.track = cc (f, o.there) in
     let none : Path (Option Listed) (children_of (Track o.track)) None =
-    subst (λ y. children_of y ≡ None) same g in
+    ap (option_and_then children_of) (sym o.there) ∙ f in
     cc none
 
-pub children_there : (place : List ℕ) (t : Timeline) (x : ItemOf Listed) (c : Listed)
-    → place_fault place t ≡ None → item_at place t.tracks.children ≡ Some x → children_of x ≡ Some c
+pub children_are : (place : List ℕ) (t : Timeline) (c : Listed) → place_fault place t ≡ None
+    → option_and_then children_of (item_at place t.tracks.children) ≡ Some c
     → list_at place t.tracks.children ≡ Some c
-children_there place t x c e f g =
-    let o = on_track place t e in
-    let same : x ≡ Track o.track = cc (f, o.there) in
-    let has : Path (Option Listed) (children_of (Track o.track)) (Some c) =
-    subst (λ y. children_of y ≡ Some c) same g in
-    o.list ∙ has
+children_are place t c e f =
+    let o = on_track place t e in o.list ∙ ap (option_and_then children_of) (sym o.there) ∙ f
 
 pub list_is : (t : Timeline) (e : Edit) (place : List ℕ) (c : Listed) → place_of e ≡ place
     → list_at place t.tracks.children ≡ Some c → items_of c ≡ list_of t e

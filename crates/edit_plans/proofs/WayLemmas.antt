@@ -3,13 +3,14 @@ use Rattle.std.proofs.Common.{◌≡◌, refl, sym, ap, ap₂, ◌∙◌, ℕ, z
 use Rattle.std.proofs.Common.{Bool, true, false, List, [], ◌∷◌, ◌++◌, Option, Some, None, length}
 use Rattle.std.proofs.Common.{map, take, drop, slice_get, arith}
 use Rattle.std.specs.Prelude.{unwrap_or}
+use Rattle.limits.proofs.ListLemmas.{element-within as got}
 use Rattle.otio_model.specs.declared.compositions.ItemOf.{ItemOf}
 use Rattle.otio_model.specs.declared.compositions.Listed.{Listed}
 use Rattle.otio_model.specs.Lengths.{added, length_of, lengths, or_zero}
 use Rattle.otio_model.specs.Sums.{greatest}
 use Rattle.otio_model.specs.Trees.{items_of}
 use Rattle.otio_model.proofs.Adding.{lengths-listed}
-use Rattle.otio_model.proofs.KeptLemmas.{taken_all}
+use Rattle.otio_model.proofs.KeptLemmas.{taken_all, greatest-append}
 use Rattle.otio_model.proofs.Views.{listed-items}
 use Rattle.coord.specs.Soundness.{fault_of}
 use Rattle.coord.proofs.Members.{next, none_left}
@@ -99,11 +100,6 @@ child_within l i x e = old_within (lengths l) i (length_of x) (length_got l i x 
 
 -- ---- the greatest
 
-greatest-append : (ms ns : List (Option ℕ)) → greatest (ms ++ ns) ≡ max (greatest ms) (greatest ns)
-greatest-append [] ns = omega arith
-greatest-append (None ∷ ms) ns = greatest-append ms ns
-greatest-append ((Some m) ∷ ms) ns = omega (arith, greatest-append ms ns)
-
 one_greatest : (o : Option ℕ) → greatest (o ∷ []) ≡ or_zero o
 one_greatest None = refl
 one_greatest (Some n) = omega arith
@@ -152,11 +148,6 @@ pub own_there : (l : Listed) (at i n : ℕ) (x : ItemOf Listed) → (at ≡ i �
     ≡ ticks_at at (with_ticks i n (lengths l))
 own_there l at i n x d e = sym (by_some (with_ticks i n (lengths l)) at (length_of x)
     (changed_there (lengths l) at i n (length_of x) d (length_got l at x e)))
-
-got : {A : Type 0} (xs : List A) (i : ℕ) → i < length xs → (x : A) × (slice_get xs i ≡ Some x)
-got [] i h = absurd (omega (arith, h))
-got (x ∷ xs) zero h = (x, refl)
-got (x ∷ xs) (suc i) h = got xs i (omega (arith, h))
 
 -- the greatest of the lengths up to an index, with one more
 pub longest_next : (l : Listed) (at i n a b : ℕ) → at < length (items_of l)

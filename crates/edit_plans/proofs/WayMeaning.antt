@@ -5,6 +5,7 @@ use Rattle.std.proofs.Common.{Option, Some, None, map, cond, slice_get, arith}
 use Rattle.std.specs.Prelude.{option_and_then, option_map, is_none, nat_lt, int_le, not, ◌&&◌, ◌||◌}
 use Rattle.std.specs.Prelude.{unsigned_abs}
 use Rattle.std.specs.Option.{option_or}
+use Rattle.std.proofs.lemmas.Option.{same_Some as same_item}
 use Rattle.limits.specs.Limits.{most_ticks}
 use Rattle.tick_time.specs.declared.spans.Span.{Span}
 use Rattle.otio_model.specs.declared.compositions.ItemOf.{ItemOf}
@@ -21,7 +22,7 @@ use Rattle.otio_model.specs.Speeds.{keeps_speed}
 use Rattle.otio_model.specs.Sums.{are_known, capped, greatest, where_known}
 use Rattle.otio_model.specs.Trees.{below, children_of, item_at, items_of, listed}
 use Rattle.otio_model.proofs.Adding.{longest_known, sum_known}
-use Rattle.otio_model.proofs.Lenses.{got_changed}
+use Rattle.otio_model.proofs.Lenses.{got_changed, below_deeper}
 use Rattle.otio_model.proofs.Views.{items-listed}
 use Rattle.coord.specs.declared.faults.ItemFault.{ItemFault}
 use Rattle.coord.specs.declared.faults.ItemFault.TheVariants.{NoLength, Speed, Long}
@@ -36,9 +37,6 @@ use Rattle.edit_plans.proofs.WayLemmas.{lengths_map}
 use Rattle.edit_plans.proofs.WaySteps.{below_of, by_child, child_sound, item_from}
 
 -- ---- one item whose children are others
-
-same_item : (x y : ItemOf Listed) → Some x ≡ Some y → x ≡ y
-same_item x y e = cc e
 
 same_list : (x y : Listed) → Some x ≡ Some y → x ≡ y
 same_list x y e = cc e
@@ -266,14 +264,6 @@ children_sound : (x : ItemOf Listed) (l : Listed) → children_of x ≡ Some l �
 children_sound x l e s [] y b = absurd (cc b)
 children_sound x l e s (i ∷ place) y b = s (i ∷ place) y
     (ap (option_and_then (λ m. option_and_then (below place) (slice_get (items_of m) i))) e ∙ b)
-
-below_deeper : (f : Listed → Listed) (x : ItemOf Listed) (c : Listed) → children_of x ≡ Some c
-    → children_of (deeper f x) ≡ Some (f c)
-below_deeper f (Clip a) c e = absurd (cc e)
-below_deeper f (Gap a) c e = absurd (cc e)
-below_deeper f (Transition a) c e = absurd (cc e)
-below_deeper f (Stack s) c e = let same : s.children ≡ c = cc e in ap (λ z. Some (f z)) same
-below_deeper f (Track s) c e = let same : s.children ≡ c = cc e in ap (λ z. Some (f z)) same
 
 -- an item whose child at the index is another, so long
 then_with : (f : Listed → Listed) (x : ItemOf Listed) (l : Listed) (i n : ℕ)

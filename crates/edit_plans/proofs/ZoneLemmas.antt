@@ -1,10 +1,11 @@
 -- What comes in place of the touched children makes the whole list.
-use Rattle.std.proofs.Common.{◌≡◌, refl, sym, subst, ap, ap₂, ◌∙◌, ℕ, zero, suc, ◌+◌, ◌-◌, ◌*◌, ◌<◌}
+use Rattle.std.proofs.Common.{◌≡◌, refl, sym, subst, ap, ap₂, ◌∙◌, ℕ, zero, suc, ◌+◌, ◌-◌, ◌*◌, ◌<◌, ◌^◌}
 use Rattle.std.proofs.Common.{◌≤◌, ℤ, pos, ◌+ℤ◌, ◌-ℤ◌, ◌≤ℤ◌, ◌<ℤ◌, Bool, true, false, ◌||◌}
 use Rattle.std.proofs.Common.{List, [], ◌∷◌, ◌++◌, Option, Some, None, take, drop, length}
 use Rattle.std.proofs.Common.{arith, ◌⊎◌, inl, inr}
 use Rattle.std.specs.Prelude.{option_map, slice_get}
 use Rattle.std.proofs.lemmas.Int.{ints}
+use Rattle.std.proofs.lemmas.List.{append-nil as none_more}
 use Rattle.tick_time.specs.declared.rates.Rate.{Rate}
 use Rattle.otio_model.specs.declared.compositions.ItemOf.{ItemOf}
 use Rattle.otio_model.specs.declared.compositions.Listed.{Listed}
@@ -24,7 +25,8 @@ use Rattle.pieces.proofs.Faultless.{faultless_is_short}
 use Rattle.edit_plans.proofs.Passing.{added_ahead, ahead_count}
 use Rattle.pieces.proofs.SameTimes.{or_left, or_right}
 use Rattle.coord.proofs.Members.{next}
-use Rattle.pieces.proofs.StripLemmas.{Stripped, strip_first, keep_as, drop_as}
+use Rattle.pieces.proofs.StripLemmas.{Stripped, strip_first, keep_as, drop_as, near_end}
+use Rattle.pieces.proofs.StripLemmas.{short_together}
 
 -- ---- lists that are made are made together
 
@@ -85,11 +87,6 @@ pub front_far : (l : List (ItemOf Listed)) (a b u : ℤ) → has_far (front l u)
     → (n : List Child) → has_far (put_between l a n b) ≡ true
 front_far l a b u e i n = far_left (front l a) (n ++ back l b)
     (ap (λ z. has_far (front l z)) (sym i) ∙ e)
-
-pub back_far : (l : List (ItemOf Listed)) (a b v : ℤ) → has_far (back l v) ≡ true → v ≡ b
-    → (n : List Child) → has_far (put_between l a n b) ≡ true
-back_far l a b v e i n = far_right (front l a) (n ++ back l b)
-    (far_right n (back l b) (ap (λ z. has_far (back l z)) (sym i) ∙ e))
 
 -- ---- faultless parts of faultless lists
 
@@ -165,7 +162,7 @@ touched_there l a b =
     let g = len_both (touched l a b) (beyond l a b) in
     omega (arith, e, f, g)
 
--- the zone begins behind what stands ahead of it
+-- the zone begins after what stands ahead of it
 pub zone_low : (l : List (ItemOf Listed)) (a b : ℤ) → pos 0 ≤ℤ a → a ≤ℤ b → added (ahead l a b) ≤ℤ a
 zone_low l a b h k = by (ahead_early l a b k (omega (arith, ints, h, k)))
   where
@@ -278,7 +275,7 @@ ahead_short l x y t h e =
 
 -- ---- how few come in place of the touched ones
 
-olds_made : (r : Rate) (l : List (ItemOf Listed)) → all_made r (olds l) ≡ Some l
+pub olds_made : (r : Rate) (l : List (ItemOf Listed)) → all_made r (olds l) ≡ Some l
 olds_made r [] = refl
 olds_made r (x ∷ l) = ap (with_first (Some x)) (olds_made r l)
 
@@ -334,62 +331,58 @@ take_next l n i m x e f =
 none_taken : {A : Type 0} (l : List A) (n : ℕ) → n ≡ 0 → take n l ≡ []
 none_taken l n e = ap (λ k. take k l) e
 
+-- so many children are together not too long
+pub kept_long : (l : List (ItemOf Listed)) (at number : ℕ) → AreCuttable l → number ≤ 2 ^ 32
+    → added (take number (drop at l)) ≤ℤ pos 100000000000000000000000000000000000000
+kept_long l at number h few =
+    let s = short_together (take number (drop at l))
+    (short_all _ (take_faultless (drop at l) number (drop_faultless l at h))) in
+    let n = take_few (drop at l) number in omega (arith, ints, s, n, few)
+
 -- what is kept of so many children from a first on, and what is left
 pub record IsKept (l : List (ItemOf Listed)) (at number : ℕ) (a b : ℤ)
     (kept : List (ItemOf Listed)) (start : ℤ) (i : ℕ) : Type 0 where
   pub later : at ≤ i
   pub is : Stripped (take number (drop at l)) a b kept (take ((at + number) - i) (drop i l)) start
-      (i - at)
 
 pub kept_first : (l : List (ItemOf Listed)) (at number : ℕ) (a b : ℤ)
     → IsKept l at number a b [] (pos 0) at
 kept_first l at number a b =
     let e : (at + number) - at ≡ number = omega arith in
-    let f : at - at ≡ 0 = omega arith in
     record {
       later = omega arith;
-      is = subst (λ n. Stripped (take number (drop at l)) a b []
-          (take ((at + number) - at) (drop at l)) (pos 0) n) (sym f)
-          (strip_first (take number (drop at l)) (take ((at + number) - at) (drop at l)) a b
-          (ap (λ n. take n (drop at l)) e));
+      is = strip_first (take number (drop at l)) (take ((at + number) - at) (drop at l)) a b
+          (ap (λ n. take n (drop at l)) e);
     }
 
 pub kept_more : (l kept new : List (ItemOf Listed)) (at number i : ℕ) (a b start now : ℤ)
-    (x y : ItemOf Listed) (r : Bool) → IsKept l at number a b kept start i → i < at + number
+    (x : ItemOf Listed) (r : Bool) → IsKept l at number a b kept start i → i < at + number
     → slice_get l i ≡ Some x → r ≡ is_stripped (a -ℤ start) (b -ℤ start) (overlap_of x)
-    → r ≡ false → y ≡ x → new ≡ kept ++ y ∷ [] → now ≡ start +ℤ ticks x
-    → ticks x ≤ℤ pos 705600000000000000000000 → IsKept l at number a b new now (i + 1)
-kept_more l kept new at number i a b start now x y r k h got e f same g z high =
-    let rest = take_next l ((at + number) - i) i ((at + number) - (i + 1)) x got
-    (omega (arith, h)) in
-    let s : (i + 1) - at ≡ (i - at) + 1 = omega (arith, k.later) in
-    record {
-      later = omega (arith, k.later);
-      is = subst (λ n. Stripped (take number (drop at l)) a b new
-          (take ((at + number) - (i + 1)) (drop (i + 1) l)) now n) (sym s)
-          (keep_as (take number (drop at l)) _ _ kept new a b start now (i - at) x y r k.is rest e
-          f same g z (omega (arith, ints)) high);
-    }
+    → r ≡ false → new ≡ kept ++ x ∷ [] → now ≡ start +ℤ ticks x
+    → IsKept l at number a b new now (i + 1)
+kept_more l kept new at number i a b start now x r k h got e f g z = record {
+  later = omega (arith, k.later);
+  is = keep_as (take number (drop at l)) _ _ kept new a b start now x r k.is
+      (take_next l ((at + number) - i) i ((at + number) - (i + 1)) x got (omega (arith, h))) e f g z;
+}
 
 pub kept_less : (l kept new : List (ItemOf Listed)) (at number i : ℕ) (a b start now : ℤ)
     (x : ItemOf Listed) (r : Bool) → IsKept l at number a b kept start i → i < at + number
     → slice_get l i ≡ Some x → r ≡ is_stripped (a -ℤ start) (b -ℤ start) (overlap_of x)
     → r ≡ true → new ≡ kept → now ≡ start → IsKept l at number a b new now (i + 1)
-kept_less l kept new at number i a b start now x r k h got e f g z =
-    let rest = take_next l ((at + number) - i) i ((at + number) - (i + 1)) x got
-    (omega (arith, h)) in
-    let s : (i + 1) - at ≡ (i - at) + 1 = omega (arith, k.later) in
-    record {
-      later = omega (arith, k.later);
-      is = subst (λ n. Stripped (take number (drop at l)) a b new
-          (take ((at + number) - (i + 1)) (drop (i + 1) l)) now n) (sym s)
-          (drop_as (take number (drop at l)) _ _ kept new a b start now (i - at) x r k.is rest e f
-          g z);
-    }
+kept_less l kept new at number i a b start now x r k h got e f g z = record {
+  later = omega (arith, k.later);
+  is = drop_as (take number (drop at l)) _ _ kept new a b start now x r k.is
+      (take_next l ((at + number) - i) i ((at + number) - (i + 1)) x got (omega (arith, h))) e f g z;
+}
 
-none_more : {A : Type 0} (r : List A) → r ++ [] ≡ r
-none_more [] = refl
-none_more (x ∷ r) = ap (λ q. x ∷ q) (none_more r)
+-- where the next child ends
+pub kept_near : (l kept : List (ItemOf Listed)) (at number i : ℕ) (a b start m : ℤ)
+    (x : ItemOf Listed) → IsKept l at number a b kept start i → i < at + number
+    → slice_get l i ≡ Some x → added (take number (drop at l)) ≤ℤ m → (start +ℤ ticks x) ≤ℤ m
+kept_near l kept at number i a b start m x k h got e =
+    near_end (take number (drop at l)) kept _ _ a b start m x k.is
+    (take_next l ((at + number) - i) i ((at + number) - (i + 1)) x got (omega (arith, h))) e
 
 pub kept_end : (l kept : List (ItemOf Listed)) (at number i : ℕ) (a b c d start : ℤ)
     → IsKept l at number a b kept start i → at + number ≤ i → a ≡ c → b ≡ d
@@ -399,3 +392,8 @@ kept_end l kept at number i a b c d start k h e f =
     sym (s.is ∙ ap (λ q. kept ++ strip q (a -ℤ start) (b -ℤ start))
     (none_taken (drop i l) ((at + number) - i) (omega (arith, h))) ∙ none_more kept)
     ∙ ap₂ (strip (take number (drop at l))) e f
+
+-- the same zone, with each end by an equation
+pub kept_as : (l kept : List (ItemOf Listed)) (u v x y : ℤ) → kept ≡ strip l u v → u ≡ x → v ≡ y
+    → kept ≡ strip l x y
+kept_as l kept u v x y e f g = e ∙ ap₂ (strip l) f g

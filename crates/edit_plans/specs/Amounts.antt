@@ -1,11 +1,12 @@
 -- How long items are together, and how many they are with all below them.
-use Rattle.std.specs.Prelude.{◌≡◌, ℕ, ◌+◌, ◌<◌, ◌^◌, List, Some, map, slice_get}
+use Rattle.std.specs.Prelude.{ℕ, ◌+◌, List, map}
 use Rattle.otio_model.specs.declared.compositions.ItemOf.{ItemOf}
 use Rattle.otio_model.specs.declared.compositions.Listed.{Listed}
 use Rattle.otio_model.specs.Counts.{count, count_of, counts_by}
 use Rattle.otio_model.specs.Kept.{capped_count}
 use Rattle.otio_model.specs.Lengths.{added, length_of, or_zero}
 use Rattle.otio_model.specs.Sums.{capped}
+pub use Rattle.pieces.specs.Short.{AreFew}
 use Rattle.edit_plans.specs.declared.totals.Amount.{Amount}
 
 -- the lengths of these items added up, one that isn't known as 0
@@ -22,7 +23,3 @@ more a x = record {
   ticks = capped (a.ticks + or_zero (length_of x));
   items = capped_count (a.items + count_of x);
 }
-
--- each of them has fewer than 2^32 items
-abbrev pub AreFew : List (ItemOf Listed) → Type 0
-AreFew l = (i : ℕ) (x : ItemOf Listed) → slice_get l i ≡ Some x → count_of x < 2 ^ 32

@@ -7,6 +7,6 @@ pub record IsMove (z : ℤ) : Type 0 where
   pub high : z ≤ℤ pos 10000000000000000000000000000000000000
 
 -- so much media, which isn't negative
-pub record IsRoom (z : ℤ) : Type 0 where
+pub record IsHandle (z : ℤ) : Type 0 where
   pub low : pos 0 ≤ℤ z
   pub high : z ≤ℤ pos 10000000000000000000000000

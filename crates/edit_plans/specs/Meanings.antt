@@ -4,10 +4,10 @@ use Rattle.otio_model.specs.declared.compositions.ItemOf.{ItemOf}
 use Rattle.otio_model.specs.declared.compositions.Listed.{Listed}
 use Rattle.edits.specs.Edges as edges
 use Rattle.edit_plans.specs.declared.moves.Moves.{Moves}
-use Rattle.edit_plans.specs.declared.media_handles.Room.{Room}
+use Rattle.edit_plans.specs.declared.media_handles.Handles.{Handles}
 
-abbrev pub room_of : Room → edges.Room
-room_of r = record { before = r.before; behind = r.behind }
+abbrev pub handles_of : Handles → edges.Handles
+handles_of r = record { before = r.before; behind = r.behind }
 
 abbrev pub moves_of : Moves → edges.Moves
 moves_of m = record { head = m.head; tail = m.tail }

@@ -1,4 +1,4 @@
--- The nearest items beside a child of a list.
+-- The nearest items next to a child of a list.
 use Rattle.std.specs.Prelude.{◌≡◌, ℕ, ◌+◌, ◌<◌, true, List, Some, slice_get, take, drop}
 use Rattle.otio_model.specs.declared.compositions.ItemOf.{ItemOf}
 use Rattle.otio_model.specs.declared.compositions.Listed.{Listed}
@@ -14,7 +14,7 @@ pub record IsBefore (l : List (ItemOf Listed)) (index i : ℕ) : Type 0 where
   pub between : (j : ℕ) (x : ItemOf Listed) → i < j → j < index → slice_get l j ≡ Some x
       → is_transition x ≡ true
 
--- the nearest behind an index that isn't a transition stands at i
+-- the nearest after an index that isn't a transition stands at i
 pub record IsAfter (l : List (ItemOf Listed)) (index i : ℕ) : Type 0 where
   pub behind : index < i
   pub item : ItemOf Listed

@@ -14,14 +14,7 @@ ghost use Rattle.edits_law.specs.Down.{reached, reached_above};
 ghost use Rattle.edit_plans.specs.Way as way;
 ghost use Rattle.edit_plans.specs.Way.{AreShort, IsBefore, IsBehind, IsNear};
 
-use otio_model::{Children, Item, ItemOf, Seat};
-
-// Whether an item is a transition.
-fn is_transition(item: &Item) -> bool
-    ensures { result ≡ trees.is_transition item.now }
-{
-    matches!(item, ItemOf::Transition(_))
-}
+use otio_model::{Children, Item, Seat};
 
 // The last child before an index that isn't a transition.
 fn child_before(children: &Children, end: usize) -> Option<usize>
@@ -29,7 +22,7 @@ fn child_before(children: &Children, end: usize) -> Option<usize>
     ensures { IsBefore children.now end result }
 {
     'children: for index in (0..end).rev() {
-        if !is_transition(children.child(index)) {
+        if !children.child(index).is_transition() {
             return Some(index);
         }
     }
@@ -42,7 +35,7 @@ fn child_behind(children: &Children, from: usize) -> Option<usize>
     ensures { IsBehind children.now from result }
 {
     'children: for index in from..children.len() {
-        if !is_transition(children.child(index)) {
+        if !children.child(index).is_transition() {
             return Some(index);
         }
     }

@@ -2,7 +2,6 @@
 
 ghost use Rattle.std.specs.Prelude.{◌≡◌, ◌+◌, ◌<◌, ◌≤◌, ◌^◌, drop, length};
 ghost use Rattle.otio_model.specs.Counts.{count, count_of};
-ghost use Rattle.coord.specs.Programs as programs;
 ghost use Rattle.coord.specs.Sights.{exact};
 ghost use Rattle.coord.specs.Soundness.{IsFaultless, IsFaultlessItem};
 ghost use Rattle.edits_law.specs.Down as depths;
@@ -10,17 +9,7 @@ ghost use Rattle.edit_plans.specs.Way.{IsNear};
 
 use crate::child_at::{is_within, ticks_of};
 use crate::items::{child_of, in_child, inner, is_open};
-use otio_model::{Item, ItemOf, Place, Timeline};
-
-// The kind of a root child: of a track its own, else video.
-fn root_kind(item: &Item) -> &str
-    ensures { result.now ≡ programs.kind_of item.now }
-{
-    match item {
-        ItemOf::Track(track) => track.kind.as_str(),
-        _ => "Video",
-    }
-}
+use otio_model::{Item, Place, Timeline};
 
 // The instant that an item's instant reaches in the composition at what is left of a place from a
 // level on.
@@ -56,7 +45,7 @@ fn down_in(item: &Item, place: &Place, ticks: i128) -> Option<i128>
     ensures { result ≡ depths.down_in (drop 1 place.now) ticks item.now }
 {
     if is_within(ticks, ticks_of(item)) {
-        return down_from(item, root_kind(item), place, 1, ticks);
+        return down_from(item, item.root_kind(), place, 1, ticks);
     }
     None
 }

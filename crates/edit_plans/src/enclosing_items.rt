@@ -1,4 +1,4 @@
-//! How long the items on the way to a changed track are.
+//! How long the items are that enclose a changed track.
 
 ghost use Rattle.std.specs.Prelude.{◌≡◌, ◌+ℤ◌, ◌*ℤ◌, ◌-ℤ◌, ◌<◌, ◌≤◌, ◌≤ℤ◌, ◌^◌, IfSome, None};
 ghost use Rattle.std.specs.Prelude.{drop, length, max, pos};
@@ -15,7 +15,7 @@ ghost use Rattle.edit_plans.specs.Ways as ways;
 ghost use Rattle.edit_plans.specs.Ways.{with_ticks};
 
 use crate::pinning::{first_index, source_range};
-use coord::{ItemFault, item_fault, speed, trimmed_start};
+use coord::{ItemFault, item_fault, media_ticks, speed, trimmed_start};
 use limits::MOST_TICKS;
 use otio_model::{Children, Item, ItemOf, Place, Timeline};
 use pieces::{known_ticks, member};
@@ -69,7 +69,7 @@ fn played_ticks(ticks: u128, speed: i64) -> i128
     ensures least { (pos 0 -ℤ pos 1000000000000000000000000000000000) ≤ℤ result }
     ensures most { result ≤ℤ pos 1000000000000000000000000000000000 }
 {
-    ticks as i128 * i128::from(speed)
+    media_ticks(ticks as i128, speed)
 }
 
 // Where what goes so far ends, in millionths of a tick, from a start in ticks.
@@ -206,7 +206,7 @@ fn way_ticks(item: &Item, place: &Place, depth: usize, sum: u128) -> Option<u128
 }
 
 /// Whether an item on the way to a place is too long once the children of the track there are so
-/// long together. The root stack isn't asked.
+/// long together. The root stack isn't tested.
 pub(crate) fn is_way_long(timeline: &Timeline, place: &Place, sum: u128) -> bool
     requires few { count timeline.now.tracks.children < 2 ^ 32 }
     requires sound { AreFaultless timeline.now.tracks.children }

@@ -9,6 +9,7 @@ ghost use Rattle.edits.specs.Edits as edits;
 
 use coord::item_speed;
 use otio_model::Item;
+use tick_time::half_even;
 
 /// The speed of an item that may be put into a track, in millionths.
 #[tactic(auto, using(crate::proofs::FitLemmas::edit_speeds))]
@@ -20,22 +21,6 @@ pub(crate) fn edit_speed(item: &Item) -> i64
     match item_speed(item) {
         Some(speed) => speed,
         None => unreachable!(),
-    }
-}
-
-// A quotient as a whole number, rounded half to even.
-fn half_even(dividend: u128, divisor: u128) -> u128
-    requires divisor { 1 ≤ divisor }
-    requires small { divisor ≤ 1000000000000000000000000000000 }
-    requires short { dividend ≤ 1000000000000000000000000000000 }
-    ensures value { result ≡ edits.half_even dividend divisor }
-{
-    let quotient = dividend / divisor;
-    let rest = dividend % divisor;
-    if 2 * rest < divisor || (2 * rest == divisor && quotient % 2 == 0) {
-        quotient
-    } else {
-        quotient + 1
     }
 }
 

@@ -16,8 +16,8 @@ use crate::fit_speed::{edit_speed, fit_speed};
 use crate::retimed_items::warped;
 use coord::item_speed;
 use otio_model::{FillMode, Item};
-use pieces::{RangedFault, is_whole, ranged, start_ticks, ticks_of};
-use std::alloc::{AllocError, Global};
+use pieces::{is_whole, ranged_within, start_ticks, ticks_of};
+use std::alloc::Global;
 use tick_time::Rate;
 
 /// The most millionths that a speed has.
@@ -62,24 +62,6 @@ fn is_whole_at(item: &Item, ticks: i128) -> bool
     is_whole(ticks, edit_speed(item))
 }
 
-// A copy of an item of this length, in ticks, that starts where it is told.
-fn sized(alloc: Global, item: &Item, start: i128, len: i128, rate: Rate) -> Result<Item, AllocError>
-    requires start_low { (pos 0 -ℤ pos most_ticks) ≤ℤ start }
-    requires start_high { start ≤ℤ pos most_ticks }
-    requires low { pos 0 ≤ℤ len }
-    requires high { len ≤ℤ pos most_ticks }
-    ensures { IfOk result
-        (λ made. children.made rate (children.Ranged item.now start len) ≡ Some made) }
-{
-    match ranged(alloc, item, start, len, rate) {
-        Ok(made) => Ok(made),
-        Err(fault) => match fault {
-            RangedFault::Memory => Err(AllocError),
-            RangedFault::Range => unreachable!(),
-        },
-    }
-}
-
 // The item, or the piece of it that fills a gap where it is longer. [`FillFault::Phase`] comes
 // where it can't be cut.
 fn cut_to(alloc: Global, item: Item, room: i128, rate: Rate) -> Result<Item, FillFault>
@@ -99,7 +81,7 @@ fn cut_to(alloc: Global, item: Item, room: i128, rate: Rate) -> Result<Item, Fil
         return Err(FillFault::Phase);
     }
     let start = start_ticks(&item);
-    let made = sized(alloc, &item, start, room, rate);
+    let made = ranged_within(alloc, &item, start, room, rate);
     drop(item);
     match made {
         Ok(piece) => Ok(piece),
@@ -151,10 +133,7 @@ fn fitted(alloc: Global, item: Item, room: i128) -> Result<Item, FillFault>
         return Err(FillFault::Speed);
     }
     match warped(alloc, item, speed) {
-        Ok(fast) => match moving(fast) {
-            Ok(made) => Ok(made),
-            Err(fault) => Err(fault),
-        },
+        Ok(fast) => moving(fast),
         Err(_) => Err(FillFault::Memory),
     }
 }
@@ -173,9 +152,9 @@ fn fit_to(alloc: Global, item: Item, room: i128, rate: Rate) -> Result<Item, Fil
         Ok(fast) => fast,
         Err(fault) => return Err(fault),
     };
-    let sized = sized(alloc, &fast, start, room, rate);
+    let made = ranged_within(alloc, &fast, start, room, rate);
     drop(fast);
-    match sized {
+    match made {
         Ok(made) => Ok(made),
         Err(_) => Err(FillFault::Memory),
     }
@@ -201,13 +180,7 @@ pub fn fill(
 {
     match mode {
         FillMode::Source => Ok(item),
-        FillMode::Sequence => match cut_to(alloc, item, room, rate) {
-            Ok(piece) => Ok(piece),
-            Err(fault) => Err(fault),
-        },
-        FillMode::Fit => match fit_to(alloc, item, room, rate) {
-            Ok(fast) => Ok(fast),
-            Err(fault) => Err(fault),
-        },
+        FillMode::Sequence => cut_to(alloc, item, room, rate),
+        FillMode::Fit => fit_to(alloc, item, room, rate),
     }
 }

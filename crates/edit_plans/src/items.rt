@@ -2,7 +2,6 @@
 
 ghost use Rattle.std.specs.Prelude.{◌≡◌, ◌<◌, ◌*◌, ◌^◌, ℤ, pos, ◌-ℤ◌, ◌*ℤ◌, ◌≤ℤ◌, None};
 ghost use Rattle.std.specs.Prelude.{IfSome, is_some, true};
-ghost use Rattle.std.specs.Int.{int_div_euclid};
 ghost use Rattle.std.specs.Str.{bytes_eq};
 ghost use Rattle.std.specs.Option.{option_copied};
 ghost use Rattle.limits.specs.Limits.{most_ticks};
@@ -16,21 +15,8 @@ ghost use Rattle.edit_plans.specs.Way as way;
 ghost use Rattle.edit_plans.specs.Way.{IsNear};
 
 use crate::child_at::{in_stack, in_track};
-use coord::{speed, trimmed_start};
+use coord::{media_offset, speed, trimmed_start};
 use otio_model::{Item, ItemOf};
-
-// How far the children go in so many ticks at a speed in millionths.
-fn played(speed: i64, ticks: i128) -> i128
-    requires speed_low { (pos 0 -ℤ pos 1000000000) ≤ℤ speed }
-    requires speed_high { speed ≤ℤ pos 1000000000 }
-    requires low { (pos 0 -ℤ pos 2822400000000000000000000) ≤ℤ ticks }
-    requires high { ticks ≤ℤ pos 2822400000000000000000000 }
-    ensures value { result ≡ int_div_euclid (ticks *ℤ speed) (pos 1000000) }
-    ensures least { (pos 0 -ℤ pos 1000000000000000000000000000001) ≤ℤ result }
-    ensures most { result ≤ℤ pos 1000000000000000000000000000001 }
-{
-    (ticks * i128::from(speed)).div_euclid(1_000_000)
-}
 
 // Where the trimmed range of an item starts.
 #[tactic(auto, using(crate::proofs::Bounds::starts_near))]
@@ -48,7 +34,7 @@ pub(crate) fn inner(item: &Item, ticks: i128) -> i128
     requires near { IsNear ticks }
     ensures { result ≡ down.inner item.now ticks }
 {
-    start_of(item) + played(speed(item), ticks)
+    start_of(item) + media_offset(ticks, speed(item))
 }
 
 // Whether two kinds of track are the same.

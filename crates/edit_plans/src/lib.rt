@@ -1,6 +1,14 @@
-//! What plans of edits are made of: where a zone stands among children and what comes in place of
-//! those that it touches, how far edges move, the tests of edits in the words of their table, what
-//! fills a gap, and what a patch is that does an edit.
+//! Steps that the planners of edits share: `edit_ops` for edits of lists, `edit_trim` for edits of
+//! edges.
+//!
+//! - Where a zone lies in a track: [`ahead`], [`touched`], [`held`].
+//! - What takes the place of the children that a zone touches: [`fill_zone`], [`kept`].
+//! - How far the edges of an item move, within its media and between its neighbours: [`trim_by`],
+//!   [`slip_by`], [`slide_by`], [`ripple_by`], [`roll_by`].
+//! - What fills a gap, and at which speed: [`fill`].
+//! - Tests by which an edit is refused: [`place_fault`], [`can_be_cut`], [`pinned`].
+//! - The patch that carries out an edit, or why the result is refused: [`finish`].
+//! - The instant that an instant of a root child reaches in a nested composition: [`down`].
 //!
 //! All numbers are in ticks. Nothing here walks over all children for one edit.
 #![tactic(auto)]
@@ -35,9 +43,9 @@ pub use lengths::spliced_lengths;
 pub use moves::{Moves, ripple_by, roll_by, slide_by, slip_by, trim_by};
 pub use neighbours::{after_item, before_item};
 pub use patch_result::finish;
-pub use pinning::unpinned;
-pub use refusal_tests::{is_gap, is_nothing, is_track, place_fault};
-pub use replaced_children::{Middle, fill_zone, kept};
+pub use pinning::{pinned, unpinned};
+pub use refusal_tests::{is_gap, is_nothing, place_fault};
+pub use replaced_children::{Middle, Stretch, Zone, fill_zone, kept};
 pub use touched_children::{Passed, ahead, child, held, is_met, touched};
 pub use tracks::{edit_rate, frame_at, track_of};
 pub use whole_tick_cuts::can_be_cut;

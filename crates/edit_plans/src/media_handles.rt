@@ -6,8 +6,8 @@ ghost use Rattle.std.specs.Prelude.{◌≤ℤ◌, ◌-ℤ◌, ◌+ℤ◌};
 ghost use Rattle.std.specs.Int.{int_div_euclid, int_max, int_min};
 ghost use Rattle.edits.specs.Edges as edges;
 ghost use Rattle.pieces.specs.Short.{IsCuttable};
-ghost use Rattle.edit_plans.specs.Bounds.{IsRoom};
-ghost use Rattle.edit_plans.specs.Meanings.{room_of};
+ghost use Rattle.edit_plans.specs.Bounds.{IsHandle};
+ghost use Rattle.edit_plans.specs.Meanings.{handles_of};
 
 use crate::clamps::whole_limit;
 use coord::{media_ticks, speed};
@@ -15,9 +15,9 @@ use otio_model::{Item, ItemOf};
 use pieces::{sound_ticks, start_ticks};
 use tick_time::Span;
 
-/// Unused media before and behind what a clip uses, in ticks of the media.
+/// Unused media before and after what a clip uses, in ticks of the media.
 #[derive(Clone, Copy)]
-pub(crate) struct Room {
+pub(crate) struct Handles {
     pub before: i128,
     pub behind: i128,
 }
@@ -49,7 +49,7 @@ fn media_before(start: i128, instant: i128, reached: i128) -> i128
     instant + reached - start
 }
 
-// What of media that end at an instant lies behind what is reached so far behind an instant;
+// What of media that end at an instant lies after what is reached so far after an instant;
 // negative where they end earlier.
 fn media_behind(end: i128, instant: i128, reached: i128) -> i128
     requires end_low { (pos 0 -ℤ pos 2000000000000000000000000) ≤ℤ end }
@@ -77,7 +77,7 @@ fn end_of(media: Span) -> i128
 fn at_least_none(media: i128) -> i128
     requires { media ≤ℤ pos 10000000000000000000000000 }
     ensures value { result ≡ int_max (pos 0) media }
-    ensures near { IsRoom result }
+    ensures near { IsHandle result }
 {
     0.max(media)
 }
@@ -94,20 +94,20 @@ fn back(millionths: i128) -> i128
 }
 
 // What of media lies before what so many millionths of a tick play from a start.
-fn room_before(media: Span, start: i128, millionths: i128) -> i128
+fn handle_before(media: Span, start: i128, millionths: i128) -> i128
     requires start_low { (pos 0 -ℤ pos most_ticks) ≤ℤ start }
     requires start_high { start ≤ℤ pos most_ticks }
     requires least { (pos 0 -ℤ pos 1000000000000000000000000000000000) ≤ℤ millionths }
     requires most { millionths ≤ℤ pos 1000000000000000000000000000000000 }
     ensures value { result ≡ int_max (pos 0) ((start
         +ℤ int_div_euclid (int_min (pos 0) millionths) (pos 1000000)) -ℤ media.start.ticks) }
-    ensures near { IsRoom result }
+    ensures near { IsHandle result }
 {
     at_least_none(media_before(media.start.ticks, start, reach_back(millionths)))
 }
 
-// What of media lies behind it.
-fn room_behind(media: Span, start: i128, millionths: i128) -> i128
+// What of media lies after it.
+fn handle_behind(media: Span, start: i128, millionths: i128) -> i128
     requires start_low { (pos 0 -ℤ pos most_ticks) ≤ℤ start }
     requires start_high { start ≤ℤ pos most_ticks }
     requires least { (pos 0 -ℤ pos 1000000000000000000000000000000000) ≤ℤ millionths }
@@ -115,41 +115,46 @@ fn room_behind(media: Span, start: i128, millionths: i128) -> i128
     ensures value { result ≡ int_max (pos 0)
         (((media.start.ticks +ℤ media.len.ticks) -ℤ start)
         +ℤ int_div_euclid (int_min (pos 0) (pos 0 -ℤ millionths)) (pos 1000000)) }
-    ensures near { IsRoom result }
+    ensures near { IsHandle result }
 {
     at_least_none(media_behind(end_of(media), start, reach_back(back(millionths))))
 }
 
 // The unused media round so many ticks of a clip from a start, at a speed.
-fn room_in(media: Span, start: i128, ticks: i128, speed: i64) -> Room
+fn handles_in(media: Span, start: i128, ticks: i128, speed: i64) -> Handles
     requires start_low { (pos 0 -ℤ pos most_ticks) ≤ℤ start }
     requires start_high { start ≤ℤ pos most_ticks }
     requires low { pos 0 ≤ℤ ticks }
     requires high { ticks ≤ℤ pos most_ticks }
     requires speed_low { (pos 0 -ℤ pos 1000000000) ≤ℤ speed }
     requires speed_high { speed ≤ℤ pos 1000000000 }
-    ensures before { result.before ≡ (edges.room_in media start ticks speed).before }
-    ensures behind { result.behind ≡ (edges.room_in media start ticks speed).behind }
-    ensures near_before { IsRoom result.before }
-    ensures near_behind { IsRoom result.behind }
+    ensures before { result.before ≡ (edges.handles_in media start ticks speed).before }
+    ensures behind { result.behind ≡ (edges.handles_in media start ticks speed).behind }
+    ensures near_before { IsHandle result.before }
+    ensures near_behind { IsHandle result.behind }
 {
     let played = media_ticks(ticks, speed);
-    Room {
-        before: room_before(media, start, played),
-        behind: room_behind(media, start, played),
+    Handles {
+        before: handle_before(media, start, played),
+        behind: handle_behind(media, start, played),
     }
 }
 
 /// The unused media round a clip; none where its media have no range, or where it is no clip.
-pub(crate) fn media_room(item: &Item) -> Option<Room>
+pub(crate) fn clip_handles(item: &Item) -> Option<Handles>
     requires { IsCuttable item.now }
-    ensures value { option_map room_of result ≡ edges.media_room item.now }
-    ensures before { IfSome result (λ room. IsRoom room.before) }
-    ensures behind { IfSome result (λ room. IsRoom room.behind) }
+    ensures value { option_map handles_of result ≡ edges.clip_handles item.now }
+    ensures before { IfSome result (λ room. IsHandle room.before) }
+    ensures behind { IfSome result (λ room. IsHandle room.behind) }
 {
     match item {
         ItemOf::Clip(clip) => match clip.available_range() {
-            Some(media) => Some(room_in(media, start_ticks(item), sound_ticks(item), speed(item))),
+            Some(media) => Some(handles_in(
+                media,
+                start_ticks(item),
+                sound_ticks(item),
+                speed(item),
+            )),
             None => None,
         },
         _ => None,
@@ -158,7 +163,7 @@ pub(crate) fn media_room(item: &Item) -> Option<Room>
 
 // How far so much media goes at a speed, in ticks of the item.
 fn played(media: i128, speed: i128) -> i128
-    requires media { IsRoom media }
+    requires media { IsHandle media }
     requires speed { pos 1 ≤ℤ speed }
     ensures { result ≡ edges.played media speed }
 {
@@ -169,8 +174,8 @@ fn played(media: i128, speed: i128) -> i128
 // so much that is played backwards; none at speed 0, where there is no limit.
 fn room_at(speed: i64, forward: i128, backward: i128) -> Option<i128>
     requires speed_low { (pos 0 -ℤ pos 1000000000) ≤ℤ speed }
-    requires forward { IsRoom forward }
-    requires backward { IsRoom backward }
+    requires forward { IsHandle forward }
+    requires backward { IsHandle backward }
     ensures { result ≡ cond (int_lt (pos 0) speed) (Some (edges.played forward speed))
         (cond (int_lt speed (pos 0)) (Some (edges.played backward (pos 0 -ℤ speed))) None) }
 {
@@ -188,7 +193,7 @@ fn head_room(item: &Item) -> Option<i128>
     requires { IsCuttable item.now }
     ensures { result ≡ edges.head_room item.now }
 {
-    match media_room(item) {
+    match clip_handles(item) {
         Some(room) => room_at(speed(item), room.before, room.behind),
         None => None,
     }
@@ -199,7 +204,7 @@ fn tail_room(item: &Item) -> Option<i128>
     requires { IsCuttable item.now }
     ensures { result ≡ edges.tail_room item.now }
 {
-    match media_room(item) {
+    match clip_handles(item) {
         Some(room) => room_at(speed(item), room.behind, room.before),
         None => None,
     }

@@ -7,11 +7,11 @@ ghost use Rattle.edits.specs.Children.{ticks};
 ghost use Rattle.edits.specs.Edges as edges;
 ghost use Rattle.edits.specs.Edges.{Held, first_item, last_item};
 ghost use Rattle.pieces.specs.Short.{IsCuttable};
-ghost use Rattle.edit_plans.specs.Bounds.{IsMove, IsRoom};
+ghost use Rattle.edit_plans.specs.Bounds.{IsMove, IsHandle};
 ghost use Rattle.edit_plans.specs.Meanings.{gap_of_before, moves_of};
 
 use crate::clamps::{clamped, is_zero, lesser, whole_frames, whole_limit};
-use crate::media_handles::{Room, head_limit, media_room, tail_limit};
+use crate::media_handles::{Handles, clip_handles, head_limit, tail_limit};
 use otio_model::{Item, ItemOf};
 use pieces::sound_ticks;
 
@@ -25,10 +25,10 @@ pub struct Moves {
 }
 
 // How far a slip goes in so much unused media, in whole frames.
-fn slip_in(frame: i128, room: Room, by: i128) -> i128
+fn slip_in(frame: i128, room: Handles, by: i128) -> i128
     requires frame { pos 1 ≤ℤ frame }
-    requires before { IsRoom room.before }
-    requires behind { IsRoom room.behind }
+    requires before { IsHandle room.before }
+    requires behind { IsHandle room.behind }
     requires by { IsMove by }
     ensures value { result ≡ edges.clamped (Some (edges.whole_frames frame room.before))
         (Some (edges.whole_frames frame room.behind)) by }
@@ -41,9 +41,9 @@ fn slip_in(frame: i128, room: Room, by: i128) -> i128
     )
 }
 
-/// How far a slip of an item goes that is asked to go so far: no further than its unused media, in
-/// whole frames. `by` and the answer are in ticks, positive to later media; `frame` is the ticks of
-/// a record frame.
+/// How far a slip of an item goes: as far as wanted, but no further than its unused media, in whole
+/// frames. `by` is how far is wanted; it and the result are in ticks, positive to later media.
+/// `frame` is the ticks of a record frame.
 pub fn slip_by(frame: i128, item: &Item, by: i128) -> i128
     requires frame { pos 1 ≤ℤ frame }
     requires item { IsCuttable item.now }
@@ -51,7 +51,7 @@ pub fn slip_by(frame: i128, item: &Item, by: i128) -> i128
     ensures value { (h : Held) → h.item ≡ item.now → result ≡ edges.slip_by frame h by }
     ensures near { IsMove result }
 {
-    match media_room(item) {
+    match clip_handles(item) {
         Some(room) => slip_in(frame, room, by),
         None => by,
     }
@@ -99,9 +99,9 @@ fn spare_behind(frame: i128, item: &Item, head: i128) -> i128
     spare_of(frame, behind_head(sound_ticks(item), head))
 }
 
-/// How far a slide goes that is asked to go so far: the item before keeps a tick or more, and its
-/// tail goes no further than its unused media. `by` and the answer are in ticks, positive to later;
-/// `frame` is the ticks of a record frame.
+/// How far a slide goes: as far as wanted, but the item before keeps a tick or more, and its tail
+/// goes no further than its unused media. `by` is how far is wanted; it and the result are in ticks,
+/// positive to later. `frame` is the ticks of a record frame.
 pub fn slide_by(frame: i128, before: &Item, by: i128) -> i128
     requires frame { pos 1 ≤ℤ frame }
     requires before { IsCuttable before.now }
@@ -142,9 +142,9 @@ fn ripple_tail(frame: i128, item: &Item, head: i128, by: i128) -> i128
     )
 }
 
-/// How far a ripple moves the edges of an item that is asked to move them so far: a tick or more is
-/// left, and no edge goes further than its unused media. `by` and the answer are in ticks, and
-/// `frame` is the ticks of a record frame.
+/// How far a ripple moves the edges of an item: as far as wanted, but a tick or more is left, and no
+/// edge goes further than its unused media. `by` is how far is wanted; it and the result are in
+/// ticks. `frame` is the ticks of a record frame.
 pub fn ripple_by(frame: i128, item: &Item, by: Moves) -> Moves
     requires frame { pos 1 ≤ℤ frame }
     requires item { IsCuttable item.now }
@@ -182,7 +182,7 @@ fn gap_before(before: Option<&Item>) -> i128
     }
 }
 
-// How long the gap behind an item is, where this stands behind it; none at the end of the track.
+// How long the gap after an item is, where this stands after it; none at the end of the track.
 fn gap_behind(behind: Option<&Item>) -> Option<i128>
     requires { IfSome (option_copied behind) IsCuttable }
     ensures { result ≡ option_map edges.gap_ticks (option_copied behind.entry) }
@@ -213,7 +213,7 @@ fn trim_head(frame: i128, before: Option<&Item>, item: &Item, by: i128) -> i128
     )
 }
 
-// How far a trim moves the tail of an item whose head moves, where this stands behind it.
+// How far a trim moves the tail of an item whose head moves, where this stands after it.
 fn trim_tail(frame: i128, item: &Item, head: i128, behind: Option<&Item>, by: i128) -> i128
     requires frame { pos 1 ≤ℤ frame }
     requires item { IsCuttable item.now }
@@ -235,10 +235,10 @@ fn trim_tail(frame: i128, item: &Item, head: i128, behind: Option<&Item>, by: i1
     )
 }
 
-/// How far a trim moves the edges of an item that is asked to move them so far, where these stand
-/// beside it: no edge goes further than the gap there or than its unused media, and a tick or more
-/// is left. At the end of the track the tail isn't held by a gap. `by` and the answer are in ticks,
-/// and `frame` is the ticks of a record frame.
+/// How far a trim moves the edges of an item, where these stand next to it: as far as wanted, but no
+/// edge goes further than the gap there or than its unused media, and a tick or more is left. At the
+/// end of the track no gap holds the tail. `by` is how far is wanted; it and the result are in
+/// ticks. `frame` is the ticks of a record frame.
 pub fn trim_by(
     frame: i128,
     before: Option<&Item>,
@@ -263,8 +263,8 @@ pub fn trim_by(
     Moves { head, tail }
 }
 
-// How far the cut between two items moves that is asked to move so far: each keeps a tick or more,
-// and no edge goes further than its unused media.
+// How far the cut between two items moves: as far as wanted, but each keeps a tick or more, and no
+// edge goes further than its unused media.
 fn cut_before(frame: i128, before: &Item, item: &Item, by: i128) -> i128
     requires frame { pos 1 ≤ℤ frame }
     requires before { IsCuttable before.now }
@@ -282,7 +282,7 @@ fn cut_before(frame: i128, before: &Item, item: &Item, by: i128) -> i128
     clamped(earlier, later, by)
 }
 
-// The same of the cut behind an item whose head moves.
+// The same of the cut after an item whose head moves.
 fn cut_behind(frame: i128, item: &Item, head: i128, behind: &Item, by: i128) -> i128
     requires frame { pos 1 ≤ℤ frame }
     requires item { IsCuttable item.now }
@@ -324,7 +324,7 @@ fn roll_head(frame: i128, before: Option<&Item>, item: &Item, by: i128) -> i128
     }
 }
 
-// How far a roll moves the tail of an item whose head moves, where this stands behind it; not at
+// How far a roll moves the tail of an item whose head moves, where this stands after it; not at
 // all where nothing does.
 fn roll_tail(frame: i128, item: &Item, head: i128, behind: Option<&Item>, by: i128) -> i128
     requires frame { pos 1 ≤ℤ frame }
@@ -348,10 +348,10 @@ fn roll_tail(frame: i128, item: &Item, head: i128, behind: Option<&Item>, by: i1
     }
 }
 
-/// How far a roll moves the edges of an item that is asked to move them so far, where these stand
-/// beside it: each item keeps a tick or more, and no edge goes further than its unused media. An
-/// edge with no item beside it isn't moved. `by` and the answer are in ticks, and `frame` is the
-/// ticks of a record frame.
+/// How far a roll moves the edges of an item, where these stand next to it: as far as wanted, but
+/// each item keeps a tick or more, and no edge goes further than its unused media. An edge with no
+/// item next to it isn't moved. `by` is how far is wanted; it and the result are in ticks. `frame`
+/// is the ticks of a record frame.
 pub fn roll_by(
     frame: i128,
     before: Option<&Item>,

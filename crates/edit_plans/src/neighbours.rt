@@ -1,22 +1,11 @@
-//! The nearest items beside a child: transitions are passed over.
+//! The nearest items next to a child: transitions are passed over.
 
 ghost use Rattle.std.specs.Prelude.{◌≡◌, ◌<◌, ◌≤◌, ◌+◌, IfSome, IfNone, None, length, take, drop};
-ghost use Rattle.otio_model.specs.Trees as trees;
 ghost use Rattle.otio_model.specs.Trees.{items_of};
 ghost use Rattle.edits.specs.Edges.{first_item, last_item};
 ghost use Rattle.edit_plans.specs.Neighbours.{IsAfter, IsBefore};
 
-use otio_model::{Children, Item, ItemOf};
-
-// Whether an item is a transition.
-fn is_transition(item: &Item) -> bool
-    ensures { result ≡ trees.is_transition item.now }
-{
-    match item {
-        ItemOf::Transition(_) => true,
-        _ => false,
-    }
-}
+use otio_model::Children;
 
 /// The index of the nearest child before an index that isn't a transition; `None` where there is
 /// none.
@@ -26,14 +15,14 @@ pub fn before_item(children: &Children, index: usize) -> Option<usize>
     ensures none { IfNone result (last_item (take index (items_of children.now)) ≡ None) }
 {
     'children: for candidate in (0..index).rev() {
-        if !is_transition(children.child(candidate)) {
+        if !children.child(candidate).is_transition() {
             return Some(candidate);
         }
     }
     None
 }
 
-/// The index of the nearest child behind an index that isn't a transition; `None` where there is
+/// The index of the nearest child after an index that isn't a transition; `None` where there is
 /// none.
 pub fn after_item(children: &Children, index: usize) -> Option<usize>
     requires { index < length (items_of children.now) }
@@ -43,7 +32,7 @@ pub fn after_item(children: &Children, index: usize) -> Option<usize>
 {
     let end = children.len();
     'children: for candidate in index + 1..end {
-        if !is_transition(children.child(candidate)) {
+        if !children.child(candidate).is_transition() {
             return Some(candidate);
         }
     }

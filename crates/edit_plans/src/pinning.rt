@@ -1,12 +1,13 @@
 //! What pins a track whose length would change.
 
-ghost use Rattle.std.specs.Prelude.{◌≡◌, ◌<◌, ◌≤◌, ◌^◌, ℕ, IfOk, List, drop, length};
-ghost use Rattle.std.specs.Prelude.{slice_get, take};
+ghost use Rattle.std.specs.Prelude.{◌≡◌, ◌≢◌, ◌<◌, ◌≤◌, ◌^◌, ℕ, IfErr, IfOk, List, None, OnOk};
+ghost use Rattle.std.specs.Prelude.{Some, drop, length, slice_get, take};
 ghost use Rattle.otio_model.specs.Lengths.{source_of};
 ghost use Rattle.edits.specs.Refusals as refusals;
-ghost use Rattle.edit_plans.specs.Pins.{freedom};
+ghost use Rattle.edit_plans.specs.Pins.{freedom, pin_by};
 
-use otio_model::{Item, ItemOf, Place, Timeline};
+use crate::clamps::is_zero;
+use otio_model::{EditFault, Item, ItemOf, Place, Timeline};
 use std::alloc::{AllocError, Global};
 use tick_time::Span;
 
@@ -45,16 +46,6 @@ pub(crate) fn source_range(item: &Item) -> Option<Span>
     }
 }
 
-// Whether an item is a track.
-fn is_track(item: &Item) -> bool
-    ensures { result ≡ refusals.is_track item.now }
-{
-    match item {
-        ItemOf::Track(_) => true,
-        _ => false,
-    }
-}
-
 // Whether a source_range pins an item that would change.
 fn own_range(item: &Item) -> Pin
     ensures { (place : List ℕ) → freedom place result ≡ refusals.own_range item.now }
@@ -65,14 +56,14 @@ fn own_range(item: &Item) -> Pin
     }
 }
 
-// What pins an item, where that is told of its child, to which so many indexes lead.
+// What pins an item, where that is known of its child, to which so many indexes lead.
 fn above(item: &Item, child: usize, pin: Pin) -> Pin
     ensures { (place : List ℕ) → freedom place result
         ≡ refusals.with_child (take child place) item.now (freedom place pin) }
 {
     match pin {
         Pin::Changes => {
-            if is_track(item) {
+            if item.is_track() {
                 Pin::Above(child)
             } else {
                 own_range(item)
@@ -135,5 +126,28 @@ pub fn unpinned(
                 _ => Ok(None),
             },
         },
+    }
+}
+
+/// Lets the length of the track at a place change by so many ticks: it stays as it is, or something
+/// pins it. [`EditFault::Unpinned`] comes exactly where nothing does, and [`EditFault::Memory`]
+/// where memory runs out.
+pub fn pinned(
+    alloc: Global,
+    timeline: &Timeline,
+    place: &Place,
+    more: i128,
+) -> Result<(), EditFault>
+    ensures ok { OnOk result (pin_by more place.now timeline.now ≡ None) }
+    ensures fault { IfErr result (λ fault. fault ≢ EditFault.Memory →
+        pin_by more place.now timeline.now ≡ Some fault) }
+{
+    if is_zero(more) {
+        return Ok(());
+    }
+    match unpinned(alloc, timeline, place) {
+        Ok(Some(free)) => Err(EditFault::Unpinned(free)),
+        Ok(None) => Ok(()),
+        Err(_) => Err(EditFault::Memory),
     }
 }

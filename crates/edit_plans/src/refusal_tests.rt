@@ -9,16 +9,6 @@ ghost use Rattle.pieces.specs.Short.{IsShort};
 use otio_model::{EditFault, Item, ItemOf, Place, Timeline};
 use pieces::ticks_of;
 
-/// Whether an item is a track.
-pub fn is_track(item: &Item) -> bool
-    ensures { result ≡ refusals.is_track item.now }
-{
-    match item {
-        ItemOf::Track(_) => true,
-        _ => false,
-    }
-}
-
 /// Whether an item is a gap.
 pub fn is_gap(item: &Item) -> bool
     ensures { result ≡ edges.is_gap item.now }
@@ -41,7 +31,7 @@ pub fn place_fault(timeline: &Timeline, place: &Place) -> Option<EditFault>
     }
     match timeline.at(place) {
         Some(item) => {
-            if is_track(item) {
+            if item.is_track() {
                 None
             } else {
                 Some(EditFault::NotTrack)

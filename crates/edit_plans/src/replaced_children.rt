@@ -10,9 +10,9 @@ ghost use Rattle.edits.specs.Cuts as cuts;
 ghost use Rattle.edits.specs.Narrow as narrow;
 ghost use Rattle.pieces.specs.Short.{AreCuttable};
 
-use crate::touched_children::{ahead, child, touched};
-use otio_model::{Children, Item, copy_item};
-use pieces::{RangedFault, back_items, front_items, is_stripped, sound_ticks};
+use crate::touched_children::{ahead, touched};
+use otio_model::{Children, Item};
+use pieces::{RangedFault, add_copy, back_items, front_items, is_stripped, sound_ticks};
 use std::alloc::{AllocError, Global};
 use tick_time::Rate;
 
@@ -27,6 +27,27 @@ pub struct Middle {
     pub put: Vec<Item>,
 }
 
+/// Children that stand one after another.
+#[derive(Clone, Copy)]
+pub struct Stretch {
+    /// The index of the first of them.
+    pub at: usize,
+    /// How many they are.
+    pub count: usize,
+}
+
+/// A zone of a list: from one instant up to another one, in ticks from the start of the list.
+#[derive(Clone, Copy)]
+pub struct Zone {
+    /// Where it begins.
+    pub from: i128,
+    /// Where it ends.
+    pub to: i128,
+    pub ghost low: { pos 0 ≤ℤ from },
+    pub ghost forward: { from ≤ℤ to },
+    pub ghost high: { to ≤ℤ pos 170141183460469231731687303715884105727 },
+}
+
 // Three lists in one.
 fn joined(front: Vec<Item>, put: Vec<Item>, back: Vec<Item>) -> Result<Vec<Item>, AllocError>
     ensures { IfOk result (λ all. all.items ≡ front.items ++ (put.items ++ back.items)) }
@@ -39,31 +60,27 @@ fn joined(front: Vec<Item>, put: Vec<Item>, back: Vec<Item>) -> Result<Vec<Item>
     Ok(all)
 }
 
-// The front of a list up to an instant, what is put, and the back of the list from another instant
-// on.
+// The front of a list up to a zone, what is put, and the back of the list from the zone's end on.
 fn between(
     alloc: Global,
     list: &[Item],
-    from: i128,
+    zone: Zone,
     put: Vec<Item>,
-    to: i128,
     rate: Rate,
 ) -> Result<Vec<Item>, RangedFault>
-    requires from { pos 0 ≤ℤ from }
-    requires to { pos 0 ≤ℤ to }
     requires faultless { AreCuttable list.now }
     ensures made { IfOk result (λ all. (n : List Child) → all_made rate n ≡ Some put.items →
-        all_made rate (cuts.put_between list.now from n to) ≡ Some all.items) }
+        all_made rate (cuts.put_between list.now zone.from n zone.to) ≡ Some all.items) }
     ensures far { IfErr result (λ fault. fault ≡ RangedFault.Range → (n : List Child) →
-        has_far (cuts.put_between list.now from n to) ≡ true) }
+        has_far (cuts.put_between list.now zone.from n zone.to) ≡ true) }
 {
-    let front = match front_items(alloc, list, from, rate) {
+    let front = match front_items(alloc, list, zone.from, rate) {
         Ok(front) => front,
         Err(fault) => return Err(fault),
     };
-    let back = match back_items(alloc, list, to, rate) {
+    let back = match back_items(alloc, list, zone.to, rate) {
         Ok(back) => back,
-        Err(fault) => return Err(fault),
+        Err(_) => return Err(RangedFault::Memory),
     };
     match joined(front, put, back) {
         Ok(all) => Ok(all),
@@ -71,31 +88,29 @@ fn between(
     }
 }
 
-/// Copies of so many children from an index on without the transitions that a zone strips: those
-/// whose overlap has an instant of it, or whose cut lies in it, both ends included. The zone is
-/// given in ticks from the start of the first of them. An error comes where memory runs out.
+/// Copies of these children without the transitions that a zone strips: those whose overlap has an
+/// instant of it, or whose cut lies in it, both ends included. The zone goes from `from` to `to`, in
+/// ticks from the start of the first of these children. An error comes where memory runs out.
 pub fn kept(
     alloc: Global,
     children: &Children,
-    at: usize,
-    number: usize,
+    stretch: Stretch,
     from: i128,
     to: i128,
 ) -> Result<Vec<Item>, AllocError>
     requires few { count children.now < 2 ^ 32 }
-    requires there { at + number ≤ length (items_of children.now) }
+    requires there { stretch.at + stretch.count ≤ length (items_of children.now) }
     requires faultless { AreCuttable (items_of children.now) }
-    ensures made { IfOk result (λ list.
-        list.items ≡ cuts.strip (take number (drop at (items_of children.now))) from to) }
+    ensures made { IfOk result (λ list. list.items
+        ≡ cuts.strip (take stretch.count (drop stretch.at (items_of children.now))) from to) }
     ensures faultless { IfOk result (λ list. AreCuttable list.items) }
 {
     let mut kept = Vec::new(alloc);
     let mut start: i128 = 0;
-    'children: for index in at..at + number {
-        let item = child(children, index);
+    'children: for index in stretch.at..stretch.at + stretch.count {
+        let item = children.child(index);
         if !is_stripped(item, start, from, to) {
-            let copy = copy_item(alloc, item)?;
-            kept.push(copy)?;
+            add_copy(alloc, &mut kept, item)?;
             start += sound_ticks(item);
         }
     }
@@ -112,45 +127,60 @@ fn less(instant: i128, start: i128) -> i128
     instant - start
 }
 
+// A zone as seen from an instant that isn't after its start.
+fn zone_from(zone: Zone, start: i128) -> Zone
+    requires low { pos 0 ≤ℤ start }
+    requires high { start ≤ℤ zone.from }
+    ensures from { result.from ≡ zone.from -ℤ start }
+    ensures to { result.to ≡ zone.to -ℤ start }
+{
+    Zone {
+        from: less(zone.from, start),
+        to: less(zone.to, start),
+    }
+}
+
 /// What comes in place of the children that a zone touches, where the zone's transitions go and
-/// these items are put into it. `from` and `to`, the ends of the zone, are in ticks from the start
-/// of the list. `rate` is the record rate, at which an item without a range is counted. It doesn't
-/// ask whether the cuts fall on whole ticks. [`RangedFault::Range`] comes only where a new time is
-/// out of range, and [`RangedFault::Memory`] where memory runs out.
+/// these items are put into it. `rate` is the record rate, at which an item without a range is
+/// counted. It doesn't ask whether the cuts fall on whole ticks. [`RangedFault::Range`] comes only
+/// where a new time is out of range, and [`RangedFault::Memory`] where memory runs out.
 pub fn fill_zone(
     alloc: Global,
     children: &Children,
-    from: i128,
+    zone: Zone,
     put: Vec<Item>,
-    to: i128,
     rate: Rate,
 ) -> Result<Middle, RangedFault>
     requires few { count children.now < 2 ^ 32 }
     requires faultless { AreCuttable (items_of children.now) }
-    requires from { pos 0 ≤ℤ from }
-    requires to { from ≤ℤ to }
     ensures made { IfOk result (λ m. (n : List Child) → all_made rate n ≡ Some put.items →
-        all_made rate (cuts.put_between (cuts.strip (items_of children.now) from to) from n to)
+        all_made rate (cuts.put_between (cuts.strip (items_of children.now) zone.from zone.to)
+        zone.from n zone.to)
         ≡ Some (replaced m.at m.count m.put.items (items_of children.now))) }
     ensures at { IfOk result
-        (λ m. m.at ≡ length (narrow.ahead (items_of children.now) from to)) }
+        (λ m. m.at ≡ length (narrow.ahead (items_of children.now) zone.from zone.to)) }
     ensures count { IfOk result
-        (λ m. m.count ≡ length (narrow.touched (items_of children.now) from to)) }
+        (λ m. m.count ≡ length (narrow.touched (items_of children.now) zone.from zone.to)) }
     ensures within { IfOk result (λ m. m.at + m.count ≤ length (items_of children.now)) }
     ensures few { IfOk result (λ m. length m.put.items
-        ≤ length (narrow.touched (items_of children.now) from to) + 1 + length put.items) }
+        ≤ length (narrow.touched (items_of children.now) zone.from zone.to) + 1
+        + length put.items) }
     ensures far { IfErr result (λ fault. fault ≡ RangedFault.Range → (n : List Child) → has_far
-        (cuts.put_between (cuts.strip (items_of children.now) from to) from n to) ≡ true) }
+        (cuts.put_between (cuts.strip (items_of children.now) zone.from zone.to)
+        zone.from n zone.to) ≡ true) }
 {
-    let first = ahead(children, from, to);
-    let count = touched(children, first, from, to);
-    let low = less(from, first.ticks);
-    let high = less(to, first.ticks);
-    let list = match kept(alloc, children, first.count, count, low, high) {
+    let first = ahead(children, zone.from, zone.to);
+    let count = touched(children, first, zone.from, zone.to);
+    let stretch = Stretch {
+        at: first.count,
+        count,
+    };
+    let inner = zone_from(zone, first.ticks);
+    let list = match kept(alloc, children, stretch, inner.from, inner.to) {
         Ok(list) => list,
         Err(_) => return Err(RangedFault::Memory),
     };
-    let between = between(alloc, list.as_slice(), low, put, high, rate);
+    let between = between(alloc, list.as_slice(), inner, put, rate);
     drop(list);
     match between {
         Ok(put) => Ok(Middle {

@@ -19,10 +19,7 @@ pub fn child(children: &Children, index: usize) -> &Item
     requires { index < length (items_of children.now) }
     ensures { slice_get (items_of children.now) index ≡ Some result.now }
 {
-    match children.item(index) {
-        Some(item) => item,
-        None => unreachable!(),
-    }
+    children.child(index)
 }
 
 /// The first children of a list.
@@ -42,7 +39,7 @@ fn begins_by(at: i128, to: i128) -> bool
     at <= to
 }
 
-// Whether what starts at an instant ends at or behind another one.
+// Whether what starts at an instant ends at or after another one.
 #[tactic(auto, using(crate::proofs::Passing::meets))]
 fn ends_from(at: i128, ticks: i128, from: i128) -> bool
     requires low { pos 0 ≤ℤ at }
@@ -118,7 +115,7 @@ pub fn ahead(children: &Children, from: i128, to: i128) -> Passed
     let first = clear(children, from);
     let mut at = first.ticks;
     'children: for index in first.count..children.len() {
-        let item = child(children, index);
+        let item = children.child(index);
         if is_met(item, at, from, to) {
             return Passed {
                 count: index,
@@ -134,7 +131,7 @@ pub fn ahead(children: &Children, from: i128, to: i128) -> Passed
 }
 
 /// How many children there are from the first to the last that a zone touches, where those before
-/// the first are given. The end of the list counts as touched where the zone begins behind it.
+/// the first are given. The end of the list counts as touched where the zone begins after it.
 /// `from` and `to`, the ends of the zone, are in ticks from the start of the list.
 pub fn touched(children: &Children, ahead: Passed, from: i128, to: i128) -> usize
     requires few { count children.now < 2 ^ 32 }
@@ -151,7 +148,7 @@ pub fn touched(children: &Children, ahead: Passed, from: i128, to: i128) -> usiz
         if to < at - reach {
             return count;
         }
-        let item = child(children, index);
+        let item = children.child(index);
         if is_met(item, at, from, to) {
             count = index + 1 - ahead.count;
         }

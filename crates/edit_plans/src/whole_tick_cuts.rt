@@ -6,7 +6,7 @@ ghost use Rattle.otio_model.specs.Trees.{items_of};
 ghost use Rattle.edits.specs.Cuts as cuts;
 ghost use Rattle.pieces.specs.Short.{AreCuttable};
 
-use crate::touched_children::{child, held};
+use crate::touched_children::held;
 use otio_model::Children;
 use pieces::is_whole_at;
 
@@ -19,7 +19,7 @@ pub fn can_be_cut(children: &Children, ticks: i128) -> bool
     ensures { result ≡ cuts.cuts_whole (items_of children.now) ticks }
 {
     match held(children, ticks) {
-        Some(seat) => is_whole_at(child(children, seat.index), ticks - seat.start),
+        Some(seat) => is_whole_at(children.child(seat.index), ticks - seat.start),
         None => true,
     }
 }

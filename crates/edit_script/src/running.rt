@@ -1,6 +1,6 @@
 //! Commands one after another.
 
-ghost use Rattle.std.specs.Prelude.{◌≡◌, ◌≢◌, ℕ, List, IfErr, OnErr, OnOk, length};
+ghost use Rattle.std.specs.Prelude.{◌≡◌, ◌≢◌, ◌<◌, ℕ, List, IfErr, OnErr, OnOk, length};
 ghost use Rattle.std.specs.Option.{option_copied};
 ghost use Rattle.undo_log.specs.States.{IsKept, State, state_of};
 ghost use Rattle.edit_script.specs.declared.commands.Command.{Command as AnyCommand};
@@ -28,7 +28,8 @@ use undo_log::Log;
 /// reel that isn't listed, or no media list is given; else [`CommandFault::Line`] where one of its
 /// times is out of range; else [`CommandFault::Edit`] with the fault of its edit, or
 /// [`CommandFault::Undo`] where nothing is to be undone or redone. [`CommandFault::Memory`] comes
-/// where memory runs out; timeline and log stand then as some of the commands left them.
+/// where memory runs out; timeline and log stand then as the commands before one of the script left
+/// them.
 pub fn apply_script(
     alloc: Global,
     timeline: &mut Timeline,
@@ -43,7 +44,8 @@ pub fn apply_script(
     ensures halts { IfErr result (λ fault. fault ≢ CommandFault.Memory
         → Halts (option_copied media.entry) script.now
         (state_of log.old timeline.old) (state_of log.new timeline.new) fault) }
-    ensures some { OnErr result ((n : ℕ) × Runs (option_copied media.entry) script.now n
+    ensures some { OnErr result ((n : ℕ) × (n < length script.now)
+        × Runs (option_copied media.entry) script.now n
         (state_of log.old timeline.old) (state_of log.new timeline.new)) }
     ensures inner { IfErr result
         (λ fault. (line : ℕ) → fault ≢ CommandFault.Edit line EditFault.Memory) }
@@ -53,7 +55,7 @@ pub fn apply_script(
 {
     'commands: for command in script {
         match apply_command(alloc, timeline, log, media, command) {
-            Ok(()) => {}
+            Ok(_) => {}
             Err(fault) => return Err(fault),
         }
     }

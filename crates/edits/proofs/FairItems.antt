@@ -1,8 +1,9 @@
 -- A transition that isn't misplaced has no negative offset.
-use Rattle.std.proofs.Common.{◌≡◌, refl, subst, ℤ, pos, ◌≤ℤ◌, Bool, true, false, ◌||◌, Option, Some}
+use Rattle.std.proofs.Common.{◌≡◌, subst, pos, ◌≤ℤ◌, false, Option, Some}
 use Rattle.std.proofs.Common.{None, arith}
-use Rattle.std.specs.Prelude.{int_lt}
 use Rattle.std.proofs.lemmas.Int.{ints}
+use Rattle.std.proofs.lemmas.Bool.{or_parts}
+use Rattle.limits.proofs.IntegerTests.{int_lt-false}
 use Rattle.tick_time.specs.declared.times.Time.{Time}
 use Rattle.otio_model.specs.declared.compositions.ItemOf.{ItemOf}
 use Rattle.otio_model.specs.declared.compositions.ItemOf.TheVariants.{Clip, Gap, Transition, Stack}
@@ -14,17 +15,9 @@ use Rattle.coord.specs.Looks.{Overlap}
 use Rattle.edits.specs.Good.{IsFair}
 use Rattle.coord.proofs.Members.{same_some}
 
-neither : (a b : Bool) → (a || b) ≡ false → (a ≡ false) × (b ≡ false)
-neither false false e = (refl, refl)
-neither false true e = absurd (cc e)
-neither true b e = absurd (cc e)
-
-not_below : (z : ℤ) → int_lt z (pos 0) ≡ false → pos 0 ≤ℤ z
-not_below z e = grind (arith, ints)
-
 not_negative : (o : Option Time) → is_negative o ≡ false → pos 0 ≤ℤ offset_of o
 not_negative None e = omega (arith, ints)
-not_negative (Some t) e = not_below t.ticks e
+not_negative (Some t) e = int_lt-false t.ticks (pos 0) e
 
 no_overlap : (o : Overlap) → Path (Option Overlap) None (Some o) → ⊥
 no_overlap o e = cc e
@@ -36,7 +29,7 @@ fair_item (Clip c) e =
 fair_item (Gap c) e =
     record { before = λ o f. absurd (no_overlap o f); after = λ o f. absurd (no_overlap o f) }
 fair_item (Transition t) e =
-    let n = neither (is_negative t.in_offset) (is_negative t.out_offset) e in record {
+    let n = or_parts (is_negative t.in_offset) (is_negative t.out_offset) e in record {
       before = λ o f. subst (λ (y : Overlap). pos 0 ≤ℤ y.before) (same_some _ o f)
           (not_negative t.in_offset n.0);
       after = λ o f. subst (λ (y : Overlap). pos 0 ≤ℤ y.after) (same_some _ o f)

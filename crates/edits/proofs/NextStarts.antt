@@ -1,5 +1,5 @@
--- Where the next child starts.
-use Rattle.std.proofs.Common.{◌≡◌, ap, ◌∙◌, ℕ, zero, suc, ◌+◌, pos, ◌+ℤ◌, Some, List, [], ◌∷◌, take, arith}
+-- How long children are together, and where the next one starts.
+use Rattle.std.proofs.Common.{◌≡◌, ap, ◌∙◌, ℕ, zero, suc, ◌+◌, pos, ◌+ℤ◌, ◌≤ℤ◌, Some, List, [], ◌∷◌, take, arith}
 use Rattle.std.specs.Prelude.{slice_get}
 use Rattle.std.proofs.lemmas.Int.{ints}
 use Rattle.otio_model.specs.declared.compositions.ItemOf.{ItemOf}
@@ -7,6 +7,10 @@ use Rattle.otio_model.specs.declared.compositions.Listed.{Listed}
 use Rattle.coord.proofs.Members.{same_some}
 use Rattle.edits.specs.Children.{ticks}
 use Rattle.edits.specs.Edges.{added}
+
+pub added_low : (l : List (ItemOf Listed)) → pos 0 ≤ℤ added l
+added_low [] = omega (arith, ints)
+added_low (x ∷ l) = let t = added_low l in omega (arith, ints)
 
 added_more : (l : List (ItemOf Listed)) (i : ℕ) (x : ItemOf Listed) → slice_get l i ≡ Some x
     → added (take (suc i) l) ≡ added (take i l) +ℤ ticks x

@@ -1,7 +1,8 @@
 -- The record rate, said as a rate and by its frames a second.
-use Rattle.std.proofs.Common.{◌≡◌, refl, ap, pos, Option, Some, None}
+use Rattle.std.proofs.Common.{◌≡◌, refl, sym, ap, ◌∙◌, pos, Option, Some, None}
 use Rattle.std.specs.Prelude.{option_map, option_and_then, unwrap_or}
 use Rattle.std.specs.Option.{option_or}
+use Rattle.tick_time.specs.declared.rates.Rate.{Rate}
 use Rattle.tick_time.specs.declared.spans.Span.{Span}
 use Rattle.tick_time.specs.declared.times.Time.{Time}
 use Rattle.otio_model.specs.declared.compositions.Clip.{Clip as ClipRow}
@@ -10,6 +11,7 @@ use Rattle.otio_model.specs.Lengths.{clip_range}
 use Rattle.coord.specs.Keys.{frame_rate}
 use Rattle.coord.specs.Programs as programs
 use Rattle.coord.specs.Programs.{first_clip, frame_ticks, record_rate}
+use Rattle.coord.proofs.FrameRates.{by_frames}
 use Rattle.edits.specs.Finest.{rate_24}
 use Rattle.edits.specs.After.{clip_rate, rate_of, frame_of}
 
@@ -30,3 +32,7 @@ rate_is t = of t.global_start_time
 
 pub frame_is : (t : Timeline) → frame_of t ≡ pos (frame_ticks (record_rate t))
 frame_is t = ap (λ r. pos (frame_ticks r)) (rate_is t)
+
+-- a rate of the fraction that timelines show is the one at which their edits count
+pub record_rate_is_one : (t : Timeline) (a : Rate) → frame_rate a ≡ record_rate t → a ≡ rate_of t
+record_rate_is_one t a e = by_frames a (rate_of t) (e ∙ sym (rate_is t))

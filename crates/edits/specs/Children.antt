@@ -1,15 +1,15 @@
 -- The children of a list to be: old ones, and items with another range.
-use Rattle.std.specs.Prelude.{ℤ, pos, Bool, true, false, ◌||◌, not, List, [], ◌∷◌, map, Option, Some, None, option_map}
+use Rattle.std.specs.Prelude.{ℤ, pos, Bool, false, ◌||◌, not, List, [], ◌∷◌, map, Option, Some, None, option_map}
 use Rattle.tick_time.specs.declared.rates.Rate.{Rate}
 use Rattle.tick_time.specs.declared.spans.Span.{Span}
 use Rattle.otio_model.specs.declared.compositions.ItemOf.{ItemOf}
 use Rattle.otio_model.specs.declared.compositions.ItemOf.TheVariants.{Clip, Gap, Transition, Stack, Track}
 use Rattle.otio_model.specs.declared.compositions.Listed.{Listed}
-use Rattle.otio_model.specs.Lengths.{clip_range}
+use Rattle.otio_model.specs.Lengths.{clip_range, or_zero}
+pub use Rattle.otio_model.specs.Plain.{plain_gap}
 use Rattle.coord.specs.Looks.{Look}
 use Rattle.coord.specs.Speeds.{speed_of, media_at}
 use Rattle.coord.specs.Sights.{View, sight, sights, seen, shows_inside, overlap_of}
-use Rattle.otio_model.specs.Lengths.{or_zero}
 use Rattle.edits.specs.Finest.{in_range}
 use Rattle.edits.specs.Nears.{near, span_of}
 
@@ -38,19 +38,6 @@ seen_child v (Ranged x s n) =
 
 abbrev pub child_looks : View → List Child → List Look
 child_looks v l = map (seen_child v) l
-
--- a gap without anything
-abbrev pub plain_gap : ItemOf Listed
-plain_gap =
-    Gap (record {
-      metadata = [];
-      name = [];
-      source_range = None;
-      effects = [];
-      markers = [];
-      enabled = true;
-      rest = [];
-    })
 
 -- a new gap of so many ticks
 abbrev pub new_gap : ℤ → Child

@@ -14,7 +14,7 @@ use Rattle.otio_model.specs.Lengths.{trimmed_start}
 use Rattle.edits.specs.Children.{Child, Old, Ranged, ticks, new_gap}
 use Rattle.edits.specs.Cuts.{strip, olds}
 
--- an item of a list, with what stands before and behind it
+-- an item of a list, with what stands before and after it
 pub record Held : Type 0 where
   pub before : List (ItemOf Listed)
   pub item : ItemOf Listed
@@ -30,7 +30,7 @@ held_at (x ∷ l) w =
     cond (within (pos 0) (ticks x) w) (Some (record { before = []; item = x; behind = l }))
     (option_map (held_behind x) (held_at l (w -ℤ ticks x)))
 
--- the lengths of items added up: where what stands behind them starts
+-- the lengths of items added up: where what stands after them starts
 abbrev pub added : List (ItemOf Listed) → ℤ
 added [] = pos 0
 added (x ∷ l) = ticks x +ℤ added l
@@ -61,10 +61,10 @@ last_changed f [] = []
 last_changed f (x ∷ l) =
     cond (is_some (last_item l) || is_transition x) (Old x ∷ last_changed f l) (f x ++ olds l)
 
--- ---- room
+-- ---- handles
 
--- unused media before and behind what a clip uses, in ticks of the media
-pub record Room : Type 0 where
+-- unused media before and after what a clip uses, in ticks of the media
+pub record Handles : Type 0 where
   pub before : ℤ
   pub behind : ℤ
 
@@ -72,8 +72,8 @@ abbrev pub million : ℤ
 million = pos 1000000
 
 -- so many ticks of a clip from a start, in media of a range, at a speed
-abbrev pub room_in : Span → ℤ → ℤ → ℤ → Room
-room_in media from n speed = record {
+abbrev pub handles_in : Span → ℤ → ℤ → ℤ → Handles
+handles_in media from n speed = record {
   before = int_max (pos 0)
       ((from +ℤ int_div_euclid (int_min (pos 0) (n *ℤ speed)) million) -ℤ media.start.ticks);
   behind = int_max (pos 0)
@@ -81,37 +81,37 @@ room_in media from n speed = record {
       +ℤ int_div_euclid (int_min (pos 0) (pos 0 -ℤ (n *ℤ speed))) million);
 }
 
--- none where there is no end of it
-abbrev pub media_room : ItemOf Listed → Option Room
-media_room (Clip c) =
+-- the handles of a clip; none where its media have no range, or of another item
+abbrev pub clip_handles : ItemOf Listed → Option Handles
+clip_handles (Clip c) =
     option_map
-    (λ media. room_in media (trimmed_start {C = Listed} (Clip c)) (ticks (Clip c))
+    (λ media. handles_in media (trimmed_start {C = Listed} (Clip c)) (ticks (Clip c))
     (speed_of {C = Listed} (Clip c))) (clip_range c)
-media_room (Gap g) = None
-media_room (Transition t) = None
-media_room (Stack k) = None
-media_room (Track t) = None
+clip_handles (Gap g) = None
+clip_handles (Transition t) = None
+clip_handles (Stack k) = None
+clip_handles (Track t) = None
 
 -- how far ticks of media go at a speed, in ticks of the item
 abbrev pub played : ℤ → ℤ → ℤ
 played n speed = int_div_euclid (n *ℤ million) speed
 
 -- how far the head, and the tail, of an item of a speed can be moved outward
-abbrev pub head_by : ℤ → Room → Option ℤ
-head_by speed room =
-    cond (int_lt (pos 0) speed) (Some (played room.before speed))
-    (cond (int_lt speed (pos 0)) (Some (played room.behind (pos 0 -ℤ speed))) None)
+abbrev pub head_by : ℤ → Handles → Option ℤ
+head_by speed handles =
+    cond (int_lt (pos 0) speed) (Some (played handles.before speed))
+    (cond (int_lt speed (pos 0)) (Some (played handles.behind (pos 0 -ℤ speed))) None)
 
-abbrev pub tail_by : ℤ → Room → Option ℤ
-tail_by speed room =
-    cond (int_lt (pos 0) speed) (Some (played room.behind speed))
-    (cond (int_lt speed (pos 0)) (Some (played room.before (pos 0 -ℤ speed))) None)
+abbrev pub tail_by : ℤ → Handles → Option ℤ
+tail_by speed handles =
+    cond (int_lt (pos 0) speed) (Some (played handles.behind speed))
+    (cond (int_lt speed (pos 0)) (Some (played handles.before (pos 0 -ℤ speed))) None)
 
 abbrev pub head_room : ItemOf Listed → Option ℤ
-head_room x = option_and_then (head_by (speed_of x)) (media_room x)
+head_room x = option_and_then (head_by (speed_of x)) (clip_handles x)
 
 abbrev pub tail_room : ItemOf Listed → Option ℤ
-tail_room x = option_and_then (tail_by (speed_of x)) (media_room x)
+tail_room x = option_and_then (tail_by (speed_of x)) (clip_handles x)
 
 -- ---- clamps
 
@@ -182,7 +182,7 @@ pub record Zone : Type 0 where
   pub from : ℤ
   pub to : ℤ
 
--- what is left before and behind the item where the zone's transitions go
+-- what is left before and after the item where the zone's transitions go
 abbrev pub left_before : Held → Zone → List (ItemOf Listed)
 left_before h z = strip h.before z.from z.to
 
@@ -192,10 +192,10 @@ left_behind h z = strip h.behind (z.from -ℤ end h) (z.to -ℤ end h)
 -- how far a slip goes
 abbrev pub slip_by : ℤ → Held → ℤ → ℤ
 slip_by f h by =
-    elim (media_room h.item) [
+    elim (clip_handles h.item) [
       | None ↦ by
-      | Some room
-          ↦ clamped (Some (whole_frames f room.before)) (Some (whole_frames f room.behind)) by
+      | Some handles ↦ clamped (Some (whole_frames f handles.before))
+          (Some (whole_frames f handles.behind)) by
     ]
 
 abbrev pub slipped : ℤ → Held → ℤ → List Child
@@ -282,8 +282,7 @@ trimmed_behind h m = cond (is_gap_at (first_item h.behind))
 abbrev pub trimmed : Held → Moves → List Child
 trimmed h m = trimmed_before h m ++ (moved m.head m.tail h.item ∷ trimmed_behind h m)
 
--- a roll of the head, by the room of the item before; none where there is none, and then it isn't
--- asked
+-- a roll of the head, by the handle of the item before; 0 where no item stands before it
 abbrev pub roll_head : ℤ → Held → ℤ → ℤ
 roll_head f h by = elim (last_item h.before) [
   | None ↦ pos 0

@@ -1,5 +1,6 @@
 -- What the ten edits make of a list of items. All their numbers are in ticks here.
-use Rattle.std.specs.Prelude.{ℕ, ◌+◌, ◌*◌, ◌/◌, ◌%◌, ◌==◌, nat_lt, ℤ, pos, ◌+ℤ◌, ◌*ℤ◌, int_lt, ◌&&◌, ◌||◌, cond, List, [], ◌∷◌, ◌++◌, Some, None, unsigned_abs}
+use Rattle.std.specs.Prelude.{◌*◌, ℤ, pos, ◌+ℤ◌, ◌*ℤ◌, int_lt, cond, List, [], ◌∷◌, ◌++◌, Some, None, unsigned_abs}
+use Rattle.tick_time.specs.Rounding.{half_even}
 use Rattle.otio_model.specs.declared.compositions.ItemOf.{ItemOf}
 use Rattle.otio_model.specs.declared.compositions.ItemOf.TheVariants.{Clip, Gap, Transition, Stack, Track}
 use Rattle.otio_model.specs.declared.compositions.Listed.{Listed}
@@ -22,7 +23,7 @@ use Rattle.edits.specs.Edges.{Held, held_at, start, end, Moves, slipped, slide_b
 abbrev pub overwritten : List (ItemOf Listed) → ℤ → Child → List Child
 overwritten l a c = put_between (strip l a (a +ℤ child_ticks c)) a (c ∷ []) (a +ℤ child_ticks c)
 
--- an item between what stands before a and behind it
+-- an item between what stands before a and after it
 abbrev pub inserted : List (ItemOf Listed) → ℤ → ItemOf Listed → List Child
 inserted l a x = put_between (strip l a a) a (Old x ∷ []) a
 
@@ -35,11 +36,6 @@ in_place R.Close h = []
 
 abbrev pub removed : RemoveMode → List (ItemOf Listed) → Held → List Child
 removed mode l h = put_between (strip l (start h) (end h)) (start h) (in_place mode h) (end h)
-
--- a / b as a whole number, rounded half to even
-abbrev pub half_even : ℕ → ℕ → ℕ
-half_even a b =
-    cond (nat_lt (2 * (a % b)) b || ((2 * (a % b) == b) && ((a / b) % 2 == 0))) (a / b) (a / b + 1)
 
 -- the speed at which n ticks fill others, in millionths
 abbrev pub fit_speed : ℤ → ℤ → ℤ

@@ -32,7 +32,7 @@ abbrev pub AllPut : List Child → Type 0
 AllPut [] = Unit {0}
 AllPut (c ∷ n) = IsPut c × AllPut n
 
--- an item of a list, with what stands before and behind it
+-- an item of a list, with what stands before and after it
 pub record IsHeld (l : List (ItemOf Listed)) (h : Held) : Type 0 where
   pub parts : l ≡ h.before ++ (h.item ∷ h.behind)
   pub thing : overlap_of h.item ≡ None
@@ -44,7 +44,7 @@ pub record IsMoved (x : ItemOf Listed) (m : Moves) : Type 0 where
   pub left : pos 0 ≤ℤ ((ticks x -ℤ m.head) +ℤ m.tail)
   pub whole : is_whole_at x m.head ≡ true
 
--- what stands beside an item can give way
+-- what stands next to an item can give way
 abbrev pub IsBefore : Option (ItemOf Listed) → ℤ → Type 0
 IsBefore None head = head ≡ pos 0
 IsBefore (Some y) head = pos 0 ≤ℤ (ticks y +ℤ head)
@@ -58,7 +58,7 @@ abbrev pub IsTrimmedBefore : Option (ItemOf Listed) → ℤ → Type 0
 IsTrimmedBefore None head = pos 0 ≤ℤ head
 IsTrimmedBefore (Some y) head = pos 0 ≤ℤ (gap_ticks y +ℤ head)
 
--- the gap behind it gives way to its tail, or the tail moves inward, or the track ends there
+-- the gap after it gives way to its tail, or the tail moves inward, or the track ends there
 abbrev pub IsTrimmedBehind : Option (ItemOf Listed) → ℤ → Type 0
 IsTrimmedBehind None tail = Unit {0}
 IsTrimmedBehind (Some z) tail = pos 0 ≤ℤ (gap_ticks z -ℤ tail)

@@ -11,7 +11,7 @@ use Rattle.edits.specs.Edges.{added}
 abbrev pub is_met : ItemOf Listed → ℤ → ℤ → Bool
 is_met x a b = is_stripped a b (overlap_of x) || (int_le (pos 0) b && int_le a (ticks x))
 
--- some child is met, or the zone begins behind the list's end
+-- some child is met, or the zone begins after the list's end
 abbrev pub any_met : List (ItemOf Listed) → ℤ → ℤ → Bool
 any_met [] a b = int_lt (pos 0) a
 any_met (x ∷ l) a b = is_met x a b || any_met l (a -ℤ ticks x) (b -ℤ ticks x)
@@ -25,7 +25,7 @@ abbrev pub onward : List (ItemOf Listed) → ℤ → ℤ → List (ItemOf Listed
 onward [] a b = []
 onward (x ∷ l) a b = cond (is_met x a b) (x ∷ l) (onward l (a -ℤ ticks x) (b -ℤ ticks x))
 
--- the children up to the last that is met, and those behind it
+-- the children up to the last that is met, and those after it
 abbrev pub up_to_met : List (ItemOf Listed) → ℤ → ℤ → List (ItemOf Listed)
 up_to_met [] a b = []
 up_to_met (x ∷ l) a b =
@@ -39,6 +39,6 @@ past_met (x ∷ l) a b = cond (any_met (x ∷ l) a b) (past_met l (a -ℤ ticks 
 abbrev pub touched : List (ItemOf Listed) → ℤ → ℤ → List (ItemOf Listed)
 touched l a b = up_to_met (onward l a b) (a -ℤ added (ahead l a b)) (b -ℤ added (ahead l a b))
 
--- and the ones behind them
+-- and the ones after them
 abbrev pub beyond : List (ItemOf Listed) → ℤ → ℤ → List (ItemOf Listed)
 beyond l a b = past_met (onward l a b) (a -ℤ added (ahead l a b)) (b -ℤ added (ahead l a b))

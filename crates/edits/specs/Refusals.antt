@@ -1,8 +1,7 @@
 -- Why an edit is refused: the first of the tests, in their order, that holds.
-use Rattle.std.specs.Prelude.{◌≡◌, ℕ, ◌<◌, ◌*◌, ℤ, pos, ◌+ℤ◌, ◌-ℤ◌, ◌*ℤ◌, int_lt, Bool, true, false, ◌&&◌, ◌||◌, not, cond, List, [], ◌∷◌, ◌++◌, Option, Some, None, option_map, is_some, is_none, slice_get, ◌⊎◌}
+use Rattle.std.specs.Prelude.{◌≡◌, ℕ, ◌<◌, ℤ, pos, ◌+ℤ◌, ◌-ℤ◌, ◌*ℤ◌, int_lt, Bool, true, false, ◌&&◌, ◌||◌, not, cond, List, [], ◌∷◌, ◌++◌, Option, Some, None, option_map, is_some, is_none, slice_get, ◌⊎◌}
 use Rattle.limits.specs.Limits.{most_items}
 use Rattle.otio_model.specs.declared.compositions.ItemOf.{ItemOf}
-use Rattle.otio_model.specs.declared.compositions.ItemOf.TheVariants.{Clip, Gap, Transition, Stack, Track}
 use Rattle.otio_model.specs.declared.compositions.Listed.{Listed}
 use Rattle.otio_model.specs.declared.timelines.Timeline.{Timeline}
 use Rattle.otio_model.specs.declared.edit_types.Edit.{Edit}
@@ -12,6 +11,7 @@ use Rattle.otio_model.specs.declared.edit_types.EditFault.TheVariants as F
 use Rattle.otio_model.specs.declared.edit_types.FillMode.{FillMode}
 use Rattle.otio_model.specs.declared.edit_types.FillMode.TheVariants as M
 use Rattle.otio_model.specs.Trees.{items_of, children_of, item_at}
+pub use Rattle.otio_model.specs.Trees.{is_track}
 use Rattle.otio_model.specs.Lengths.{source_of}
 use Rattle.otio_model.specs.Counts.{count}
 use Rattle.coord.specs.declared.faults.ItemFault.TheVariants.{Long}
@@ -25,13 +25,6 @@ use Rattle.edits.specs.Edits.{edited, filling, fitted, fit_speed}
 use Rattle.edits.specs.After.{place_of, at_of, frame_of, list_of, after}
 
 -- ---- E1 and E2: the place
-
-abbrev pub is_track : ItemOf Listed → Bool
-is_track (Clip c) = false
-is_track (Gap g) = false
-is_track (Transition t) = false
-is_track (Stack k) = false
-is_track (Track t) = true
 
 abbrev pub place_fault : List ℕ → Timeline → Option EditFault
 place_fault [] t = Some F.NotTrack

@@ -6,10 +6,9 @@ use Rattle.otio_model.specs.declared.edit_types.FillMode.TheVariants as F
 use Rattle.otio_model.specs.declared.edit_types.RemoveMode.TheVariants as R
 use Rattle.otio_model.specs.declared.compositions.ItemOf.{ItemOf}
 use Rattle.otio_model.specs.declared.compositions.Listed.{Listed}
-use Rattle.coord.specs.Looks.{Url, Show, Blank, Frame}
-use Rattle.coord.specs.Keys.{frame_rate}
+use Rattle.coord.specs.Looks.{Show, Blank}
 use Rattle.coord.specs.Sights.{exact}
-use Rattle.edits.specs.Finest.{rate_24}
+use Rattle.coord.specs.Worked.{frame_of}
 use Rattle.edits.specs.Children.{Child, Old, Ranged, new_gap}
 use Rattle.edits.specs.WorkedItems.{frames, at_speed, shot, gap, dissolve, first, second, joined, put, sped, late}
 use Rattle.edits.specs.Edges.{held_at}
@@ -143,10 +142,7 @@ pub record AreRefused : Type 0 where
   pub half : is_phased (pos 1) (A.Slice here (pos 1))
       (shot (codes "f") 240 (at_speed (pos 1500000)) 40 12 ∷ []) ≡ false
 
--- a frame of a file
-abbrev pub frame_of : List ℕ → ℕ → Show
-frame_of url n = Frame (Url url) (frames n) (frame_rate rate_24)
-
+-- what the list that an edit makes shows at a frame
 abbrev pub shows : Edit → List (ItemOf Listed) → ℕ → Show
 shows e l n = law (exact (codes "Video")) frame e l (frames n)
 

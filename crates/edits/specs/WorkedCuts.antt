@@ -55,7 +55,7 @@ pub record AreStripped : Type 0 where
   pub cut_before : strip (first ∷ dissolve 0 0 ∷ second ∷ []) (frames 49) (frames 60)
       ≡ first ∷ dissolve 0 0 ∷ second ∷ []
 
--- what stands before an instant of a list and what stands behind it
+-- what stands before an instant of a list and what stands after it
 pub record AreCut : Type 0 where
   pub front_at_cut : front joined (frames 48) ≡ Old first ∷ []
   pub back_at_cut : back joined (frames 48) ≡ Old (dissolve 6 6) ∷ Old second ∷ []

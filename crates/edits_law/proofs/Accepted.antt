@@ -2,6 +2,10 @@
 use Rattle.std.proofs.Common.{◌≡◌, refl, sym, subst, ap, ◌∙◌, ℕ, ℤ, pos, negsuc, ◌+ℤ◌, ◌-ℤ◌, ◌*ℤ◌, ◌≤ℤ◌, ◌<ℤ◌, ◌&&◌, Bool, true, false, Option, Some, None, List, [], ◌∷◌, ◌++◌, arith, append_assoc}
 use Rattle.std.specs.Prelude.{int_lt, int_le, option_map, is_none, not}
 use Rattle.std.proofs.lemmas.Int.{ints, by_lt_z}
+use Rattle.std.proofs.lemmas.Bool.{and_parts as both_true}
+pub use Rattle.std.proofs.lemmas.Bool.{not-false as not_false}
+pub use Rattle.limits.proofs.IntegerTests.{int_lt-false as lt_no}
+use Rattle.limits.proofs.IntegerTests.{int_le-true as le_is, int_lt-true as lt_is}
 use Rattle.otio_model.specs.declared.compositions.ItemOf.{ItemOf}
 use Rattle.otio_model.specs.declared.compositions.Listed.{Listed}
 use Rattle.otio_model.specs.declared.timelines.Timeline.{Timeline}
@@ -30,17 +34,6 @@ pub record Found (l : List (ItemOf Listed)) (w : ℤ) (h : Held) : Type 0 where
 mapped : (x : ItemOf Listed) (o : Option Held) (h : Held) → option_map (held_behind x) o ≡ Some h → (k : Held) × (o ≡ Some k) × (held_behind x k ≡ h)
 mapped x None h e = absurd (cc e)
 mapped x (Some k) h e = (k, refl, cc e)
-
-both_true : (a b : Bool) → (a && b) ≡ true → (a ≡ true) × (b ≡ true)
-both_true true true e = (refl, refl)
-both_true true false e = absurd (cc e)
-both_true false b e = absurd (cc e)
-
-le_is : (a b : ℤ) → int_le a b ≡ true → a ≤ℤ b
-le_is a b e = grind (arith, ints)
-
-lt_is : (a b : ℤ) → int_lt a b ≡ true → a <ℤ b
-lt_is a b e = grind (arith, ints)
 
 pub found : (l : List (ItemOf Listed)) (w : ℤ) (h : Held) → held_at l w ≡ Some h → Found l w h
 found [] w h e = absurd (cc e)
@@ -84,7 +77,7 @@ rest_of : (b : Bool) (fault : EditFault) (o : Option EditFault) → test b fault
 rest_of true fault o e = absurd (cc e)
 rest_of false fault o e = (refl, e)
 
--- behind no fault there is none
+-- after no fault there is none
 pub later : (o p : Option EditFault) → first_fault o p ≡ None → p ≡ None
 later None p e = e
 later (Some fault) p e = absurd (cc e)
@@ -96,10 +89,6 @@ pub record Passed (t : Timeline) (e : Edit) (f : ℤ) (l : List (ItemOf Listed))
   pub neighbour : has_no_neighbour e h ≡ false
   pub speed : is_wrong_speed e h ≡ false
   pub phase : is_phased f e l ≡ true
-
-pub not_false : (b : Bool) → not b ≡ false → b ≡ true
-not_false true e = refl
-not_false false e = absurd (cc e)
 
 pub passed : (t : Timeline) (e : Edit) (f : ℤ) (l : List (ItemOf Listed)) (h : Option Held) → list_fault t e f l h ≡ None → Passed t e f l h
 passed t e f l h k =
@@ -120,9 +109,6 @@ passed t e f l h k =
     record { at = a.0; item = b.0; neighbour = g.0; speed = i.0; phase = not_false (is_phased f e l) j.0 }
 
 -- ---- each edit
-
-pub lt_no : (a b : ℤ) → int_lt a b ≡ false → b ≤ℤ a
-lt_no a b e = grind (arith, ints)
 
 pub times_low : (a : ℤ) (n : ℕ) → pos 0 ≤ℤ a → pos 0 ≤ℤ (a *ℤ pos n)
 times_low (pos m) n h = omega (arith, ints)

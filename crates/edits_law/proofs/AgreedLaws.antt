@@ -33,7 +33,7 @@ use Rattle.coord.proofs.AgreementLemmas.{plain, faded, list_same, Agrees, AllAgr
 use Rattle.edits_law.proofs.Unreached.{looks_map}
 
 -- two of which one is the other without its rates
-abbrev Fades : Show → Show → Type 0
+abbrev pub Fades : Show → Show → Type 0
 Fades a b = a ≡ unrated b
 
 fades_if : (b : Bool) (p q r s : Show) → Fades p r → Fades q s → Fades (cond b p q) (cond b r s)
@@ -47,8 +47,13 @@ all_items (x ∷ l) = (item_agrees x, all_items l)
 looks_fade : (kind : List ℕ) (l : List (ItemOf Listed)) → looks (plain kind) l ≡ map faded (looks (exact kind) l)
 looks_fade kind l = looks_map (plain kind) l ∙ looks_same (map sight l) kind (all_items l) ∙ ap (map faded) (sym (looks_map (exact kind) l))
 
+pub shows_fade : (kind : List ℕ) (l : List (ItemOf Listed)) (w : ℤ)
+    → Fades (list_shows (looks (plain kind) l) w) (list_shows (looks (exact kind) l) w)
+shows_fade kind l w =
+    ap (λ m. list_shows m w) (looks_fade kind l) ∙ list_same (looks (exact kind) l) w
+
 stripped_fades : (kind : List ℕ) (l : List (ItemOf Listed)) (a b w : ℤ) → Fades (stripped (plain kind) l a b w) (stripped (exact kind) l a b w)
-stripped_fades kind l a b w = ap (λ m. list_shows m w) (looks_fade kind (strip l a b)) ∙ list_same (looks (exact kind) (strip l a b)) w
+stripped_fades kind l a b w = shows_fade kind (strip l a b) w
 
 child_fades : (kind : List ℕ) (c : Child) (u : ℤ) → Fades (child_at (plain kind) c u) (child_at (exact kind) c u)
 child_fades kind (Old x) u = item_agrees x kind u
@@ -123,7 +128,7 @@ beside_fades h g k f = of (last_item h.before)
     of None = refl
     of (Some y) = f y
 
-law_fades : (kind : List ℕ) (f : ℤ) (e : Edit) (l : List (ItemOf Listed)) (w : ℤ) → Fades (law (plain kind) f e l w) (law (exact kind) f e l w)
+pub law_fades : (kind : List ℕ) (f : ℤ) (e : Edit) (l : List (ItemOf Listed)) (w : ℤ) → Fades (law (plain kind) f e l w) (law (exact kind) f e l w)
 law_fades kind f (A.Overwrite place at x) l w = overwrite_fades kind l (at *ℤ f) (Old x) w
 law_fades kind f (A.Insert place at x) l w = insert_fades kind l (at *ℤ f) x w
 law_fades kind f (A.Slice place at) l w = stripped_fades kind l (at *ℤ f) (at *ℤ f) w

@@ -92,23 +92,23 @@ ripple_moved n u x head tail e h k =
 
 -- ---- trim
 
-gap_low : (y : ItemOf Listed) → pos 0 ≤ℤ gap_ticks y
+pub gap_low : (y : ItemOf Listed) → pos 0 ≤ℤ gap_ticks y
 gap_low y = cases (is_gap y) (λ s. rw s (omega (arith, ints))) (λ s. rw s (omega (arith, ints)))
 
-before_low : (h : Held) → pos 0 ≤ℤ gap_before h
+pub before_low : (h : Held) → pos 0 ≤ℤ gap_before h
 before_low h = by (last_item h.before)
   where
     by : (o : Option (ItemOf Listed)) → pos 0 ≤ℤ (elim o [ None ↦ pos 0 | Some y ↦ gap_ticks y ])
     by None = omega (arith, ints)
     by (Some y) = gap_low y
 
-head_gap : (h : Held) (o : Option (ItemOf Listed)) (m : ℤ) → last_item h.before ≡ o → (pos 0 -ℤ gap_before h) ≤ℤ m → IsTrimmedBefore o m
+pub head_gap : (h : Held) (o : Option (ItemOf Listed)) (m : ℤ) → last_item h.before ≡ o → (pos 0 -ℤ gap_before h) ≤ℤ m → IsTrimmedBefore o m
 head_gap h None m e g =
     let k : gap_before h ≡ pos 0 = ap (λ (p : Option (ItemOf Listed)). elim p [ None ↦ pos 0 | Some y ↦ gap_ticks y ]) e in omega (arith, ints)
 head_gap h (Some z) m e g =
     let k : gap_before h ≡ gap_ticks z = ap (λ (p : Option (ItemOf Listed)). elim p [ None ↦ pos 0 | Some y ↦ gap_ticks y ]) e in omega (arith, ints)
 
-tail_gap : (n : ℕ) (h : Held) (o : Option (ItemOf Listed)) (z : ℤ) (below room : Option ℤ) → 0 < n → first_item h.behind ≡ o → IsTrimmedBehind o (clamped below (lesser (whole_limit (pos n) (gap_behind h)) room) z)
+pub tail_gap : (n : ℕ) (h : Held) (o : Option (ItemOf Listed)) (z : ℤ) (below room : Option ℤ) → 0 < n → first_item h.behind ≡ o → IsTrimmedBehind o (clamped below (lesser (whole_limit (pos n) (gap_behind h)) room) z)
 tail_gap n h None z below room k e = tt
 tail_gap n h (Some y) z below room k e =
     let g : gap_behind h ≡ Some (gap_ticks y) = ap (option_map gap_ticks) e in

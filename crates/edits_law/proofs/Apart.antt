@@ -4,6 +4,7 @@ use Rattle.std.proofs.Common.{false, ◌&&◌, ◌||◌, Option, Some, None, Lis
 use Rattle.std.specs.Prelude.{int_lt, int_le, is_some}
 use Rattle.std.specs.Option.{option_or}
 use Rattle.std.proofs.lemmas.Int.{ints, by_lt_z}
+pub use Rattle.std.proofs.lemmas.Bool.{or_parts as neither}
 use Rattle.otio_model.specs.declared.compositions.ItemOf.{ItemOf}
 use Rattle.otio_model.specs.declared.compositions.Listed.{Listed}
 use Rattle.otio_model.specs.Misplaced.{side_by_side}
@@ -207,11 +208,6 @@ none_left : (p : Bool) (l : List (ItemOf Listed)) → is_some (last_item l) ≡ 
     → Shut p (olds l) → l ≡ []
 none_left p [] e k = refl
 none_left p (x ∷ l) e k = absurd (no_false (sym e ∙ last_there p x l k))
-
-pub neither : (a b : Bool) → (a || b) ≡ false → (a ≡ false) × (b ≡ false)
-neither false false e = (refl, refl)
-neither false true e = absurd (cc e)
-neither true b e = absurd (cc e)
 
 -- what each item becomes holds no transition
 abbrev pub GivesThings : (ItemOf Listed → List Child) → Type 0

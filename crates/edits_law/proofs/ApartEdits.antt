@@ -128,7 +128,7 @@ ripple_apart h m k =
     (olds (left_behind h (item_zone h))) (strip_apart false h.before _ _ k.before)
     (moved_flag m.head m.tail h.item k.item) (strip_apart false h.behind _ _ k.behind)
 
--- the zone of moves reaches from the item's start, or before it, to its end, or behind it
+-- the zone of moves reaches from the item's start, or before it, to its end, or after it
 record IsWide (h : Held) (m : Moves) : Type 0 where
   low : (moves_zone h m).from ≤ℤ start h
   high : end h ≤ℤ (moves_zone h m).to

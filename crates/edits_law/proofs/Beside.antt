@@ -1,8 +1,9 @@
--- What stands beside an item once the transitions of a zone round it are gone.
+-- What stands next to an item once the transitions of a zone round it are gone.
 use Rattle.std.proofs.Common.{◌≡◌, refl, sym, ap, ap₂, ◌∙◌, ℤ, pos, ◌-ℤ◌, ◌≤ℤ◌, ◌&&◌, ◌||◌, Bool, true, false, Option, Some, None, List, [], ◌∷◌, ◌++◌, arith}
 use Rattle.std.specs.Prelude.{int_lt, int_le}
 use Rattle.std.specs.Option.{option_or}
 use Rattle.std.proofs.lemmas.Int.{ints}
+use Rattle.limits.proofs.ListLemmas.{option_or-none as or_none}
 use Rattle.otio_model.specs.declared.compositions.ItemOf.{ItemOf}
 use Rattle.otio_model.specs.declared.compositions.Listed.{Listed}
 use Rattle.coord.specs.Looks.{Overlap, total}
@@ -70,10 +71,6 @@ no_time (x ∷ l) e = elim (sort x) [
     some_or None y f = cc f
     some_or (Some z) y f = cc f
 
-or_none : (o : Option (ItemOf Listed)) → option_or o None ≡ o
-or_none None = refl
-or_none (Some y) = refl
-
 over : (x : ItemOf Listed) (l m : List (ItemOf Listed)) (o q : Option (ItemOf Listed)) → Ending l o → m ≡ l → q ≡ o → Ending m q
 over x l m o q (bare e f) h k = bare (k ∙ e) (h ∙ f)
 over x l m o q (last n y e i t f) h k = last n y (k ∙ e) i t (h ∙ f)
@@ -108,7 +105,7 @@ pub last_put : (f : ItemOf Listed → List Child) (m : List (ItemOf Listed)) (y 
 last_put f [] y t = rw t
 last_put f (x ∷ m) y t = rw (last_of m y t) (ap (λ r. Old x ∷ r) (last_put f m y t))
 
--- ---- behind the item
+-- ---- after the item
 
 pub data Opening (l : List (ItemOf Listed)) (o : Option (ItemOf Listed)) : Type 0 where
   nothing : o ≡ None → l ≡ [] → Opening l o

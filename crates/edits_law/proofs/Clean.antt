@@ -4,6 +4,7 @@ use Rattle.std.proofs.Common.{◌≡◌, refl, sym, subst, ◌∙◌, ◌||◌, 
 use Rattle.std.proofs.Common.{ℕ}
 use Rattle.std.proofs.Common.{ℤ, pos, List, [], ◌∷◌, ◌++◌, Option, Some, None}
 use Rattle.std.specs.Prelude.{is_some}
+use Rattle.std.proofs.lemmas.Bool.{and_parts as both_true}
 use Rattle.tick_time.specs.declared.rates.Rate.{Rate}
 use Rattle.tick_time.specs.declared.spans.Span.{Span}
 use Rattle.tick_time.specs.Times.{is_speed}
@@ -50,13 +51,13 @@ AreCleanChildren (c ∷ l) = IsCleanChild c × AreCleanChildren l
 
 -- ---- what a fault says
 
-no_length : NoLength ≡ Long → ⊥
+pub no_length : NoLength ≡ Long → ⊥
 no_length e = cc e
 
-no_speed : Speed ≡ Long → ⊥
+pub no_speed : Speed ≡ Long → ⊥
 no_speed e = cc e
 
-no_fault : (fault : ItemFault) → Path (Option ItemFault) None (Some fault) → ⊥
+pub no_fault : (fault : ItemFault) → Path (Option ItemFault) None (Some fault) → ⊥
 no_fault fault e = cc e
 
 -- such an item has a length
@@ -190,10 +191,6 @@ put_clean (Track c) i (j ∷ place) y e = absurd (cc i.kind)
 
 and_true : (b : Bool) → b ≡ true → (b && true) ≡ true
 and_true b e = rw e refl
-
-both_true : (a b : Bool) → (a && b) ≡ true → (a ≡ true) × (b ≡ true)
-both_true true b e = (refl, e)
-both_true false b e = absurd (cc e)
 
 -- one effect more whose speed may be
 keeps_more : (speed : ℤ) (es : List Effect) (e : Effect) → keeps_speed speed es ≡ true

@@ -1,8 +1,9 @@
 -- What lists show after edits of edges.
 use mathlib.Core.Path.{fun_ext}
-use Rattle.std.proofs.Common.{◌≡◌, refl, sym, ap, ap₂, ◌∙◌, ℤ, pos, negsuc, ◌+ℤ◌, ◌-ℤ◌, ◌*ℤ◌, ◌≤ℤ◌, ◌&&◌, Bool, true, false, Option, None, List, [], ◌∷◌, ◌++◌, arith}
+use Rattle.std.proofs.Common.{◌≡◌, refl, sym, ap, ap₂, ◌∙◌, ℤ, pos, negsuc, ◌+ℤ◌, ◌-ℤ◌, ◌*ℤ◌, ◌≤ℤ◌, ◌&&◌, true, false, Option, None, List, [], ◌∷◌, ◌++◌, arith}
 use Rattle.std.specs.Prelude.{int_lt}
 use Rattle.std.proofs.lemmas.Int.{ints, by_lt_z}
+use Rattle.std.proofs.lemmas.Bool.{and_parts as both_true}
 use Rattle.otio_model.specs.declared.compositions.ItemOf.{ItemOf}
 use Rattle.otio_model.specs.declared.compositions.Listed.{Listed}
 use Rattle.coord.specs.Looks.{Show, Look, Overlap, list_shows, total}
@@ -29,11 +30,6 @@ use Rattle.edits_law.proofs.Sorts.{strip_thing}
 
 pub zero_is : (z : ℤ) → is_zero z ≡ true → z ≡ pos 0
 zero_is z e = grind (arith, ints)
-
-both_true : (a b : Bool) → (a && b) ≡ true → (a ≡ true) × (b ≡ true)
-both_true true true e = (refl, refl)
-both_true true false e = absurd (cc e)
-both_true false b e = absurd (cc e)
 
 same_look : (m n : ℤ) (f g : ℤ → Show) (o : Option Overlap) → m ≡ n → ((u : ℤ) → f u ≡ g u) → o ≡ None → Path Look (record { length = m; shows = f; overlap = o }) (record { length = n; shows = g; overlap = None })
 same_look m n f g o d h e = λ i. record { length = d i; shows = fun_ext h i; overlap = e i }

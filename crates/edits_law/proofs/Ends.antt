@@ -1,4 +1,4 @@
--- What may stand before and behind an item whose edges move. Only looks are known here.
+-- What may stand before and after an item whose edges move. Only looks are known here.
 use Rattle.std.proofs.Common.{◌≡◌, refl, sym, ap, ◌∙◌, ℤ, pos, ◌+ℤ◌, ◌-ℤ◌, ◌≤ℤ◌, List, [], ◌∷◌, arith}
 use Rattle.std.proofs.lemmas.Int.{ints}
 use Rattle.coord.specs.Looks.{Show, Look, from_end, blank, list_shows, total}

@@ -2,6 +2,7 @@
 use Rattle.std.proofs.Common.{◌≡◌, refl, sym, ap, subst, ◌∙◌, Bool, Option, Some, None}
 use Rattle.std.proofs.Common.{List, [], ◌∷◌, ℤ}
 use Rattle.std.specs.Prelude.{option_map}
+pub use Rattle.std.proofs.lemmas.Option.{same_Some as same_item}
 use Rattle.tick_time.specs.declared.rates.Rate.{Rate}
 use Rattle.tick_time.specs.declared.spans.Span.{Span}
 use Rattle.otio_model.specs.declared.compositions.ItemOf.{ItemOf}
@@ -14,9 +15,6 @@ use Rattle.edits.specs.Children.{Child, Old, Ranged, with_range, made, all_made,
 use Rattle.edits.specs.Children.{start_rate, length_rate}
 use Rattle.edits.specs.Cuts.{olds}
 use Rattle.edits_law.proofs.Apart.{Apart, flag}
-
-pub same_item : (x y : ItemOf Listed) → Some x ≡ Some y → x ≡ y
-same_item x y e = cc e
 
 -- an item that was given a range
 pub record IsRanged (x y : ItemOf Listed) : Type 0 where

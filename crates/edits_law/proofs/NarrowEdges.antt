@@ -53,7 +53,7 @@ last_before f l a b z n h k =
         ∙ append_assoc (olds (ahead l a b)) (olds p) (f y ++ [])
         ∙ ap (λ q. olds (ahead l a b) ++ q) (sym (ap (last_changed f) g ∙ last_put f p y u))
 
--- ---- behind the item
+-- ---- after the item
 
 behind_split : (l : List (ItemOf Listed)) (a b : ℤ) → strip l a b ≡ strip (up_to_met l a b) a b ++ past_met l a b
 behind_split l a b =

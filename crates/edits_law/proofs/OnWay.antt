@@ -77,12 +77,12 @@ on_way (i ∷ j ∷ f) back m l x e =
 
 -- ---- lengths
 
-abbrev HasLength : ItemOf Listed → Type 0
-HasLength x = is_some (length_of x) ≡ true
+abbrev IsMeasured : ItemOf Listed → Type 0
+IsMeasured x = is_some (length_of x) ≡ true
 
-abbrev pub HaveLengths : List (ItemOf Listed) → Type 0
-HaveLengths [] = Unit {0}
-HaveLengths (x ∷ l) = HasLength x × HaveLengths l
+abbrev pub AreMeasured : List (ItemOf Listed) → Type 0
+AreMeasured [] = Unit {0}
+AreMeasured (x ∷ l) = IsMeasured x × AreMeasured l
 
 both_some : (f : ℕ → ℕ → ℕ) (a b : Option ℕ) → is_some a ≡ true → is_some b ≡ true
     → is_some (both f a b) ≡ true
@@ -90,11 +90,11 @@ both_some f None b e g = absurd (cc e)
 both_some f (Some m) None e g = absurd (cc g)
 both_some f (Some m) (Some n) e g = refl
 
-sum_known : (l : List (ItemOf Listed)) → HaveLengths l → is_some (sum_of (map length_of l)) ≡ true
+sum_known : (l : List (ItemOf Listed)) → AreMeasured l → is_some (sum_of (map length_of l)) ≡ true
 sum_known [] k = refl
 sum_known (x ∷ l) k = both_some (λ a b. a + b) (length_of x) _ k.0 (sum_known l k.1)
 
-longest_known : (l : List (ItemOf Listed)) → HaveLengths l
+longest_known : (l : List (ItemOf Listed)) → AreMeasured l
     → is_some (longest_of (map length_of l)) ≡ true
 longest_known [] k = refl
 longest_known (x ∷ l) k = both_some max (length_of x) _ k.0 (longest_known l k.1)
@@ -106,9 +106,9 @@ range_known None (Some n) e = refl
 range_known (Some r) n e = refl
 
 -- an item whose children have lengths has one
-deeper_length : (g : Listed → Listed) (x : ItemOf Listed) → HasLength x
-    → ((c : Listed) → children_of x ≡ Some c → HaveLengths (items_of (g c)))
-    → HasLength (deeper g x)
+deeper_length : (g : Listed → Listed) (x : ItemOf Listed) → IsMeasured x
+    → ((c : Listed) → children_of x ≡ Some c → AreMeasured (items_of (g c)))
+    → IsMeasured (deeper g x)
 deeper_length g (Clip c) k n = k
 deeper_length g (Gap c) k n = k
 deeper_length g (Transition c) k n = k
@@ -120,14 +120,14 @@ deeper_length g (Track c) k n = range_known (option_map range_of c.source_range)
     (sum_known (items_of (g c.children)) (n c.children refl)))
 
 all_changed : (f : ItemOf Listed → ItemOf Listed) (i : ℕ) (l : List (ItemOf Listed))
-    → HaveLengths l → ((x : ItemOf Listed) → slice_get l i ≡ Some x → HasLength (f x))
-    → HaveLengths (changed f i l)
+    → AreMeasured l → ((x : ItemOf Listed) → slice_get l i ≡ Some x → IsMeasured (f x))
+    → AreMeasured (changed f i l)
 all_changed f i [] k n = tt
 all_changed f zero (x ∷ l) k n = (n x refl, k.1)
 all_changed f (suc i) (x ∷ l) k n = (k.0, all_changed f i l k.1 n)
 
 pub by_places : (l : List (ItemOf Listed))
-    → ((i : ℕ) (x : ItemOf Listed) → slice_get l i ≡ Some x → HasLength x) → HaveLengths l
+    → ((i : ℕ) (x : ItemOf Listed) → slice_get l i ≡ Some x → IsMeasured x) → AreMeasured l
 by_places [] k = tt
 by_places (x ∷ l) k = (k zero x refl, by_places l (λ i y e. k (suc i) y e))
 
@@ -142,20 +142,20 @@ inside P l i x c k e f [] y h = absurd (cc h)
 inside P l i x c k e f (j ∷ place) y h = k (i ∷ j ∷ place) y
     (ap (option_and_then (below (j ∷ place))) e ∙ ap (option_and_then (item_at (j ∷ place))) f ∙ h)
 
-new_lengths : (place : List ℕ) (m l : Listed) → HaveLengths (items_of m) → Everywhere HasLength l
-    → HaveLengths (items_of (with_at place m l))
+new_lengths : (place : List ℕ) (m l : Listed) → AreMeasured (items_of m) → Everywhere IsMeasured l
+    → AreMeasured (items_of (with_at place m l))
 new_lengths [] m l n k = n
 new_lengths (i ∷ place) m l n k =
-    subst HaveLengths (sym (items_with i place m l))
+    subst AreMeasured (sym (items_with i place m l))
     (all_changed (deeper (with_at place m)) i (items_of l)
-    (by_places (items_of l) (λ j x e. at_child HasLength l j x k e))
-    (λ x e. deeper_length (with_at place m) x (at_child HasLength l i x k e)
-    (λ c f. new_lengths place m c n (inside HasLength l i x c k e f))))
+    (by_places (items_of l) (λ j x e. at_child IsMeasured l j x k e))
+    (λ x e. deeper_length (with_at place m) x (at_child IsMeasured l i x k e)
+    (λ c f. new_lengths place m c n (inside IsMeasured l i x c k e f))))
 
 -- an item on the way has a length
-pub way_length : (back : List ℕ) (m : Listed) (x : ItemOf Listed) → HaveLengths (items_of m)
-    → HasLength x → ((c : Listed) → children_of x ≡ Some c → Everywhere HasLength c)
-    → HasLength (deeper (with_at back m) x)
+pub way_length : (back : List ℕ) (m : Listed) (x : ItemOf Listed) → AreMeasured (items_of m)
+    → IsMeasured x → ((c : Listed) → children_of x ≡ Some c → Everywhere IsMeasured c)
+    → IsMeasured (deeper (with_at back m) x)
 way_length back m x n k h =
     deeper_length (with_at back m) x k (λ c f. new_lengths back m c n (h c f))
 
@@ -210,7 +210,7 @@ deeper_effects f (Stack c) = refl
 deeper_effects f (Track c) = refl
 
 -- an item that gets other children stays clean where it has a length and no misplaced transitions
-pub deeper_clean : (f : Listed → Listed) (x : ItemOf Listed) → IsClean x → HasLength (deeper f x)
+pub deeper_clean : (f : Listed → Listed) (x : ItemOf Listed) → IsClean x → IsMeasured (deeper f x)
     → has_misplaced (deeper f x) ≡ false → IsClean (deeper f x)
 deeper_clean f x k n c = record {
   long = λ fault e. cases (is_transition x)

@@ -6,29 +6,18 @@ use Rattle.otio_model.specs.declared.compositions.ItemOf.{ItemOf}
 use Rattle.otio_model.specs.declared.compositions.Listed.{Listed}
 use Rattle.otio_model.specs.Edits.{replaced}
 use Rattle.std.proofs.Math.Seq.{take-append_seam, drop-append_seam, drop-append-add}
+use Rattle.std.proofs.lemmas.List.{append-nil as none_more}
+pub use Rattle.limits.proofs.IntegerTests.{below-int_lt as lt_yes, below-int_le as le_yes}
 use Rattle.tick_time.specs.declared.rates.Rate.{Rate}
 use Rattle.edits.specs.Children.{Child, Old, ticks, made, all_made, with_first}
 use Rattle.edits.specs.Cuts.{strip, olds, front, back, put_between, right_piece}
 use Rattle.edits.specs.Edges.{added}
 use Rattle.edits.specs.Splices.{is_stripped}
+pub use Rattle.edits.proofs.NextStarts.{added_low}
 use Rattle.coord.specs.Sights.{overlap_of}
 use Rattle.edits_law.proofs.Beside.{strip_append}
 use Rattle.edits_law.proofs.Sorts.{point, thing, sort, strip_thing}
 use Rattle.edits_law.proofs.Splice.{cases}
-
-pub lt_yes : (a b : ℤ) → a <ℤ b → int_lt a b ≡ true
-lt_yes a b h = grind (arith, ints)
-
-pub le_yes : (a b : ℤ) → a ≤ℤ b → int_le a b ≡ true
-le_yes a b h = grind (arith, ints)
-
-pub added_low : (l : List (ItemOf Listed)) → pos 0 ≤ℤ added l
-added_low [] = omega (arith, ints)
-added_low (x ∷ l) = let t = added_low l in omega (arith, ints)
-
-none_more : {A : Type 0} (r : List A) → r ++ [] ≡ r
-none_more [] = refl
-none_more (x ∷ r) = ap (λ q. x ∷ q) (none_more r)
 
 pub added_strip : (l : List (ItemOf Listed)) (a b : ℤ) → added (strip l a b) ≡ added l
 added_strip [] a b = refl

@@ -2,6 +2,7 @@
 use Rattle.std.proofs.Common.{◌≡◌, refl, sym, ap, subst, ◌∙◌, ℕ, List, [], ◌∷◌, ◌++◌, Option, Some}
 use Rattle.std.proofs.Common.{None}
 use Rattle.std.specs.Prelude.{option_and_then, slice_get}
+use Rattle.std.proofs.lemmas.Option.{same_Some as same_item}
 use Rattle.otio_model.specs.declared.compositions.ItemOf.{ItemOf}
 use Rattle.otio_model.specs.declared.compositions.Listed.{Listed}
 use Rattle.otio_model.specs.Edits.{list_at}
@@ -48,9 +49,6 @@ below_at (i ∷ k ∷ place) l d j q y e f =
     ∙ below_at (k ∷ place) s.children d j q y s.leads f
 
 -- ---- the list of an item
-
-same_item : (x y : ItemOf Listed) → Some x ≡ Some y → x ≡ y
-same_item x y e = cc e
 
 inner_list : (place : List ℕ) (w x : ItemOf Listed) (c : Listed) → below place w ≡ Some x
     → children_of x ≡ Some c → option_and_then (list_at place) (children_of w) ≡ Some c

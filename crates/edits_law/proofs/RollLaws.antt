@@ -32,7 +32,7 @@ pub record NewBefore (v : View) (h : Held) (m : Moves) (cs : List Child) (c : �
   pub good : AreGood list
   pub clear : AreClear (moves_zone h m).from (moves_zone h m).to list
 
--- what comes behind it
+-- what comes after it
 pub record NewBehind (v : View) (h : Held) (m : Moves) (ds : List Child) (d : ℤ → Show) : Type 0 where
   pub now : List Look
   pub new : child_looks v ds ≡ now
@@ -45,7 +45,7 @@ around cs h m ds = cs ++ (moved m.head m.tail h.item ∷ ds)
 pub zone_ordered : (h : Held) (m : Moves) → (moves_zone h m).from ≤ℤ (moves_zone h m).to
 zone_ordered h m = omega (arith, ints, clamps)
 
--- what is shown before, in and behind the zone
+-- what is shown before, in and after the zone
 pub record Facts (v : View) (l : List (ItemOf Listed)) (h : Held) (m : Moves) (cs ds : List Child) (c d : ℤ → Show) : Type 0 where
   pub before : (w : ℤ) → w <ℤ (moves_zone h m).from → list_shows (child_looks v (around cs h m ds)) w ≡ zoned v l (moves_zone h m) w
   pub head : (w : ℤ) → start h ≤ℤ w → w <ℤ (start h +ℤ m.head) → list_shows (child_looks v (around cs h m ds)) w ≡ c (w -ℤ start h)

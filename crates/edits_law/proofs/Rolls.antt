@@ -1,4 +1,4 @@
--- What lists show where the edges of an item move, with what is beside it. Only looks are known here.
+-- What lists show where the edges of an item move, with what is next to it. Only looks are known here.
 use Rattle.std.proofs.Common.{◌≡◌, sym, ap, ◌∙◌, ℤ, pos, ◌+ℤ◌, ◌-ℤ◌, ◌≤ℤ◌, ◌<ℤ◌, List, [], ◌∷◌, ◌++◌, arith, append_assoc}
 use Rattle.std.specs.Int.{int_min, int_max}
 use Rattle.std.proofs.lemmas.Int.{ints, clamps}
@@ -17,7 +17,7 @@ pub record Heads (l n m : List Look) (h : ℤ) (c : ℤ → Show) : Type 0 where
   pub same : (r s : List Look) (w : ℤ) → IsLater r → IsLater s → w <ℤ (total l +ℤ total n) → w <ℤ (total l +ℤ total m) → list_shows (l ++ (n ++ r)) w ≡ list_shows (l ++ (m ++ s)) w
   pub moved : (r : List Look) (u : ℤ) → pos 0 ≤ℤ u → total n ≤ℤ u → u <ℤ total m → item_shows (m ++ r) u ≡ c (u -ℤ total n)
 
--- what stands behind the item, with a tail moved by t: r becomes s
+-- what stands after the item, with a tail moved by t: r becomes s
 pub record Tails (r s : List Look) (t : ℤ) (c : ℤ → Show) : Type 0 where
   pub good : AreGood r
   pub good_new : AreGood s
@@ -48,7 +48,7 @@ pub items_join : (n m : List Look) → AreItems n → AreItems m → AreItems (n
 items_join [] m i j = j
 items_join (x ∷ n) m i j = (i.0, items_join n m i.1 j)
 
--- behind items that end behind the zone's start, a list shows what stands there
+-- after items that end after the zone's start, a list shows what stands there
 pub parts_behind : (l n r : List Look) (a b w : ℤ) → AreGood l → AreClear a b l → total l ≤ℤ b → AreItems n → a ≤ℤ (total l +ℤ total n) → IsLater r → (total l +ℤ total n) ≤ℤ w
     → list_shows (l ++ (n ++ r)) w ≡ list_shows r (w -ℤ (total l +ℤ total n))
 parts_behind l n r a b w g k e i f u h =

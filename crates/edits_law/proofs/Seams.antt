@@ -1,4 +1,4 @@
--- A list in parts: what is shown before, in and behind a stretch of items.
+-- A list in parts: what is shown before, in and after a stretch of items.
 use Rattle.std.proofs.Common.{◌≡◌, refl, sym, subst, ap, ◌∙◌, inl, inr, ℤ, pos, ◌+ℤ◌, ◌-ℤ◌, ◌≤ℤ◌, ◌<ℤ◌, Some, None, cond, List, [], ◌∷◌, ◌++◌, arith}
 use Rattle.std.proofs.lemmas.Int.{ints, by_lt_z}
 use Rattle.coord.specs.Looks.{Show, Look, Overlap, item_shows, next_shows, from_end, mix_shows, blank, list_shows, total}
@@ -51,7 +51,7 @@ mix_append p (x ∷ l) r b w g c u k h = let a = g.0 in let n = a.whole in let t
           ∙ mix_append p l r (b -ℤ x.length) w g.1 inner u (omega (arith, ints)) (omega (arith, ints)) ∙ ap (mix_shows blank r) (omega (arith, ints))
     ]
 
--- a list in two parts: before the seam it doesn't matter what follows, and behind it what stands before
+-- a list in two parts: before the seam it doesn't matter what follows, and after it what stands before
 pub seam_before : (l r s : List Look) (w : ℤ) → AreGood l → AreClear (total l) (total l) l → IsLater r → IsLater s → w <ℤ total l → list_shows (l ++ r) w ≡ list_shows (l ++ s) w
 seam_before l r s w g c u v h = shows_same (l ++ r) (l ++ s) w w (mix_prefix blank l r s (total l) w g c u v (omega (arith, ints)) h) (item_prefix l r s w g u v h)
 

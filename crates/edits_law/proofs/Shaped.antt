@@ -1,4 +1,4 @@
--- Lists in which edges of items were moved: what they show before, in and behind the zone. Only looks are known here.
+-- Lists in which edges of items were moved: what they show before, in and after the zone. Only looks are known here.
 use mathlib.Core.Path.{fun_ext}
 use Rattle.std.proofs.Common.{◌≡◌, refl, sym, subst, ap, ◌∙◌, inl, inr, ℤ, pos, ◌+ℤ◌, ◌-ℤ◌, ◌≤ℤ◌, ◌<ℤ◌, None, cond, List, [], ◌∷◌, ◌++◌, arith}
 use Rattle.std.proofs.lemmas.Int.{ints, by_lt_z}
@@ -19,7 +19,7 @@ clear_earlier (x ∷ l) a b c d g k h m = let good = g.0 in let len = good.whole
   clear_earlier l (a -ℤ x.length) (b -ℤ x.length) (c -ℤ x.length) (d -ℤ x.length) g.1 k.1 (omega (arith, ints)) (omega (arith, ints)),
 )
 
--- behind its start they only begin behind its end
+-- after its start they only begin after its end
 pub clear_later : (l : List Look) (a b c d : ℤ) → AreGood l → AreClear a b l → a ≤ℤ pos 0 → d ≤ℤ b → AreClear c d l
 clear_later [] a b c d g k h m = tt
 clear_later (x ∷ l) a b c d g k h m = let good = g.0 in let len = good.whole in (
@@ -71,7 +71,7 @@ clear_within p (x ∷ l) a b w g k h m = let good = g.0 in let len = good.whole 
 pub zone_shows : (l : List Look) (a b w : ℤ) → AreGood l → AreClear a b l → a ≤ℤ w → w <ℤ b → list_shows l w ≡ item_shows l w
 zone_shows l a b w g k h m = rw (clear_within blank l a b w g k h m)
 
--- behind a zone that begins before it a list is later
+-- after a zone that begins before it a list is later
 pub later_clear : (l : List Look) (a b : ℤ) → AreGood l → AreClear a b l → a ≤ℤ pos 0 → pos 0 ≤ℤ b → IsLater l
 later_clear l a b g k h m = record {
   no_mix = λ p v n. quiet p l a b v g k h (omega (arith, ints));
@@ -113,7 +113,7 @@ item_to [] y z r s w same m n a b h k = by_lt_z w (pos 0)
     (λ t. item_hit y r w t (omega (arith, ints)) ∙ same w ∙ sym (item_hit z s w t (omega (arith, ints))))
 item_to (x ∷ l) y z r s w same m n a b h k = ap (cond (within (pos 0) x.length w) (x.shows w)) (item_to l y z r s (w -ℤ x.length) same m n a b (omega (arith, ints)) (omega (arith, ints)))
 
--- before the ends of two items that show the same, and with what is later behind them, lists show the same
+-- before the ends of two items that show the same, and with what is later after them, lists show the same
 pub same_to : (l : List Look) (y z : Look) (r s : List Look) (w : ℤ) → AreGood l → IsItem y → IsItem z → ((u : ℤ) → y.shows u ≡ z.shows u) → IsLater r → IsLater s → w <ℤ (total l +ℤ y.length) → w <ℤ (total l +ℤ z.length)
     → list_shows (l ++ (y ∷ r)) w ≡ list_shows (l ++ (z ∷ s)) w
 same_to l y z r s w g e f same a b h k = shows_same (l ++ (y ∷ r)) (l ++ (z ∷ s)) w w
@@ -140,7 +140,7 @@ shifted_item x h t k = record { whole = k; item = refl }
 pub from_shifted : (x : Look) (h : ℤ) → from_end (shifted x h (pos 0)) ≡ from_end x
 from_shifted x h = fun_ext (λ v. ap x.shows (omega (arith, ints)))
 
--- the list behind an item whose head was moved by t shows the same, counted from where the item was
+-- the list after an item whose head was moved by t shows the same, counted from where the item was
 pub same_from : (z : Look) (r : List Look) (t v : ℤ) → IsItem z → pos 0 ≤ℤ v → t ≤ℤ v → list_shows (shifted z t (pos 0) ∷ r) (v -ℤ t) ≡ list_shows (z ∷ r) v
 same_from z r t v i h k = shows_same (shifted z t (pos 0) ∷ r) (z ∷ r) (v -ℤ t) v
     (mix_item blank (shifted z t (pos 0)) r (v -ℤ t) refl

@@ -34,17 +34,14 @@ use Rattle.edits_law.proofs.Premises.{premises}
 use Rattle.edits_law.proofs.Unreached.{items_with}
 use Rattle.edits_law.proofs.Apart.{Apart, apart_items, items_apart}
 use Rattle.edits_law.proofs.ApartEdits.{edited_apart}
-use Rattle.edits_law.proofs.Clean.{AreClean, AreCleanChildren, IsClean, IsCleanAll, clean_length}
+use Rattle.edits_law.proofs.Clean.{AreClean, AreCleanChildren, IsClean, IsCleanAll, clean_length, no_fault}
 use Rattle.edits_law.proofs.CleanEdits.{edited_clean}
 use Rattle.edits_law.proofs.MadeParts.{made_apart, made_none, made_parts, same_item}
-use Rattle.edits_law.proofs.OnWay.{HaveLengths, any_changed, deeper_clean, on_way, way_calm}
+use Rattle.edits_law.proofs.OnWay.{AreMeasured, any_changed, deeper_clean, on_way, way_calm}
 use Rattle.edits_law.proofs.OnWay.{way_length}
 use Rattle.edits_law.proofs.Places.{below_at, children_at}
 
 -- ---- the old timeline
-
-no_fault : (fault : ItemFault) → Path (Option ItemFault) None (Some fault) → ⊥
-no_fault fault e = cc e
 
 clean_items : (t : Timeline) → IsSound t → Everywhere IsClean t.tracks.children
 clean_items t s place x e = record {
@@ -128,7 +125,7 @@ listed_clean m k (i ∷ q) x e =
     of None f g = absurd (cc g)
     of (Some y) f g = clean_at m i y k f q x g
 
-clean_lengths : (m : List (ItemOf Listed)) → AreClean m → HaveLengths m
+clean_lengths : (m : List (ItemOf Listed)) → AreClean m → AreMeasured m
 clean_lengths [] k = tt
 clean_lengths (x ∷ m) k = (clean_length x (k.0 [] x refl), clean_lengths m k.1)
 
@@ -158,7 +155,7 @@ way_clean m l c place k n a p front back x o e =
     (subst (λ q. item_at front (with_at q (listed m) l) ≡ Some x) o e) in
     let own = k front w.old w.there in
     subst IsClean w.now (deeper_clean (with_at back (listed m)) w.old own
-    (way_length back (listed m) w.old (subst HaveLengths (sym (items-listed m)) (clean_lengths m n))
+    (way_length back (listed m) w.old (subst AreMeasured (sym (items-listed m)) (clean_lengths m n))
     (clean_length w.old own) (λ d f q y h. clean_length y
     (all_below IsClean front l d k (children_at front l d w.old w.there f) q y h)))
     (calm_at m l c place front back w.old p w.there o a own.calm))

@@ -45,7 +45,7 @@ place t n = by_lt_z (pos 0) t (λ h. by_lt_z t n (λ k. inside h k) (λ k. whole
 
 -- ---- the overlaps, seen from a seam
 
--- a transition's overlap ends before a and its cut lies before, or the overlap begins behind b and the cut lies behind
+-- a transition's overlap ends before a and its cut lies before, or the overlap begins after b and the cut lies after
 pub record IsClear (a b : ℤ) (x : Look) : Type 0 where
   pub side : (o : Overlap) → x.overlap ≡ Some o → ((pos 0 <ℤ a) × (o.after ≤ℤ a)) ⊎ ((b <ℤ pos 0) × (b ≤ℤ (pos 0 -ℤ o.before)))
 
@@ -53,7 +53,7 @@ abbrev pub AreClear : ℤ → ℤ → List Look → Type 0
 AreClear a b [] = Unit {0}
 AreClear a b (x ∷ l) = IsClear a b x × AreClear (a -ℤ x.length) (b -ℤ x.length) l
 
--- behind the seam no overlap begins before b
+-- after the seam no overlap begins before b
 pub quiet : (p : ℤ → Show) (l : List Look) (a b w : ℤ) → AreGood l → AreClear a b l → a ≤ℤ pos 0 → w <ℤ b → mix_shows p l w ≡ None
 quiet p [] a b w g c h k = refl
 quiet p (x ∷ l) a b w g c h k = let good = g.0 in let len = good.whole in elim (look_kind x) [
@@ -64,7 +64,7 @@ quiet p (x ∷ l) a b w g c h k = let good = g.0 in let len = good.whole in elim
       ∙ quiet p l (a -ℤ x.length) (b -ℤ x.length) w g.1 c.1 (omega (arith, ints)) (omega (arith, ints))
 ]
 
--- what is put behind a seam: before it no overlap and no item is there, and it doesn't begin with a transition
+-- what is put after a seam: before it no overlap and no item is there, and it doesn't begin with a transition
 pub record IsLater (r : List Look) : Type 0 where
   pub no_mix : (p : ℤ → Show) (v : ℤ) → v <ℤ pos 0 → mix_shows p r v ≡ None
   pub no_item : (v : ℤ) → v <ℤ pos 0 → item_shows r v ≡ Blank
@@ -122,7 +122,7 @@ item_back (x ∷ l) b v g h k = let good = g.0 in let len = good.whole in elim (
 pub side_transition : (x : Look) (o : Overlap) (l : List Look) (w : ℤ) → x.overlap ≡ Some o → next_shows (x ∷ l) w ≡ next_shows l w
 side_transition x o l w e = rw e
 
--- the item behind a transition is the same one, or its left piece
+-- the item after a transition is the same one, or its left piece
 side_front : (l r : List Look) (a w : ℤ) → AreGood l → pos 0 <ℤ a → next_shows (front l a ++ r) w ≡ next_shows l w
 side_front [] r a w g h = rw (front_gap a h)
 side_front (x ∷ l) r a w g h = let good = g.0 in let len = good.whole in elim (look_kind x) [
@@ -135,7 +135,7 @@ side_front (x ∷ l) r a w g h = let good = g.0 in let len = good.whole in elim 
       rw (front_whole x l a h (omega (arith, ints))) (side_transition x o (front l (a -ℤ x.length) ++ r) w e ∙ side_front l r (a -ℤ x.length) w g.1 (omega (arith, ints)) ∙ sym (side_transition x o l w e))
 ]
 
--- the same step over a transition, where what stands behind it shows the same
+-- the same step over a transition, where what stands after it shows the same
 pub mix_step : (p : ℤ → Show) (x : Look) (o : Overlap) (l m : List Look) (w : ℤ) → x.overlap ≡ Some o → next_shows l w ≡ next_shows m w → mix_shows p l w ≡ mix_shows p m w → mix_shows p (x ∷ l) w ≡ mix_shows p (x ∷ m) w
 mix_step p x o l m w e f g = rw e (λ i. cond (within (pos 0 -ℤ o.before) o.after w) (Some (mixed o.kind (p w) (f i) (w +ℤ o.before) (o.before +ℤ o.after))) (g i))
 

@@ -1,7 +1,9 @@
--- The children before and behind those that are met are clear of the zone.
-use Rattle.std.proofs.Common.{◌≡◌, refl, ap, ◌∙◌, ◌⊎◌, inl, inr, ℤ, pos, ◌-ℤ◌, ◌≤ℤ◌, ◌<ℤ◌, ◌&&◌, ◌||◌, Bool, true, false, List, [], ◌∷◌, ◌++◌, arith}
-use Rattle.std.specs.Prelude.{int_lt, int_le}
+-- The children before and after those that are met are clear of the zone.
+use Rattle.std.proofs.Common.{◌≡◌, refl, ap, ◌∙◌, ◌⊎◌, inl, inr, ℤ, pos, ◌-ℤ◌, ◌≤ℤ◌, ◌<ℤ◌, ◌&&◌, Bool, true, false, List, [], ◌∷◌, ◌++◌, arith}
+use Rattle.std.specs.Prelude.{int_le}
 use Rattle.std.proofs.lemmas.Int.{ints, by_lt_z}
+pub use Rattle.std.proofs.lemmas.Bool.{or_parts as or_false}
+use Rattle.limits.proofs.IntegerTests.{int_lt-false as lt_no}
 use Rattle.otio_model.specs.declared.compositions.ItemOf.{ItemOf}
 use Rattle.otio_model.specs.declared.compositions.Listed.{Listed}
 use Rattle.coord.specs.Sights.{overlap_of}
@@ -13,11 +15,7 @@ use Rattle.edits.specs.Narrow.{is_met, any_met, ahead, onward, up_to_met, past_m
 use Rattle.edits_law.proofs.Parted.{IsApart, le_yes}
 use Rattle.edits_law.proofs.Splice.{cases}
 
-pub or_false : (a b : Bool) → (a || b) ≡ false → (a ≡ false) × (b ≡ false)
-or_false true b e = absurd (cc e)
-or_false false b e = (refl, e)
-
--- what isn't met isn't stripped, and lies before or behind the zone
+-- what isn't met isn't stripped, and lies before or after the zone
 unmet : (x : ItemOf Listed) (a b : ℤ) → is_met x a b ≡ false → (is_stripped a b (overlap_of x) ≡ false) × ((b <ℤ pos 0) ⊎ (ticks x <ℤ a))
 unmet x a b e = let f = or_false (is_stripped a b (overlap_of x)) (int_le (pos 0) b && int_le a (ticks x)) e in (
   f.0,
@@ -62,9 +60,6 @@ none_stripped : (l : List (ItemOf Listed)) (a b : ℤ) → any_met l a b ≡ fal
 none_stripped [] a b e = refl
 none_stripped (x ∷ l) a b e = let f = or_false (is_met x a b) _ e in let u = unmet x a b f.0 in
     rw u.0 (ap (λ m. x ∷ m) (none_stripped l (a -ℤ ticks x) (b -ℤ ticks x) f.1))
-
-lt_no : (a b : ℤ) → int_lt a b ≡ false → b ≤ℤ a
-lt_no a b e = grind (arith, ints)
 
 -- and the zone lies before the list
 none_late : (x : ItemOf Listed) (l : List (ItemOf Listed)) (a b : ℤ) → a ≤ℤ b → any_met (x ∷ l) a b ≡ false → b <ℤ pos 0

@@ -49,7 +49,7 @@ up_held (y ∷ l) x r a b c d h k e f =
     let s = any_held (y ∷ l) x r a b h k in
     rw s (ap (λ m. y ∷ m) (up_held l x r (a -ℤ ticks y) (b -ℤ ticks y) c d (omega (arith, ints)) (omega (arith, ints)) (omega (arith, ints)) (omega (arith, ints))))
 
--- the touched children: some before the item, the item, and some behind it
+-- the touched children: some before the item, the item, and some after it
 pub touched_held : (l : List (ItemOf Listed)) (x : ItemOf Listed) (r : List (ItemOf Listed)) (a b : ℤ) → added l ≤ℤ b → a ≤ℤ (added l +ℤ ticks x)
     → touched (l ++ (x ∷ r)) a b ≡ onward l a b ++ (x ∷ up_to_met r (a -ℤ (added l +ℤ ticks x)) (b -ℤ (added l +ℤ ticks x)))
 touched_held l x r a b h k =

@@ -169,9 +169,9 @@ trim_new_before v l h m k i = of (last_item h.before) refl
         (λ s. let t = gap_ticks_is y s in rw (e, s) (gap_before v l h m y k e s (omega (arith, ints, r))))
         (λ s. let t = no_gap_ticks y s in rw (e, s) (olds_before v l h m k (omega (arith, ints, r))))
 
--- ---- behind the item
+-- ---- after the item
 
--- what stands behind, with nothing or a new gap before it
+-- what stands after, with nothing or a new gap before it
 tail_clear : (v : View) (l : List (ItemOf Listed)) (h : Held) (m : Moves) → IsHeld l h → AreClear ((moves_zone h m).from -ℤ end h) ((moves_zone h m).to -ℤ end h) (looks v (left_behind h (moves_zone h m)))
 tail_clear v l h m k = behind_clear v l h (moves_zone h m) k (zone_ordered h m)
 
@@ -199,7 +199,7 @@ olds_behind v l h m k j i =
       }
     ]
 
--- nothing stands behind
+-- nothing stands after
 end_behind : (v : View) (l : List (ItemOf Listed)) (h : Held) (m : Moves) → IsHeld l h → IsMoved h.item m → first_item h.behind ≡ None → NewBehind v h m (gap_of (pos 0 -ℤ m.tail) ++ olds (left_behind h (moves_zone h m))) blank
 end_behind v l h m k j e = by_lt_z (pos 0) m.tail
     (λ t. with_start t (opening h.behind ((moves_zone h m).from -ℤ end h) ((moves_zone h m).to -ℤ end h) (omega (arith, ints, clamps)) (omega (arith, ints, clamps))))

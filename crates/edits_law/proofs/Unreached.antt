@@ -4,6 +4,7 @@ use Rattle.std.specs.Prelude.{option_map, option_and_then, unwrap_or}
 use Rattle.std.specs.Option.{option_or}
 use Rattle.std.specs.Str.{bytes_eq}
 use Rattle.std.proofs.lemmas.Int.{ints}
+use Rattle.std.proofs.lemmas.Bool.{and_from as both_true}
 use Rattle.otio_model.specs.declared.compositions.StackOf.{StackOf}
 use Rattle.otio_model.specs.declared.compositions.TrackOf.{TrackOf}
 use Rattle.otio_model.specs.declared.compositions.ItemOf.{ItemOf}
@@ -67,10 +68,6 @@ left_of false b e = absurd (cc e)
 right_of : (a b : Bool) → b ≡ true → (a || b) ≡ true
 right_of true b e = refl
 right_of false b e = e
-
-both_true : (a b : Bool) → a ≡ true → b ≡ true → (a && b) ≡ true
-both_true true b e f = f
-both_true false b e f = absurd (cc e)
 
 item_same : (q : Bool) (u : ℤ) (k : Option ℕ) (l m : List Look) (w : ℤ) → AreSame q u k l m → IsAt u k l w → (is_holder k l w ≡ true → q ≡ true) → item_shows l w ≡ item_shows m w
 item_same q u k [] [] w s a h = refl

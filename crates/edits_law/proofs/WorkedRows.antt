@@ -6,7 +6,7 @@ use Rattle.otio_model.specs.declared.compositions.ItemOf.{ItemOf}
 use Rattle.otio_model.specs.declared.compositions.Listed.{Listed}
 use Rattle.otio_model.specs.declared.timelines.Timeline.{Timeline}
 use Rattle.edits.specs.WorkedItems.{span}
-use Rattle.edits.specs.Refusals.{Free, Pinned, free, named, own_range, unpinned, with_child}
+use Rattle.edits.specs.Refusals.{Pinned, free, named, unpinned, with_child}
 use Rattle.edits_law.specs.Worked.{AreReached, ArePinned, IsNested, stack, track}
 
 pub reached : AreReached

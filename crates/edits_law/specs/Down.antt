@@ -19,7 +19,7 @@ use Rattle.coord.specs.Programs.{kind_of}
 -- The item that is looked for is known by how many items stand before it, counted from where the
 -- list is looked at; none where it stands further ahead.
 
--- counted from behind one more item
+-- counted from after one more item
 abbrev pub passed : Option ℕ → Option ℕ
 passed None = None
 passed (Some zero) = None

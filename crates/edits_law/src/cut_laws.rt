@@ -22,7 +22,7 @@ pub fn pieces_show()
 {}
 
 /// Law: a list with items in the place of a stretch shows before it what it did, then the items,
-/// and behind them what it did behind it.
+/// and after them what it did after it.
 pub fn spliced_shows()
     ensures before { (l n : List Look) (a b w : ℤ) → AreGood l → AreItems n → pos 0 ≤ℤ a →
         a ≤ℤ b → w <ℤ a →

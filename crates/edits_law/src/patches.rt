@@ -35,7 +35,7 @@ pub fn patches_are_narrow()
         length (put_between (strip m a b) a n b) ≤ length m + 1 + length n }
 {}
 
-/// Law: what edits of edges make of what stands before and behind the item changes no child
+/// Law: what edits of edges make of what stands before and after the item changes no child
 /// outside those that the zone touches.
 pub fn edge_patches_are_narrow()
     ensures before { (f : ItemOf Listed → List Child) (l : List (ItemOf Listed)) (a b : ℤ) →

@@ -16,7 +16,7 @@ use Rattle.edl_frames.specs.Seats.{Past, Seat, length_in, past_by, seats, head}
 use Rattle.edl_frames.specs.ChildEvents.{event_of}
 use Rattle.edl_frames.specs.ChildReasons.{reason_of}
 use Rattle.edl_frames.specs.Carried.{examine_seats, first_said}
-use Rattle.edl_conform.specs.Walk.{IsUnderWay, IsWalked, said_below}
+use Rattle.edl_conform.specs.Walk.{IsWalking, IsWalked, said_below}
 use Rattle.edl_conform.proofs.FirstSaid.{skipped, said_here}
 
 -- a child as it stands at an index, of which only the first behind it is seen
@@ -103,7 +103,7 @@ seats_from items i at past s h = ap (seats at past) (next items i s.item h.item)
 -- ---- steps
 
 pub begins : (j : Job) (c : Channel) (items : List (ItemOf Listed)) (past : Past)
-    (old : List Event) → past ≡ head → IsUnderWay j c items 0 (pos 0) past old old
+    (old : List Event) → past ≡ head → IsWalking j c items 0 (pos 0) past old old
 begins j c items past old e = record {
   said = λ k. ap (λ p. first_said (examine_seats j c k 0 (seats (pos 0) p items))) (sym e);
   events = ap (λ p. old ++ filter_map (event_of j c) (seats (pos 0) p items)) e;
@@ -115,7 +115,7 @@ pub goes_on : (j : Job) (c : Channel) (items : List (ItemOf Listed)) (i : ℕ) (
     → IsHere items i at past s → reason_of j c s ≡ None
     → new ≡ now ++ option_to_list (event_of j c s)
     → v ≡ at +ℤ length_in s.item → after ≡ past_by (overlap_of s.item) s.item s.start s.past
-    → IsUnderWay j c items i at past old now → IsUnderWay j c items (i + 1) v after old new
+    → IsWalking j c items i at past old now → IsWalking j c items (i + 1) v after old new
 goes_on j c items i at v past after s old now new h none put ends passed way = record {
   said = λ k.
       way.said k
@@ -158,7 +158,7 @@ goes_on j c items i at v past after s old now new h none put ends passed way = r
 pub stops : (j : Job) (c : Channel) (items : List (ItemOf Listed)) (i : ℕ) (at : ℤ) (past : Past)
     (s : Seat) (old now : List Event) (why : Why)
     → IsHere items i at past s → reason_of j c s ≡ Some why
-    → IsUnderWay j c items i at past old now
+    → IsWalking j c items i at past old now
     → (k : ℕ) → said_below j c k items ≡ Some (k ∷ i ∷ [], why)
 stops j c items i at past s old now why h said way k =
     way.said k
@@ -170,7 +170,7 @@ stops j c items i at past s old now why h said way k =
 
 -- behind the last child
 pub ends : (j : Job) (c : Channel) (items : List (ItemOf Listed)) (i : ℕ) (at : ℤ) (past : Past)
-    (old now : List Event) → length items ≤ i → IsUnderWay j c items i at past old now
+    (old now : List Event) → length items ≤ i → IsWalking j c items i at past old now
     → IsWalked j c items old now None
 ends j c items i at past old now all way =
     let none = none_left items i all in (

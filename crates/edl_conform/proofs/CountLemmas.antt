@@ -10,7 +10,7 @@ use Rattle.edl_list.specs.declared.list.Event.{Event}
 use Rattle.edl_list.specs.Laws.{IsTimed}
 use Rattle.edl_frames.specs.Counted.{event_count, channel_count}
 use Rattle.edl_frames.specs.Shown.{is_on, on_channel}
-use Rattle.edl_conform.specs.Fits.{AreAhead}
+use Rattle.edl_law.specs.Fits.{AreAhead}
 use Rattle.edl_conform.specs.Steps.{IsCounting, saturated}
 use Rattle.edl_conform.proofs.ItemSteps.{filter_in}
 

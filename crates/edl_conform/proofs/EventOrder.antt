@@ -5,34 +5,18 @@ use Rattle.std.specs.declared.cmp.Ordering.{Ordering}
 use Rattle.std.specs.declared.cmp.Ordering.TheVariants.{Less, Equal, Greater}
 use Rattle.std.specs.List.{filter}
 use Rattle.std.specs.List.Sorted.{IsSortedBy, IsStableBy, ties}
-use Rattle.std.specs.Cmp.{IsTotalOrder, IsStrictWeakOrder}
-use Rattle.std.proofs.lemmas.Cmp.{ranked, int_ranked, int_cmp_total, nat_cmp_total, on_total, then_total}
+use Rattle.std.proofs.lemmas.Cmp.{ranked, int_ranked}
 use Rattle.std.proofs.lemmas.Int.{ints}
 use Rattle.std.proofs.lemmas.List.Kept.{IsSortedBy-filter}
 use Rattle.std.proofs.lemmas.List.Elements.{filter_passes}
-use Rattle.std.proofs.lemmas.List.Sorted.{sorted_far, ranks_by}
+use Rattle.std.proofs.lemmas.List.Sorted.{sorted_far}
 use Rattle.edl_list.specs.declared.list.Channel.{Channel}
 use Rattle.edl_list.specs.declared.list.Event.{Event}
 use Rattle.edl_list.specs.Formed.{rank, AreInOrder}
+use Rattle.edl_list.proofs.RecordOrder.{stands_before, stands_before-ranks}
 use Rattle.edl_frames.specs.Shown.{is_on, on_channel}
 use Rattle.edl_conform.specs.Walk.{AreRising}
 use Rattle.edl_conform.proofs.StableOrders.{one_order}
-
--- the order of events: record in, channel
-abbrev event_cmp : Event → Event → Ordering
-event_cmp a b =
-    ordering_then (int_cmp a.rec_in b.rec_in) (nat_cmp (rank a.channel) (rank b.channel))
-
-event_total : IsTotalOrder event_cmp
-event_total =
-    then_total (on_total (λ e. e.rec_in) int_cmp_total)
-    (on_total (λ e. rank e.channel) nat_cmp_total)
-
-abbrev stands_before : Event → Event → Bool
-stands_before a b = is_lt (event_cmp a b)
-
-is_order : IsStrictWeakOrder stands_before
-is_order = ranks_by event_total (λ e. e)
 
 by_channel : (a b : Event) (o : Ordering) → o ≡ nat_cmp (rank b.channel) (rank a.channel)
     → is_lt o ≡ false → rank a.channel ≤ rank b.channel
@@ -61,7 +45,7 @@ pub sorted_stand : (events : List Event) → IsSortedBy stands_before events
 sorted_stand events sorted i j d l m =
     by_start (get_or events i d) (get_or events j d)
     (int_cmp (get_or events j d).rec_in (get_or events i d).rec_in) refl
-    (sorted_far stands_before is_order events sorted i j d (omega (arith, l)) m)
+    (sorted_far stands_before stands_before-ranks events sorted i j d (omega (arith, l)) m)
 
 -- ---- one channel
 
@@ -117,8 +101,8 @@ pub channel_stays : (c : Channel) (events sorted : List Event)
     → AreRising (on_channel c events) → on_channel c sorted ≡ on_channel c events
 channel_stays c events sorted up stable rising =
     sym
-    (one_order stands_before is_order (on_channel c events) (on_channel c sorted)
+    (one_order stands_before stands_before-ranks (on_channel c events) (on_channel c sorted)
     (rising_sorted c events rising)
-    (IsSortedBy-filter stands_before is_order (is_on c) sorted up)
+    (IsSortedBy-filter stands_before stands_before-ranks (is_on c) sorted up)
     (λ x. filters (ties stands_before x) (is_on c) sorted ∙ ap (filter (is_on c)) (stable x)
     ∙ filters (is_on c) (ties stands_before x) events))

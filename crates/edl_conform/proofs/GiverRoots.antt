@@ -21,7 +21,7 @@ use Rattle.edl_conform.specs.declared.event_homes.Givers.{Givers}
 use Rattle.edl_conform.specs.Walk.{channel_behind, taken_after}
 use Rattle.edl_conform.specs.Givers.{AreCounted, PutsRoot, homes_in, places, spots_on}
 use Rattle.edl_conform.proofs.ChannelEvents.{count_behind}
-use Rattle.edl_conform.proofs.RootSteps.{one_kind, number_is, taken_more}
+use Rattle.edl_conform.proofs.RootSteps.{counted_channel, one_kind, number_is, taken_more}
 
 -- ---- counts
 
@@ -122,19 +122,6 @@ track_counted past t taken k =
     counted_by past t taken (bytes_eq t.kind (codes "Video")) (bytes_eq t.kind (codes "Audio"))
     (taken.video == 0) (taken.audio == 0) (taken.audio == 1) refl refl refl refl refl k
 
--- the channel of a track after these
-channel_is : (past : List (ItemOf Listed)) (t : TrackOf Listed) (taken : Taken)
-    → AreCounted past taken → channel_of past t ≡ channel_behind taken t
-channel_is past t taken k =
-    ap (λ free. cond (bytes_eq t.kind (codes "Video")) (cond free (Some V) None)
-    (cond (bytes_eq t.kind (codes "Audio"))
-    (cond (count_of_kind (codes "Audio") past == 0) (Some A)
-    (cond (count_of_kind (codes "Audio") past == 1) (Some A2) None)) None)) k.video
-    ∙ ap₂ (λ none one. cond (bytes_eq t.kind (codes "Video"))
-    (cond (taken.video == 0) (Some V) None)
-    (cond (bytes_eq t.kind (codes "Audio"))
-    (cond none (Some A) (cond one (Some A2) None)) None)) k.audio k.second
-
 -- ---- one root child
 
 -- a track of a channel
@@ -147,7 +134,7 @@ pub puts_track : (k : ℕ) (past : List (ItemOf Listed)) (t : TrackOf Listed) (t
 puts_track k past t taken after c old new is e n put = record {
   counted = counted (track_counted past t taken is) e n;
   put = λ j d. put j d ∙ ap (λ o. places (spots_on d old) ++ homes_in (homed_on d
-      (homed_track j k t o))) (e ∙ sym (channel_is past t taken is));
+      (homed_track j k t o))) (e ∙ sym (counted_channel past t taken is));
 }
   where
     counted : AreCounted (past ++ Track t ∷ []) (taken_by (channel_behind taken t) taken)
@@ -165,7 +152,7 @@ puts_no_track k past t taken old is e = record {
       (track_counted past t taken is);
   put = λ j d. sym (append-nil (places (spots_on d old)))
       ∙ ap (λ o. places (spots_on d old) ++ homes_in (homed_on d (homed_track j k t o)))
-      (e ∙ sym (channel_is past t taken is));
+      (e ∙ sym (counted_channel past t taken is));
 }
 
 -- a root child that isn't a track

@@ -25,7 +25,7 @@ use Rattle.edl_conform.specs.declared.event_homes.Spot.{Spot}
 use Rattle.edl_conform.specs.declared.event_homes.Givers.{Givers}
 use Rattle.edl_conform.specs.Givers.{homes_in, one_home, places, spots_on}
 use Rattle.edl_conform.specs.declared.child_context.Past.{Past as PastRow}
-use Rattle.edl_conform.specs.declared.child_context.Seat.{Seat as SeatRow}
+use Rattle.edl_conform.specs.declared.child_context.ChildContext.{ChildContext}
 use Rattle.edl_conform.specs.Seated.{IsSeatAt, IsSeated}
 use Rattle.edl_conform.specs.Stated.{stated_past, stated_seat}
 use Rattle.edl_conform.proofs.SeatSteps.{here, kept}
@@ -87,7 +87,7 @@ puts_on k items i at v past after s old now new h put ends passed way = λ j c.
         ∙ ap (λ p. past_by (overlap_of s.item) s.item at p) h.past_is))
 
 -- the same of the code's seat
-pub goes_on : (k : ℕ) (l : Listed) (i : ℕ) (at : ℤ) (past after : PastRow) (seat : SeatRow)
+pub goes_on : (k : ℕ) (l : Listed) (i : ℕ) (at : ℤ) (past after : PastRow) (seat : ChildContext)
     (old now new : List Spot) → IsSeatAt l i past seat → IsSeated seat → at ≡ pos (start_of l i)
     → ((j : Job) (c : Channel)
     → places new ≡ places now ++ one_home (event_of j c (stated_seat seat)) k i)

@@ -8,14 +8,15 @@ use Rattle.otio_model.specs.declared.compositions.ItemOf.{ItemOf}
 use Rattle.otio_model.specs.declared.compositions.Listed.{Listed}
 use Rattle.edl_list.specs.declared.list.Channel.{Channel}
 use Rattle.edl_list.specs.declared.list.Event.{Event}
+use Rattle.edl_list.specs.declared.list.Side.{Side}
 use Rattle.edl_list.specs.declared.list.EventList.{EventList}
 use Rattle.edl_frames.specs.Shown.{is_on, on_channel}
 use Rattle.media_rows.specs.Rows.{MediaRows}
 use Rattle.edl_frames.specs.Conformed.{external, Pair, pair_of, IsGap, IsItem, IsItemOf, IsTransition, IsTrackOf, serves, has_track}
 use Rattle.edl_frames.specs.Conformed.{AreItems, end, gap, cut, pair, pair_with_side, AreTracks, none, used, unused}
-use Rattle.edl_conform.specs.Fits.{AreAhead}
+use Rattle.edl_law.specs.Fits.{AreAhead}
 use Rattle.edl_conform.specs.Steps as S
-use Rattle.edl_conform.specs.Steps.{AddsSpace, AddsLead, AddsEvent, AddsTrack, IsSpace, IsLead, IsUnderWay}
+use Rattle.edl_conform.specs.Steps.{AddsSpace, AddsOutgoing, AddsLead, AddsEvent, AddsTrack, IsSpace, IsOutgoing, IsLead, IsUnderWay}
 
 nothing_behind : {X : Type 0} (xs : List X) → xs ≡ xs ++ []
 nothing_behind [] = refl
@@ -47,22 +48,37 @@ adds_no_lead rate media before at o items e = record {
   lead = subst (λ q. IsLead rate media before at q []) (sym e) S.no_lead;
 }
 
-pub adds_transition : (rate : Rate) (media : MediaRows) (before : Option Event) (at : ℤ) (p : Pair)
-    (t : ItemOf Listed) (old new : List (ItemOf Listed))
-    → serves rate before at p.from ≡ true → IsTransition rate p.type p.frames t
-    → new ≡ old ++ t ∷ [] → AddsLead rate media before at (Some p) old new
-adds_transition rate media before at p t old new h i e =
-    record { added = t ∷ []; is = e; lead = S.transition p t h i }
+pub adds_served : (rate : Rate) (media : MediaRows) (before : Option Event) (at : ℤ) (from : Side)
+    (items : List (ItemOf Listed)) → serves rate before at from ≡ true
+    → AddsOutgoing rate media before at from items items
+adds_served rate media before at from items h =
+    record { added = []; is = nothing_behind items; side = S.served h }
 
-pub adds_side : (rate : Rate) (media : MediaRows) (before : Option Event) (at : ℤ) (p : Pair)
-    (s t : ItemOf Listed) (old mid new : List (ItemOf Listed))
-    → serves rate before at p.from ≡ false → IsItem rate media p.from (pos 0) s
-    → IsTransition rate p.type p.frames t → mid ≡ old ++ s ∷ [] → new ≡ mid ++ t ∷ []
-    → AddsLead rate media before at (Some p) old new
-adds_side rate media before at p s t old mid new h j i e f = record {
-  added = s ∷ t ∷ [];
-  is = f ∙ ap (λ l. l ++ t ∷ []) e ∙ joined old (s ∷ []) (t ∷ []);
-  lead = S.side_first p s t h j i;
+pub adds_side : (rate : Rate) (media : MediaRows) (before : Option Event) (at : ℤ) (from : Side)
+    (s : ItemOf Listed) (old new : List (ItemOf Listed))
+    → serves rate before at from ≡ false → IsItem rate media from (pos 0) s
+    → new ≡ old ++ s ∷ [] → AddsOutgoing rate media before at from old new
+adds_side rate media before at from s old new h j e =
+    record { added = s ∷ []; is = e; side = S.put s h j }
+
+-- an outgoing side and the transition behind it
+led : (rate : Rate) (media : MediaRows) (before : Option Event) (at : ℤ) (p : Pair)
+    (t : ItemOf Listed) (added : List (ItemOf Listed))
+    → IsOutgoing rate media before at p.from added → IsTransition rate p.type p.frames t
+    → IsLead rate media before at (Some p) (added ++ t ∷ [])
+led rate media before at p t added (S.served h) i = S.transition p t h i
+led rate media before at p t added (S.put s h j) i = S.side_first p s t h j i
+
+pub adds_pair : (rate : Rate) (media : MediaRows) (before : Option Event) (at : ℤ)
+    (o : Option Pair) (p : Pair) (t : ItemOf Listed) (old mid new : List (ItemOf Listed))
+    → o ≡ Some p → AddsOutgoing rate media before at p.from old mid
+    → IsTransition rate p.type p.frames t → new ≡ mid ++ t ∷ []
+    → AddsLead rate media before at o old new
+adds_pair rate media before at o p t old mid new f a i e = record {
+  added = a.added ++ t ∷ [];
+  is = e ∙ ap (λ l. l ++ t ∷ []) a.is ∙ joined old a.added (t ∷ []);
+  lead = subst (λ q. IsLead rate media before at q (a.added ++ t ∷ [])) (sym f)
+      (led rate media before at p t a.added a.side i);
 }
 
 -- the items of an event that begins at once

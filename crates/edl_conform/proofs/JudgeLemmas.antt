@@ -14,7 +14,7 @@ use Rattle.edl_frames.specs.Sides.{clip_row, speed_in}
 use Rattle.edl_frames.specs.ChildReasons as C
 use Rattle.edl_frames.specs.declared.reasons.Why.{Why}
 use Rattle.edl_frames.specs.declared.reasons.Why.TheVariants as W
-use Rattle.edl_conform.specs.declared.child_context.Seat.{Seat}
+use Rattle.edl_conform.specs.declared.child_context.ChildContext.{ChildContext}
 use Rattle.edl_conform.specs.declared.clip_sides.Tested.{Tested}
 use Rattle.edl_conform.specs.Ranges.{IsNear}
 use Rattle.edl_conform.specs.Seated.{IsSeated}
@@ -22,11 +22,11 @@ use Rattle.edl_conform.specs.Drafts.{IsTested, event_part_at, or_record_day, sou
 use Rattle.edl_conform.proofs.DraftLemmas.{parts_are, else_that, first_that-append}
 
 -- a child starts and ends within a million seconds
-pub record StandsNear (seat : Seat) : Type 0 where
+pub record StandsNear (seat : ChildContext) : Type 0 where
   pub start : IsNear most_ticks seat.start
   pub end : IsNear most_ticks seat.end
 
-pub stands_near : (seat : Seat) → IsSeated seat → StandsNear seat
+pub stands_near : (seat : ChildContext) → IsSeated seat → StandsNear seat
 stands_near seat s =
     let e = s.end in
     let l = s.low in

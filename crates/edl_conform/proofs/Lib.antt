@@ -1,6 +1,5 @@
 -- Lemmas on lists of timelines and on conformed timelines.
 pub mod ProductBounds
-pub mod SpanLengths
 pub mod ItemSteps
 pub mod LoopSteps
 pub mod CountLemmas

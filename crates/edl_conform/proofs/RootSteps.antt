@@ -22,6 +22,7 @@ use Rattle.edl_frames.specs.Jobs.{Job}
 use Rattle.edl_frames.specs.ChildEvents.{events_on}
 use Rattle.edl_frames.specs.Carried.{Examined, count_of_kind, channel_of, examine_track, examine, examine_all, first_said}
 use Rattle.edl_conform.specs.declared.events_from_tracks.Taken.{Taken}
+use Rattle.edl_conform.specs.Givers.{AreCounted}
 use Rattle.edl_conform.specs.Walk.{AreRising, AreTaken, AreGathered, AddsTrack, AddsRoot, HasCome, IsSaid, channel_behind, taken_after}
 use Rattle.edl_conform.proofs.FirstSaid.{said_behind, said_before}
 use Rattle.edl_conform.proofs.ChannelEvents.{track_is_unlined, on_by, count_behind, none_there, comes_next, stays}
@@ -139,14 +140,26 @@ assigned past t taken c k e =
     by false true free false false a b d f g h = absurd (cc h)
     by false false free none one a b d f g h = absurd (cc h)
 
--- the channel of a track behind these
-channel_is : (past : List (ItemOf Listed)) (t : TrackOf Listed) (taken : Taken)
-    → AreTaken past taken → channel_of past t ≡ channel_behind taken t
-channel_is past t taken k =
-    ap₂ (λ video audio. cond (bytes_eq t.kind (codes "Video")) (cond (video == 0) (Some V) None)
+-- the channel of a track after these, of which it is known whether there are none, or one
+pub counted_channel : (past : List (ItemOf Listed)) (t : TrackOf Listed) (taken : Taken)
+    → AreCounted past taken → channel_of past t ≡ channel_behind taken t
+counted_channel past t taken k =
+    ap (λ free. cond (bytes_eq t.kind (codes "Video")) (cond free (Some V) None)
     (cond (bytes_eq t.kind (codes "Audio"))
-    (cond (audio == 0) (Some A) (cond (audio == 1) (Some A2) None)) None))
-    (sym k.video) (sym k.audio)
+    (cond (count_of_kind (codes "Audio") past == 0) (Some A)
+    (cond (count_of_kind (codes "Audio") past == 1) (Some A2) None)) None)) k.video
+    ∙ ap₂ (λ none one. cond (bytes_eq t.kind (codes "Video"))
+    (cond (taken.video == 0) (Some V) None)
+    (cond (bytes_eq t.kind (codes "Audio"))
+    (cond none (Some A) (cond one (Some A2) None)) None)) k.audio k.second
+
+taken_channel : (past : List (ItemOf Listed)) (t : TrackOf Listed) (taken : Taken)
+    → AreTaken past taken → channel_of past t ≡ channel_behind taken t
+taken_channel past t taken k = counted_channel past t taken (record {
+  video = ap (λ n. n == 0) (sym k.video);
+  audio = ap (λ n. n == 0) (sym k.audio);
+  second = ap (λ n. n == 1) (sym k.audio);
+})
 
 pub one_channel : (d c : Channel) → (rank d == rank c) ≡ true → d ≡ c
 one_channel V V e = refl
@@ -206,7 +219,7 @@ adds_root j k past t taken c old new is e adds =
     record {
       taken = a.next;
       gathered = gathers j k past t taken c old new a adds;
-      said = ap (λ o. first_said (examine_track j k t o)) (channel_is past t taken is ∙ e)
+      said = ap (λ o. first_said (examine_track j k t o)) (taken_channel past t taken is ∙ e)
           ∙ adds.said;
     }
 
@@ -218,7 +231,7 @@ pub track_said : (j : Job) (k : ℕ) (past : List (ItemOf Listed)) (t : TrackOf 
     → IsSaid (first_said (examine j k past (Track t))) fault
 track_said j k past t taken o fault is e said =
     subst (λ o. IsSaid (first_said (examine_track j k t o)) fault)
-    (sym (channel_is past t taken is ∙ e)) said
+    (sym (taken_channel past t taken is ∙ e)) said
 
 -- ---- all root children
 

@@ -10,7 +10,7 @@ use Rattle.edl_frames.specs.Seats as T
 use Rattle.edl_frames.specs.ChildEvents as E
 use Rattle.edl_frames.specs.ChildReasons as C
 use Rattle.edl_conform.specs.declared.child_context.Past.{Past}
-use Rattle.edl_conform.specs.declared.child_context.Seat.{Seat}
+use Rattle.edl_conform.specs.declared.child_context.ChildContext.{ChildContext}
 use Rattle.edl_conform.specs.Stated.{stated_past, stated_seat}
 use Rattle.edl_conform.specs.Seated.{IsSeatAt, seat_with}
 
@@ -33,12 +33,12 @@ first_at [] (suc i) = refl
 first_at (x ∷ xs) zero = refl
 first_at (x ∷ xs) (suc i) = first_at xs i
 
-behind_is : (l : Listed) (i : ℕ) (past : Past) (seat : Seat) → IsSeatAt l i past seat
+behind_is : (l : Listed) (i : ℕ) (past : Past) (seat : ChildContext) → IsSeatAt l i past seat
     → take 1 (drop (i + 1) (items_of l)) ≡ option_to_list (option_copied seat.next)
 behind_is l i past seat s = first_at (items_of l) (i + 1) ∙ ap option_to_list (sym s.next)
 
 -- so the reason of a child at an index is that of the seat
-pub reason_at : (l : Listed) (i : ℕ) (past : Past) (seat : Seat) → IsSeatAt l i past seat
+pub reason_at : (l : Listed) (i : ℕ) (past : Past) (seat : ChildContext) → IsSeatAt l i past seat
     → (j : D.Job) (c : Channel)
     → C.reason_of j c
     (seat_with seat.item.now seat.start (stated_past past) (drop (i + 1) (items_of l)))
@@ -52,7 +52,7 @@ reason_at l i past seat s j c =
     (sym s.before)
 
 -- and its event too
-pub event_at : (l : Listed) (i : ℕ) (past : Past) (seat : Seat) → IsSeatAt l i past seat
+pub event_at : (l : Listed) (i : ℕ) (past : Past) (seat : ChildContext) → IsSeatAt l i past seat
     → (j : D.Job) (c : Channel)
     → E.event_of j c
     (seat_with seat.item.now seat.start (stated_past past) (drop (i + 1) (items_of l)))

@@ -19,14 +19,14 @@ use Rattle.edl_frames.specs.Seats.{length_in, past_by, is_there}
 use Rattle.edl_frames.specs.ChildEvents.{event_of}
 use Rattle.edl_conform.specs.declared.list_settings.Job.{Job}
 use Rattle.edl_conform.specs.declared.child_context.Past.{Past}
-use Rattle.edl_conform.specs.declared.child_context.Seat.{Seat}
+use Rattle.edl_conform.specs.declared.child_context.ChildContext.{ChildContext}
 use Rattle.edl_conform.specs.Seated.{IsCarried, IsSeatAt, IsSeated}
 use Rattle.edl_conform.specs.Stated.{IsJobOf, stated_job, stated_past, stated_seat}
-use Rattle.edl_conform.specs.Walk.{IsUnderWay}
+use Rattle.edl_conform.specs.Walk.{IsWalking}
 use Rattle.edl_conform.proofs.ChildSteps.{IsHere, goes_on}
 use Rattle.edl_conform.proofs.ListFacts.{IsJob}
 
-pub here : (l : Listed) (i : ℕ) (past : Past) (seat : Seat) (at : ℤ) → IsSeatAt l i past seat
+pub here : (l : Listed) (i : ℕ) (past : Past) (seat : ChildContext) (at : ℤ) → IsSeatAt l i past seat
     → at ≡ pos (start_of l i) → IsHere (items_of l) i at (stated_past past) (stated_seat seat)
 here l i past seat at s e = record {
   item = s.item;
@@ -36,20 +36,20 @@ here l i past seat at s e = record {
 }
 
 -- the end of a child is kept in 128 bits
-pub kept : (seat : Seat) → IsSeated seat → to_z w128 (of_z w128 seat.end) ≡ seat.end
+pub kept : (seat : ChildContext) → IsSeated seat → to_z w128 (of_z w128 seat.end) ≡ seat.end
 kept seat s =
     let low = s.low in let high = s.high in let end = s.end in
     omega (arith, ints, low, high, end)
 
 -- one more child that is carried
 pub walks_on : (job : Job) (c : Channel) (l : Listed) (i : ℕ) (at : ℤ) (past after : Past)
-    (seat : Seat) (old now new : List Event)
+    (seat : ChildContext) (old now new : List Event)
     → IsSeatAt l i past seat → IsSeated seat → at ≡ pos (start_of l i) → IsCarried job seat
     → new ≡ now ++ option_to_list (event_of (stated_job job) c (stated_seat seat))
     → stated_past after
     ≡ past_by (overlap_of seat.item.now) seat.item.now seat.start (stated_past seat.past)
-    → IsUnderWay (stated_job job) c (items_of l) i at (stated_past past) old now
-    → IsUnderWay (stated_job job) c (items_of l) (i + 1) (to_z w128 (of_z w128 seat.end))
+    → IsWalking (stated_job job) c (items_of l) i at (stated_past past) old now
+    → IsWalking (stated_job job) c (items_of l) (i + 1) (to_z w128 (of_z w128 seat.end))
     (stated_past after) old new
 walks_on job c l i at past after seat old now new s seated e carried put passed way =
     goes_on (stated_job job) c (items_of l) i at (to_z w128 (of_z w128 seat.end))

@@ -18,7 +18,7 @@ use Rattle.edl_conform.specs.declared.child_context.Lap.{Lap}
 use Rattle.edl_conform.specs.declared.draft_events.Draft.{Draft}
 use Rattle.edl_conform.specs.declared.overlaps.Overlap.{Overlap as OverlapRow}
 use Rattle.edl_conform.specs.Shots.{stated_overlap}
-use Rattle.edl_conform.specs.declared.child_context.Seat.{Seat}
+use Rattle.edl_conform.specs.declared.child_context.ChildContext.{ChildContext}
 use Rattle.edl_conform.specs.Stated.{stated_job, stated_seat}
 use Rattle.edl_conform.specs.Seated.{IsCarried, IsPast, IsShort, IsShortSeat}
 
@@ -54,7 +54,7 @@ lap_short j c s o e h =
     (int_lt (pos 999 *ℤ ticks_of j) (o.before +ℤ o.after)) bad)
 
 -- so it is with a child that is carried
-pub carried_short : (job : Job) (seat : Seat) → IsCarried job seat → IsPast job.ticks seat.past
+pub carried_short : (job : Job) (seat : ChildContext) → IsCarried job seat → IsPast job.ticks seat.past
     → IsShortSeat job.ticks seat
 carried_short job seat h past = record {
   past = past.short;
@@ -77,7 +77,7 @@ draft_short ticks None lap e h = e
 draft_short ticks (Some d) lap e h = subst (λ l. IfSome l (IsShort ticks)) (sym e) h
 
 -- so it is with the event to black of a transition at the end
-pub tail_short : (ticks : ℤ) (seat : Seat) (u : OverlapRow) (o : Option Draft) (lap : Option Lap)
+pub tail_short : (ticks : ℤ) (seat : ChildContext) (u : OverlapRow) (o : Option Draft) (lap : Option Lap)
     → Some (stated_overlap u) ≡ overlap_of seat.item.now
     → IfSome lap (λ l. (l.end -ℤ l.begin) ≡ (u.before +ℤ u.after))
     → IfSome o (λ d. d.lap ≡ lap) → IsShortSeat ticks seat → HasShort ticks o
@@ -86,7 +86,7 @@ tail_short ticks seat u o lap e long same h =
     (lap_in ticks (u.before +ℤ u.after) lap long (h.own (stated_overlap u) (sym e)))
 
 -- what stands behind a transition that is carried
-pub after_short : (ticks : ℤ) (seat : Seat) (u : OverlapRow) (lap : Option Lap)
+pub after_short : (ticks : ℤ) (seat : ChildContext) (u : OverlapRow) (lap : Option Lap)
     → Some (stated_overlap u) ≡ overlap_of seat.item.now
     → IfSome lap (λ l. (l.end -ℤ l.begin) ≡ (u.before +ℤ u.after)) → IsShortSeat ticks seat
     → IfSome lap (IsShort ticks)

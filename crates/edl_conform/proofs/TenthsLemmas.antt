@@ -8,6 +8,7 @@ use Rattle.std.proofs.lemmas.Nat.{mul-le, div-add-mod'}
 use Rattle.std.proofs.lemmas.Bool.Decides.{Decides-int_eq}
 use Rattle.std.proofs.Math.Nat.{add-mul, mod-lt}
 use Rattle.edl_list.specs.Speeds.{half_even}
+use Rattle.edl_list.proofs.SpeedLemmas.{one_more}
 use Rattle.edl_frames.specs.Jobs.{tenths_of}
 use Rattle.edl_conform.specs.Tenths.{nearest_tenths}
 
@@ -44,11 +45,6 @@ none_found p a (suc n) h =
     (none_found p (a + 1) n (λ w less. h w (omega (arith, less))))
 
 -- ---- rounding
-
-one_more : (p q : Bool) (n : ℕ) → cond p 0 (cond q 1 (n % 2)) ≤ 1
-one_more true q n = omega arith
-one_more false true n = omega arith
-one_more false false n = omega arith
 
 -- a rounded quotient is near its numerator
 near_high : (a c : ℕ) → 1 ≤ c → half_even a c * c ≤ a + c

@@ -2,7 +2,6 @@
 -- speaks of.
 pub mod ConformedRanges
 pub mod Uses
-pub mod Fits
 pub mod Steps
 pub mod Stated
 pub mod Seated

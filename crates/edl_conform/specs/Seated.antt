@@ -18,7 +18,7 @@ use Rattle.edl_conform.specs.declared.list_settings.Job.{Job}
 use Rattle.edl_conform.specs.declared.child_context.Lap.{Lap}
 use Rattle.edl_conform.specs.declared.child_context.ItemAt.{ItemAt}
 use Rattle.edl_conform.specs.declared.child_context.Past.{Past}
-use Rattle.edl_conform.specs.declared.child_context.Seat.{Seat}
+use Rattle.edl_conform.specs.declared.child_context.ChildContext.{ChildContext}
 use Rattle.edl_conform.specs.Stated.{stated_job, stated_seat}
 use Rattle.edl_conform.specs.Ranges.{IsNear}
 
@@ -53,7 +53,7 @@ pub record IsNext (start : ℤ) (x : ItemOf Listed) : Type 0 where
   pub high : (start +ℤ length_in x) ≤ℤ pos most_ticks
 
 -- a child without a fault that ends within a million seconds, and so does the next one
-pub record IsSeated (seat : Seat) : Type 0 where
+pub record IsSeated (seat : ChildContext) : Type 0 where
   pub faultless : fault_of seat.item.now ≡ None
   pub end : seat.end ≡ seat.start +ℤ length_in seat.item.now
   pub low : pos 0 ≤ℤ seat.start
@@ -61,13 +61,13 @@ pub record IsSeated (seat : Seat) : Type 0 where
   pub next : IfSome (option_copied seat.next) (IsNext seat.end)
 
 -- neither the overlap before the child nor its own is too long to be carried
-pub record IsShortSeat (ticks : ℤ) (seat : Seat) : Type 0 where
+pub record IsShortSeat (ticks : ℤ) (seat : ChildContext) : Type 0 where
   pub past : IfSome seat.past.lap (IsShort ticks)
   pub own : (o : Overlap) → overlap_of seat.item.now ≡ Some o
       → (o.before +ℤ o.after) ≤ℤ (pos 999 *ℤ ticks)
 
 -- the child at an index of a list, with what stands before it
-pub record IsSeatAt (l : Listed) (index : ℕ) (past : Past) (seat : Seat) : Type 0 where
+pub record IsSeatAt (l : Listed) (index : ℕ) (past : Past) (seat : ChildContext) : Type 0 where
   pub item : slice_get (items_of l) index ≡ Some seat.item.now
   pub start : seat.start ≡ pos (start_of l index)
   pub end : seat.end ≡ pos (start_of l (index + 1))
@@ -79,5 +79,5 @@ abbrev pub seat_with : ItemOf Listed → ℤ → T.Past → List (ItemOf Listed)
 seat_with x at past next = record { item = x; start = at; past = past; next = next }
 
 -- there is no reason why the child isn't carried
-abbrev pub IsCarried : Job → Seat → Type 0
+abbrev pub IsCarried : Job → ChildContext → Type 0
 IsCarried job seat = (c : Channel) → C.reason_of (stated_job job) c (stated_seat seat) ≡ None

@@ -38,7 +38,7 @@ abbrev pub stated_part : Part → C.Part
 stated_part p = record { at = p.at; frames = p.frames; counted = p.counted }
 
 -- a side within the instants and frames that there are
-pub record IsPart (p : Part) : Type 0 where
+pub record IsNearPart (p : Part) : Type 0 where
   pub at : IsNear (2 * most_ticks) p.at
   pub frames : IsNear 1000000000000 p.frames
   pub counted : IsNear 1000000000000 p.counted

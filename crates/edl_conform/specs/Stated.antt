@@ -12,7 +12,7 @@ use Rattle.edl_conform.specs.declared.list_settings.Job.{Job}
 use Rattle.edl_conform.specs.declared.child_context.Lap.{Lap}
 use Rattle.edl_conform.specs.declared.child_context.ItemAt.{ItemAt}
 use Rattle.edl_conform.specs.declared.child_context.Past.{Past}
-use Rattle.edl_conform.specs.declared.child_context.Seat.{Seat}
+use Rattle.edl_conform.specs.declared.child_context.ChildContext.{ChildContext}
 
 abbrev pub stated_job : Job → D.Job
 stated_job j = record {
@@ -43,7 +43,7 @@ stated_past past = record {
 }
 
 -- the seat as the code sees it: of what stands behind the child, the first alone
-abbrev pub stated_seat : Seat → T.Seat
+abbrev pub stated_seat : ChildContext → T.Seat
 stated_seat s = record {
   item = s.item.now;
   start = s.start;

@@ -8,12 +8,13 @@ use Rattle.otio_model.specs.declared.compositions.StackOf.{StackOf}
 use Rattle.otio_model.specs.Trees.{items_of}
 use Rattle.edl_list.specs.declared.list.Channel.{Channel}
 use Rattle.edl_list.specs.declared.list.Event.{Event}
+use Rattle.edl_list.specs.declared.list.Side.{Side}
 use Rattle.edl_list.specs.declared.list.EventList.{EventList}
 use Rattle.edl_frames.specs.Counted.{channel_count}
 use Rattle.edl_frames.specs.Shown.{on_channel}
 use Rattle.media_rows.specs.Rows.{MediaRows}
 use Rattle.edl_frames.specs.Conformed.{Pair, IsGap, IsItem, IsTransition, serves, AreItems, AreTracks}
-use Rattle.edl_conform.specs.Fits.{AreAhead}
+use Rattle.edl_law.specs.Fits.{AreAhead}
 
 -- a gap up to a record frame, where it lies behind
 pub data IsSpace (rate : Rate) : ℤ → ℤ → List (ItemOf Listed) → Type 0 where
@@ -25,6 +26,20 @@ pub record AddsSpace (rate : Rate) (at to : ℤ) (old new : List (ItemOf Listed)
   pub added : List (ItemOf Listed)
   pub is : new ≡ old ++ added
   pub space : IsSpace rate at to added
+
+-- the item of no length for the outgoing side of a pair, where no item before serves as it
+pub data IsOutgoing (rate : Rate) (media : MediaRows) (before : Option Event) (at : ℤ)
+    (from : Side) : List (ItemOf Listed) → Type 0 where
+  served : serves rate before at from ≡ true → IsOutgoing rate media before at from []
+  put : (s : ItemOf Listed) → serves rate before at from ≡ false
+      → IsItem rate media from (pos 0) s → IsOutgoing rate media before at from (s ∷ [])
+
+pub record AddsOutgoing
+    (rate : Rate) (media : MediaRows) (before : Option Event) (at : ℤ) (from : Side)
+    (old new : List (ItemOf Listed)) : Type 0 where
+  pub added : List (ItemOf Listed)
+  pub is : new ≡ old ++ added
+  pub side : IsOutgoing rate media before at from added
 
 -- what stands before the item of an event that begins in this way
 pub data IsLead (rate : Rate) (media : MediaRows) (before : Option Event) (at : ℤ)
@@ -72,10 +87,6 @@ pub record IsUnderWay
   pub ahead : AreAhead rate before at rest
   pub are : (more : List (ItemOf Listed)) → AreItems rate media before at rest more
       → AreItems rate media None first all (items ++ more)
-
--- the events of each channel run on from a record frame
-pub record HasAllAhead (list : EventList) (first : ℤ) : Type 0 where
-  pub each : (c : Channel) → AreAhead list.rate None first (on_channel c list.events)
 
 -- the root stack of these tracks
 pub record HasTrackItems (tracks : List (ItemOf Listed)) (s : StackOf Listed) : Type 0 where

@@ -88,7 +88,7 @@ pub record HasCome (j : Job) (items : List (ItemOf Listed)) (i : ℕ) (taken : T
       ≡ first_said (examine_all j i (take i items) (drop i items))
 
 -- the children of a track before i have come, at an instant and behind what stands there
-pub record IsUnderWay
+pub record IsWalking
     (j : Job) (c : Channel) (items : List (ItemOf Listed)) (i : ℕ) (at : ℤ) (past : Past)
     (old now : List Event) : Type 0 where
   pub said : (k : ℕ) → said_below j c k items

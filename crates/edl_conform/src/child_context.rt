@@ -43,7 +43,7 @@ pub struct Past<'a> {
 
 /// A child of a track as it stands.
 #[derive(Clone, Copy)]
-pub struct Seat<'a> {
+pub struct ChildContext<'a> {
     /// The child.
     pub item: &'a Item,
     /// Where it starts, in ticks of the track.
@@ -70,10 +70,10 @@ impl<'a> Past<'a> {
     }
 }
 
-impl<'a> Seat<'a> {
+impl<'a> ChildContext<'a> {
     /// The child at an index, where the children before it end at `start` and this stands before
     /// it.
-    pub fn at(children: &'a Children, index: usize, start: i128, past: Past<'a>) -> Seat<'a>
+    pub fn at(children: &'a Children, index: usize, start: i128, past: Past<'a>) -> ChildContext<'a>
         requires few { count children.now < 2 ^ 32 }
         requires sound { AreFaultless children.now }
         requires fits { added (lengths children.now) ≤ most_ticks }
@@ -83,7 +83,7 @@ impl<'a> Seat<'a> {
         ensures seated { IsSeated result }
     {
         let item = children.child(index);
-        Seat {
+        ChildContext {
             item,
             start,
             end: start + item.length_or_zero(),

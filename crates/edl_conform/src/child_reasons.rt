@@ -16,10 +16,10 @@ ghost use Rattle.edl_conform.specs.Shots.{IsOverlap, IsShot, clip_of, stated_ove
 ghost use Rattle.edl_conform.specs.Drafts.{IsTested, or_record_day, source_reason_by};
 
 use crate::bools::{any_of, both};
-use crate::child_context::{Lap, Seat};
+use crate::child_context::{ChildContext, Lap};
 use crate::clip_sides::{Tested, event_part, lap_part, test_parts};
 use crate::clips::{has_no_reel, has_other_effect, is_other_kind, rate_differs, row_of};
-use crate::draft_events::draft_of;
+use crate::draft_events::{Shown, draft_of};
 use crate::frames::{is_in_day, is_on_frame, record_at};
 use crate::list_settings::Job;
 use crate::m2_speeds::tenths_of;
@@ -44,7 +44,7 @@ fn is_item(item: &Item) -> bool
 }
 
 // Whether the record labels of the event that a child gives aren't both of the day.
-fn is_past_record(job: &Job<'_>, seat: &Seat<'_>) -> bool
+fn is_past_record(job: &Job<'_>, seat: &ChildContext<'_>) -> bool
     requires seated { IsSeated seat.now }
     requires past { IsOpenPast seat.now.past }
     ensures { (c : AnyChannel) → result ≡ reasons.is_past_record (stated_job job.now)
@@ -76,7 +76,7 @@ fn has_no_tenths(job: &Job<'_>, shot: &Shot<'_>) -> bool
 // What is tested of the sides of a clip that is shown.
 fn test_clip(
     job: &Job<'_>,
-    seat: &Seat<'_>,
+    seat: &ChildContext<'_>,
     shot: &Shot<'_>,
     behind: Option<Lap<'_>>,
     row: Option<&MediaRow>,
@@ -91,7 +91,11 @@ fn test_clip(
         result }
 {
     let event = event_part(job, begin_of(seat), end_of(seat, behind));
-    test_parts(job, shot, seat.start, row, event, lap_part(job, behind))
+    let shown = Shown {
+        shot: *shot,
+        start: seat.start,
+    };
+    test_parts(job, &shown, row, event, lap_part(job, behind))
 }
 
 // Whether a source stands between two frames at another speed than the rate's own.
@@ -121,7 +125,7 @@ fn source_reason(shot: &Shot<'_>, tested: Tested) -> Option<Why>
 // Why a clip that is shown isn't carried.
 fn clip_reason(
     job: &Job<'_>,
-    seat: &Seat<'_>,
+    seat: &ChildContext<'_>,
     shot: &Shot<'_>,
     behind: Option<Lap<'_>>,
 ) -> Option<Why>
@@ -150,7 +154,7 @@ fn clip_reason(
 }
 
 // Why an item isn't carried, by what is tested of clips that are shown.
-fn shown_reason(job: &Job<'_>, seat: &Seat<'_>) -> Option<Why>
+fn shown_reason(job: &Job<'_>, seat: &ChildContext<'_>) -> Option<Why>
     requires seated { IsSeated seat.now }
     requires past { IsOpenPast seat.now.past }
     ensures { result ≡ reasons.first_that (reasons.shown_tests (stated_job job.now)
@@ -170,7 +174,7 @@ fn shown_reason(job: &Job<'_>, seat: &Seat<'_>) -> Option<Why>
 }
 
 // Whether a clip is shown in some frame, or goes out over this overlap behind it.
-fn is_shown(seat: &Seat<'_>, behind: Option<Lap<'_>>) -> bool
+fn is_shown(seat: &ChildContext<'_>, behind: Option<Lap<'_>>) -> bool
     requires seated { IsSeated seat.now }
     requires past { IsOpenPast seat.now.past }
     requires behind { option_map stated_lap behind ≡ seats.lap_behind (stated_seat seat.now) }
@@ -196,7 +200,7 @@ fn or_record(reason: Option<Why>, is_past: bool) -> Option<Why>
 }
 
 // Why an item isn't carried.
-fn item_reason(job: &Job<'_>, seat: &Seat<'_>) -> Option<Why>
+fn item_reason(job: &Job<'_>, seat: &ChildContext<'_>) -> Option<Why>
     requires seated { IsSeated seat.now }
     requires past { IsOpenPast seat.now.past }
     ensures { (c : AnyChannel) → result ≡ reasons.first_that
@@ -212,7 +216,7 @@ fn item_reason(job: &Job<'_>, seat: &Seat<'_>) -> Option<Why>
 }
 
 // Where the item behind a transition ends, and the cut where there is none.
-fn end_behind(seat: &Seat<'_>) -> i128
+fn end_behind(seat: &ChildContext<'_>) -> i128
     requires seated { IsSeated seat.now }
     ensures { result ≡ reasons.end_behind seat.now.start
         (option_to_list (option_copied seat.now.next)) }
@@ -224,7 +228,7 @@ fn end_behind(seat: &Seat<'_>) -> i128
 }
 
 // Whether the overlap of a transition reaches further than it may, or is too long.
-fn is_bad_lap(job: &Job<'_>, seat: &Seat<'_>, overlap: Overlap<'_>) -> bool
+fn is_bad_lap(job: &Job<'_>, seat: &ChildContext<'_>, overlap: Overlap<'_>) -> bool
     requires seated { IsSeated seat.now }
     requires overlap { IsOverlap overlap }
     ensures { result ≡ reasons.is_bad_lap (stated_job job.now) (stated_seat seat.now)
@@ -240,7 +244,7 @@ fn is_bad_lap(job: &Job<'_>, seat: &Seat<'_>, overlap: Overlap<'_>) -> bool
 }
 
 // Whether a transition's cut, and its overlap's start and end, are starts of record frames.
-fn is_whole(job: &Job<'_>, seat: &Seat<'_>, overlap: Overlap<'_>) -> bool
+fn is_whole(job: &Job<'_>, seat: &ChildContext<'_>, overlap: Overlap<'_>) -> bool
     requires seated { IsSeated seat.now }
     requires overlap { IsOverlap overlap }
     ensures { result ≡ (jobs.is_on_frame (stated_job job.now) seat.now.start
@@ -253,7 +257,7 @@ fn is_whole(job: &Job<'_>, seat: &Seat<'_>, overlap: Overlap<'_>) -> bool
 }
 
 // Whether a transition has an overlap that isn't empty, and makes no dissolve or wipe.
-fn has_other_kind(seat: &Seat<'_>, overlap: Overlap<'_>) -> bool
+fn has_other_kind(seat: &ChildContext<'_>, overlap: Overlap<'_>) -> bool
     requires seated { IsSeated seat.now }
     requires overlap { IsOverlap overlap }
     ensures { result ≡ (seats.is_there (seats.lap_at seat.now.start (stated_overlap overlap.entry))
@@ -266,7 +270,7 @@ fn has_other_kind(seat: &Seat<'_>, overlap: Overlap<'_>) -> bool
 }
 
 // Why a transition isn't carried.
-fn transition_reason(job: &Job<'_>, seat: &Seat<'_>, overlap: Overlap<'_>) -> Option<Why>
+fn transition_reason(job: &Job<'_>, seat: &ChildContext<'_>, overlap: Overlap<'_>) -> Option<Why>
     requires seated { IsSeated seat.now }
     requires past { IsOpenPast seat.now.past }
     requires overlap { IsOverlap overlap }
@@ -290,7 +294,7 @@ fn transition_reason(job: &Job<'_>, seat: &Seat<'_>, overlap: Overlap<'_>) -> Op
 
 /// The first reason for which a child isn't carried, whatever channel its track stands for; `None`
 /// exactly where the child is carried. It takes no memory.
-pub fn reason_of(job: &Job<'_>, seat: &Seat<'_>) -> Option<Why>
+pub fn reason_of(job: &Job<'_>, seat: &ChildContext<'_>) -> Option<Why>
     requires seated { IsSeated seat.now }
     requires past { IsPast job.now.ticks seat.now.past }
     ensures reason { (c : AnyChannel) →

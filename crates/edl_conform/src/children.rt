@@ -12,7 +12,7 @@ ghost use Rattle.edl_conform.specs.Seated.{IsCarried, IsPast, IsSeated};
 ghost use Rattle.edl_conform.specs.Stated.{stated_job, stated_seat};
 ghost use Rattle.edl_conform.specs.Walk.{IsWalked};
 
-use crate::child_context::{Past, Seat};
+use crate::child_context::{ChildContext, Past};
 use crate::child_reasons::reason_of;
 use crate::event_of_child::event_of;
 use crate::list_settings::Job;
@@ -33,7 +33,7 @@ fn put_event(
     alloc: Global,
     job: &Job<'_>,
     channel: Channel,
-    seat: &Seat<'_>,
+    seat: &ChildContext<'_>,
     events: &mut Vec<Event>,
 ) -> Result<(), AllocError>
     requires seated { IsSeated seat.now }
@@ -68,7 +68,7 @@ pub(crate) fn put_children(
     let mut past = Past::head();
     let mut start = 0;
     'children: for index in 0..children.len() {
-        let seat = Seat::at(children, index, start, past);
+        let seat = ChildContext::at(children, index, start, past);
         match reason_of(job, &seat) {
             Some(why) => return Ok(Some(Stop {
                 index: index as u32,

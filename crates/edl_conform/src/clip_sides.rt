@@ -11,14 +11,15 @@ ghost use Rattle.edl_frames.specs.ChildReasons as reasons;
 ghost use Rattle.edl_conform.specs.Stated.{stated_job, stated_lap};
 ghost use Rattle.edl_conform.specs.Ranges.{IsNear};
 ghost use Rattle.edl_conform.specs.Seated.{IsOpen};
-ghost use Rattle.edl_conform.specs.Shots.{IsPart, IsShot, clip_of, stated_part};
-ghost use Rattle.edl_conform.specs.Drafts.{IsTested, event_part_at, going_side, tested_either};
+ghost use Rattle.edl_conform.specs.Shots.{IsNearPart, clip_of, stated_part};
+ghost use Rattle.edl_conform.specs.Drafts.{IsShown, IsTested, event_part_at, going_side, tested_either};
 
 use crate::bools::{any_of, both};
 use crate::child_context::Lap;
+use crate::draft_events::Shown;
 use crate::frames::{frames_in, is_in_day};
 use crate::list_settings::Job;
-use crate::visible_clips::{Shot, played, product, source_at};
+use crate::visible_clips::{played, product, source_at};
 use edl_frames::is_row_outside;
 use media_rows::MediaRow;
 
@@ -47,7 +48,7 @@ pub(crate) fn event_part(job: &Job<'_>, begin: i128, end: i128) -> Option<Part>
     requires begin { IsNear (2 * most_ticks) begin }
     requires end { IsNear (2 * most_ticks) end }
     ensures part { option_map stated_part result ≡ event_part_at (stated_job job.now) begin end }
-    ensures range { IfSome result IsPart }
+    ensures range { IfSome result IsNearPart }
 {
     if begin < end {
         let frames = frames_in(job, end - begin);
@@ -65,7 +66,7 @@ pub(crate) fn event_part(job: &Job<'_>, begin: i128, end: i128) -> Option<Part>
 fn going_part(job: &Job<'_>, lap: Lap<'_>) -> Part
     requires { IsOpen lap }
     ensures part { stated_part result ≡ going_side (stated_job job.now) (stated_lap lap.entry) }
-    ensures range { IsPart result }
+    ensures range { IsNearPart result }
 {
     Part {
         at: lap.begin,
@@ -79,7 +80,7 @@ pub(crate) fn lap_part(job: &Job<'_>, lap: Option<Lap<'_>>) -> Option<Part>
     requires { IfSome lap IsOpen }
     ensures part { option_to_list (option_map stated_part result)
         ≡ reasons.lap_part (stated_job job.now) (option_map stated_lap lap.entry) }
-    ensures range { IfSome result IsPart }
+    ensures range { IfSome result IsNearPart }
 {
     match lap {
         Some(lap) => Some(going_part(job, lap)),
@@ -115,48 +116,41 @@ fn is_whole(run: i128, piece: i128) -> bool
 }
 
 // Whether the source stands between two frames where the side begins.
-fn is_between(job: &Job<'_>, shot: &Shot<'_>, start: i128, part: Part) -> bool
-    requires shot { IsShot shot.now }
-    requires start { IsNear most_ticks start }
-    requires part { IsPart part }
+fn is_between(job: &Job<'_>, shown: &Shown<'_>, part: Part) -> bool
+    requires shown { IsShown shown.now }
+    requires part { IsNearPart part }
     ensures { result ≡
-        reasons.is_between (stated_job job.now) (clip_of shot.now) start (stated_part part) }
+        reasons.is_between (stated_job job.now) (clip_of shown.now.shot) shown.now.start
+        (stated_part part) }
 {
-    let run = product(part.at - start, shot.speed);
-    !is_whole(reached(shot.start, run), frame_of(job))
+    let run = product(part.at - shown.start, shown.shot.speed);
+    !is_whole(reached(shown.shot.start, run), frame_of(job))
 }
 
 // Whether a source label of the side isn't in the day.
-fn is_past_day(job: &Job<'_>, shot: &Shot<'_>, start: i128, part: Part) -> bool
-    requires shot { IsShot shot.now }
-    requires start { IsNear most_ticks start }
-    requires part { IsPart part }
+fn is_past_day(job: &Job<'_>, shown: &Shown<'_>, part: Part) -> bool
+    requires shown { IsShown shown.now }
+    requires part { IsNearPart part }
     ensures { result ≡
-        reasons.is_past_day (stated_job job.now) (clip_of shot.now) start (stated_part part) }
+        reasons.is_past_day (stated_job job.now) (clip_of shown.now.shot) shown.now.start
+        (stated_part part) }
 {
-    let first = source_at(job, shot, start, part.at);
-    let end = first + played(part.counted, shot.speed);
+    let first = source_at(job, &shown.shot, shown.start, part.at);
+    let end = first + played(part.counted, shown.shot.speed);
     !both(is_in_day(job, first), is_in_day(job, end))
 }
 
 // Whether a frame that the side shows lies outside the listed ones.
-fn is_outside(
-    job: &Job<'_>,
-    shot: &Shot<'_>,
-    start: i128,
-    row: Option<&MediaRow>,
-    part: Part,
-) -> bool
-    requires shot { IsShot shot.now }
-    requires start { IsNear most_ticks start }
-    requires part { IsPart part }
-    ensures { result ≡ reasons.is_outside_row (stated_job job.now) (clip_of shot.now) start
-        (option_copied row.entry) (stated_part part) }
+fn is_outside(job: &Job<'_>, shown: &Shown<'_>, row: Option<&MediaRow>, part: Part) -> bool
+    requires shown { IsShown shown.now }
+    requires part { IsNearPart part }
+    ensures { result ≡ reasons.is_outside_row (stated_job job.now) (clip_of shown.now.shot)
+        shown.now.start (option_copied row.entry) (stated_part part) }
 {
     match row {
         Some(row) => {
-            let first = source_at(job, shot, start, part.at);
-            let last = first + played(part.frames - 1, shot.speed);
+            let first = source_at(job, &shown.shot, shown.start, part.at);
+            let last = first + played(part.frames - 1, shown.shot.speed);
             is_row_outside(row, first, last)
         }
         None => false,
@@ -164,42 +158,28 @@ fn is_outside(
 }
 
 // What is tested of a side.
-fn test_one(
-    job: &Job<'_>,
-    shot: &Shot<'_>,
-    start: i128,
-    row: Option<&MediaRow>,
-    part: Part,
-) -> Tested
-    requires shot { IsShot shot.now }
-    requires start { IsNear most_ticks start }
-    requires part { IsPart part }
-    ensures { IsTested (stated_job job.now) (clip_of shot.now) start (option_copied row.entry)
-        (stated_part part ∷ []) result }
+fn test_one(job: &Job<'_>, shown: &Shown<'_>, row: Option<&MediaRow>, part: Part) -> Tested
+    requires shown { IsShown shown.now }
+    requires part { IsNearPart part }
+    ensures { IsTested (stated_job job.now) (clip_of shown.now.shot) shown.now.start
+        (option_copied row.entry) (stated_part part ∷ []) result }
 {
     Tested {
-        is_between: is_between(job, shot, start, part),
-        is_past_day: is_past_day(job, shot, start, part),
-        is_outside: is_outside(job, shot, start, row, part),
+        is_between: is_between(job, shown, part),
+        is_past_day: is_past_day(job, shown, part),
+        is_outside: is_outside(job, shown, row, part),
     }
 }
 
 // What is tested of a side, where there is one.
-fn test_part(
-    job: &Job<'_>,
-    shot: &Shot<'_>,
-    start: i128,
-    row: Option<&MediaRow>,
-    part: Option<Part>,
-) -> Tested
-    requires shot { IsShot shot.now }
-    requires start { IsNear most_ticks start }
-    requires part { IfSome part IsPart }
-    ensures { IsTested (stated_job job.now) (clip_of shot.now) start (option_copied row.entry)
-        (option_to_list (option_map stated_part part)) result }
+fn test_part(job: &Job<'_>, shown: &Shown<'_>, row: Option<&MediaRow>, part: Option<Part>) -> Tested
+    requires shown { IsShown shown.now }
+    requires part { IfSome part IsNearPart }
+    ensures { IsTested (stated_job job.now) (clip_of shown.now.shot) shown.now.start
+        (option_copied row.entry) (option_to_list (option_map stated_part part)) result }
 {
     match part {
-        Some(part) => test_one(job, shot, start, row, part),
+        Some(part) => test_one(job, shown, row, part),
         None => Tested {
             is_between: false,
             is_past_day: false,
@@ -219,25 +199,23 @@ fn either(a: Tested, b: Tested) -> Tested
     }
 }
 
-/// What is tested of the sides of a clip, where this overlap stands behind it.
+/// What is tested of the sides of a clip: that of its event, and that which goes out at its end.
 pub(crate) fn test_parts(
     job: &Job<'_>,
-    shot: &Shot<'_>,
-    start: i128,
+    shown: &Shown<'_>,
     row: Option<&MediaRow>,
     event: Option<Part>,
     going: Option<Part>,
 ) -> Tested
-    requires shot { IsShot shot.now }
-    requires start { IsNear most_ticks start }
-    requires event { IfSome event IsPart }
-    requires going { IfSome going IsPart }
-    ensures { IsTested (stated_job job.now) (clip_of shot.now) start (option_copied row.entry)
-        (option_to_list (option_map stated_part event)
+    requires shown { IsShown shown.now }
+    requires event { IfSome event IsNearPart }
+    requires going { IfSome going IsNearPart }
+    ensures { IsTested (stated_job job.now) (clip_of shown.now.shot) shown.now.start
+        (option_copied row.entry) (option_to_list (option_map stated_part event)
         ++ option_to_list (option_map stated_part going)) result }
 {
     either(
-        test_part(job, shot, start, row, event),
-        test_part(job, shot, start, row, going),
+        test_part(job, shown, row, event),
+        test_part(job, shown, row, going),
     )
 }

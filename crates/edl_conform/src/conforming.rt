@@ -11,7 +11,8 @@ ghost use Rattle.edl_frames.specs.Refused.{IsAccepted};
 
 use crate::item_counts::is_large;
 use crate::media_faults::first_fault;
-use crate::timeline_from_list::{first_record, timeline_of};
+use crate::reel_rows::ListMedia;
+use crate::timeline_from_list::timeline_of;
 use edl_frames::ConformFault;
 use edl_list::EventList;
 use media_list::MediaList;
@@ -38,15 +39,18 @@ pub fn conform(
     ensures few { IfOk result (λ timeline. item_count list.now ≤ most_items) }
     ensures refused { IfErr result (IsConformFault list.now (option_copied media.entry)) }
 {
-    match first_fault(list.rate, media, list.events.as_slice()) {
+    let rows = ListMedia {
+        rate: list.rate,
+        rows: media,
+    };
+    match first_fault(&rows, list.events.as_slice()) {
         Some(fault) => return Err(fault),
         None => {}
     }
-    let first = first_record(list);
-    if is_large(list, first) {
+    if is_large(list) {
         return Err(ConformFault::Items);
     }
-    match timeline_of(alloc, list, media, first) {
+    match timeline_of(alloc, list, media) {
         Ok(timeline) => Ok(timeline),
         Err(_) => Err(ConformFault::Memory),
     }

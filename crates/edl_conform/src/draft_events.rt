@@ -9,7 +9,7 @@ ghost use Rattle.edl_conform.specs.Seated.{IsItemAt, IsOpen, IsOpenPast, IsSeate
 ghost use Rattle.edl_conform.specs.Shots.{IsShot, clip_of};
 ghost use Rattle.edl_conform.specs.Drafts.{IsDraft, IsShown, drafted, shown_at, stated_shown};
 
-use crate::child_context::{Lap, Past, Seat};
+use crate::child_context::{ChildContext, Lap, Past};
 use crate::overlaps::{begin_of, end_of, is_less, lap_at, lap_behind, overlap_of};
 use crate::visible_clips::{Shot, shot_in};
 
@@ -74,7 +74,7 @@ fn black_draft<'a>(past: &Past<'a>, lap: Option<Lap<'a>>) -> Option<Draft<'a>>
 }
 
 // The event of a clip, where it has a length.
-fn clip_draft<'a>(seat: &Seat<'a>, shot: Shot<'a>) -> Option<Draft<'a>>
+fn clip_draft<'a>(seat: &ChildContext<'a>, shot: Shot<'a>) -> Option<Draft<'a>>
     requires seated { IsSeated seat.now }
     requires past { IsOpenPast seat.now.past }
     requires shot { IsShot shot }
@@ -102,7 +102,7 @@ fn clip_draft<'a>(seat: &Seat<'a>, shot: Shot<'a>) -> Option<Draft<'a>>
 }
 
 /// The event that a child gives.
-pub(crate) fn draft_of<'a>(seat: &Seat<'a>) -> Option<Draft<'a>>
+pub(crate) fn draft_of<'a>(seat: &ChildContext<'a>) -> Option<Draft<'a>>
     requires seated { IsSeated seat.now }
     requires past { IsOpenPast seat.now.past }
     ensures draft { (j : AnyJob) (c : AnyChannel) →

@@ -18,7 +18,7 @@ ghost use Rattle.edl_conform.specs.Seated.{IsOpenPast, IsSeated};
 ghost use Rattle.edl_conform.specs.Stated.{stated_seat};
 ghost use Rattle.edl_conform.specs.Givers.{AreCounted, PutsRoot, given_on, homes_in, home_at, one_home, places, spots_on, given_behind};
 
-use crate::child_context::{Past, Seat};
+use crate::child_context::{ChildContext, Past};
 use crate::draft_events::draft_of;
 use crate::events_from_tracks::{Taken, after, channel_behind};
 use crate::faults_at_places::child_place;
@@ -206,7 +206,7 @@ fn put_track(index: u32, track: &Track, spots: &mut Vec<Spot>) -> Result<(), All
 fn put_spot(
     track: u32,
     child: u32,
-    seat: &Seat<'_>,
+    seat: &ChildContext<'_>,
     spots: &mut Vec<Spot>,
 ) -> Result<(), AllocError>
     requires seated { IsSeated seat.now }
@@ -234,7 +234,7 @@ fn put_spots(track: u32, children: &Children, spots: &mut Vec<Spot>) -> Result<(
     let mut past = Past::head();
     let mut start = 0;
     'children: for index in 0..children.len() {
-        let seat = Seat::at(children, index, start, past);
+        let seat = ChildContext::at(children, index, start, past);
         put_spot(track, index as u32, &seat, spots)?;
         past = seat.past_behind();
         start = seat.end;

@@ -11,7 +11,7 @@ ghost use Rattle.edl_conform.specs.Ranges.{IsNear};
 ghost use Rattle.edl_conform.specs.Seated.{IsCarried, IsItemAt, IsOpen, IsOpenPast, IsPast, IsSeated, IsShort};
 ghost use Rattle.edl_conform.specs.Drafts.{IsDraft, IsShown, drafted, side_in};
 
-use crate::child_context::{Lap, Past, Seat};
+use crate::child_context::{ChildContext, Lap, Past};
 use crate::clips::{LapKind, lap_kind};
 use crate::draft_events::{Draft, Shown, draft_of, shown_before};
 use crate::frames::{frames_in, record_at};
@@ -146,7 +146,7 @@ pub fn event_of(
     alloc: Global,
     job: &Job<'_>,
     channel: Channel,
-    seat: &Seat<'_>,
+    seat: &ChildContext<'_>,
 ) -> Result<Option<Event>, AllocError>
     requires seated { IsSeated seat.now }
     requires past { IsPast job.now.ticks seat.now.past }

@@ -3,16 +3,17 @@
 ghost use Rattle.std.specs.Prelude.{◌≡◌, ◌≤◌, ◌+◌, None, nat_lt};
 ghost use Rattle.std.specs.Option.{option_copied};
 ghost use Rattle.limits.specs.Limits.{most_items};
+ghost use Rattle.edl_list.specs.Formed.{IsWellFormed};
 ghost use Rattle.edl_list.specs.Speeds.{count_of};
 ghost use Rattle.edl_frames.specs.Conformed as conformed;
 ghost use Rattle.edl_frames.specs.Shown.{on_channel};
 ghost use Rattle.edl_frames.specs.Counted as counted;
-ghost use Rattle.edl_conform.specs.Fits.{AreAhead, FitsAt, FitsBefore, FitsEvent, FitsSide};
-ghost use Rattle.edl_conform.specs.Steps.{HasAllAhead, saturated};
+ghost use Rattle.edl_law.specs.Fits.{AreAhead, FitsAt, FitsBefore, FitsEvent, FitsSide};
+ghost use Rattle.edl_conform.specs.Steps.{saturated};
 
 use crate::channels::is_on;
 use crate::outgoing_side::serves;
-use crate::timeline_from_list::has_track;
+use crate::timeline_from_list::{first_record, has_track};
 use edl_list::{Channel, Cross, Event, EventList, Side};
 use limits::MOST_ITEMS;
 use tick_time::Rate;
@@ -103,29 +104,26 @@ fn channel_count(rate: Rate, events: &[Event], channel: Channel, first: i64) -> 
 }
 
 // A channel's track and its items, as far as they count.
-fn track_count(list: &EventList, channel: Channel, first: i64) -> usize
-    requires first { first ≡ conformed.first_record list.now.events }
-    requires ahead { AreAhead list.now.rate None first (on_channel channel list.now.events) }
+fn track_count(list: &EventList, channel: Channel) -> usize
+    requires { IsWellFormed list.now }
     ensures count { result ≡ saturated (counted.track_count list.now channel) }
     ensures few { result ≤ most_items + 1 }
 {
     if has_track(channel, list) {
-        return add(
-            1,
-            channel_count(list.rate, list.events.as_slice(), channel, first),
-        );
+        let first = first_record(list);
+        let events = list.events.as_slice();
+        return add(1, channel_count(list.rate, events, channel, first));
     }
     0
 }
 
 /// Whether the timeline of a list would have more items than there may be.
-pub(crate) fn is_large(list: &EventList, first: i64) -> bool
-    requires first { first ≡ conformed.first_record list.now.events }
-    requires ahead { HasAllAhead list.now first }
+pub(crate) fn is_large(list: &EventList) -> bool
+    requires { IsWellFormed list.now }
     ensures { result ≡ nat_lt most_items (counted.item_count list.now) }
 {
-    let v = track_count(list, Channel::V, first);
-    let a = track_count(list, Channel::A, first);
-    let a2 = track_count(list, Channel::A2, first);
+    let v = track_count(list, Channel::V);
+    let a = track_count(list, Channel::A);
+    let a2 = track_count(list, Channel::A2);
     MOST_ITEMS < v + (a + a2)
 }

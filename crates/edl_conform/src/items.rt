@@ -1,17 +1,20 @@
 //! The items that events stand for.
 
-ghost use Rattle.std.specs.Prelude.{◌≡◌, ◌≤ℤ◌, ◌*ℤ◌, pos, IfOk, IfSome, [], ◌∷◌, codes};
+ghost use Rattle.std.specs.Prelude.{◌≡◌, ◌≤◌, ◌≤ℤ◌, ◌*ℤ◌, pos, IfOk, IfSome, [], ◌∷◌, codes};
 ghost use Rattle.std.specs.Prelude.{unsigned_abs, unwrap_or};
 ghost use Rattle.std.specs.Option.{option_copied};
 ghost use Rattle.tick_time.specs.Rates.{frame};
 ghost use Rattle.tick_time.specs.Times.{IsInRange};
+ghost use Rattle.media_rows.specs.Rows as rows;
 ghost use Rattle.media_rows.specs.Rows.{IsRowInRange};
-ghost use Rattle.edl_list.specs.Speeds.{side_speed};
+ghost use Rattle.edl_list.specs.Speeds.{count_of};
+ghost use Rattle.edl_law.specs.Fits.{FitsSide};
 ghost use Rattle.edl_frames.specs.Conformed.{IsClip, IsGap, IsReference, IsTransition, TellsReel};
 ghost use Rattle.edl_frames.specs.Conformed.{effects_at, still as a_still, warp as a_warp};
 
-use crate::speeds::OWN_SPEED;
-use crate::times::{frames, span};
+use crate::reel_rows::{ListMedia, row_of};
+use crate::speeds::{OWN_SPEED, speed_of};
+use crate::times::span;
 use edl_list::Side;
 use json_value::{Json, Members};
 use media_rows::MediaRow;
@@ -20,9 +23,9 @@ use otio_model::{
     Transition, Warp,
 };
 use owned::Owned;
-use sequences::{NamedValues, Sequence, Text};
+use sequences::{NamedValues, Text};
 use std::alloc::{AllocError, Global};
-use tick_time::{Rate, Scalar};
+use tick_time::{Rate, Scalar, Time};
 
 /// A gap of so many frames.
 pub(crate) fn gap_of(alloc: Global, rate: Rate, count: i64) -> Item
@@ -41,7 +44,7 @@ pub(crate) fn gap_of(alloc: Global, rate: Rate, count: i64) -> Item
     })
 }
 
-/// The transition of a type, over so many frames behind its cut.
+/// The transition of a type, over so many frames after its cut.
 pub(crate) fn transition_of(alloc: Global, rate: Rate, kind: Text, count: u16) -> Item
     requires lasts { IsInRange (pos count *ℤ pos (frame rate.num rate.den)) }
     ensures { IsTransition rate kind count result }
@@ -50,8 +53,8 @@ pub(crate) fn transition_of(alloc: Global, rate: Rate, kind: Text, count: u16) -
         metadata: Members::new(alloc),
         name: Text::empty(),
         transition_type: kind,
-        in_offset: Some(frames(0, rate)),
-        out_offset: Some(frames(i64::from(count), rate)),
+        in_offset: Some(Time::of_frames(0, rate)),
+        out_offset: Some(Time::of_frames(i64::from(count), rate)),
         rest: Members::new(alloc),
     })
 }
@@ -101,7 +104,7 @@ fn one_effect(alloc: Global, effect: Effect) -> Result<Effects, AllocError>
 {
     let mut list = Vec::with_capacity(alloc, 1)?;
     list.push(effect)?;
-    Ok(Effects::of(Sequence::of(list)))
+    Ok(Effects::of(list))
 }
 
 // What a speed in millionths wants of effects: nothing at the rate's own speed, a still at 0, else
@@ -162,31 +165,28 @@ fn references_of(alloc: Global, reference: Media) -> Result<MediaMap, AllocError
 /// The clip of a side of a reel, so many frames of the record long.
 pub(crate) fn clip_of(
     alloc: Global,
-    rate: Rate,
-    row: Option<&MediaRow>,
+    media: &ListMedia<'_>,
     side: &Side,
     reel: &Text,
-    speed: i64,
     count: i64,
 ) -> Result<Item, AllocError>
-    requires row { IfSome row (λ r. IsRowInRange r.now) }
+    requires timecode { 1 ≤ count_of media.now.rate }
+    requires side { FitsSide media.now.rate side.now }
     requires count { pos 0 ≤ℤ count }
-    requires starts { IsInRange (side.now.src_in *ℤ pos (frame rate.num rate.den)) }
-    requires lasts { IsInRange (count *ℤ pos (frame rate.num rate.den)) }
-    requires speed { speed ≡ pos (side_speed rate side.now) }
-    requires slow { speed ≤ℤ pos 1000000000 }
-    ensures { IfOk result (IsClip rate (option_copied row.entry) side.now reel.now count) }
+    requires lasts { IsInRange (count *ℤ pos (frame media.now.rate.num media.now.rate.den)) }
+    ensures { IfOk result (IsClip media.now.rate
+        (rows.row_of (option_copied media.now.rows) reel.now) side.now reel.now count) }
 {
     let metadata = reel_members(alloc, reel)?;
     let name = name_of(alloc, side, reel)?;
-    let effects = effects_of(alloc, speed)?;
-    let reference = reference_of(alloc, row)?;
+    let effects = effects_of(alloc, speed_of(media.rate, side))?;
+    let reference = reference_of(alloc, row_of(media.rows, reel))?;
     let media_references = references_of(alloc, reference)?;
     let key = Text::of(alloc, "DEFAULT_MEDIA")?;
     Ok(ItemOf::Clip(Clip {
         metadata,
         name,
-        source_range: Some(span(side.src_in, count, rate)),
+        source_range: Some(span(side.src_in, count, media.rate)),
         effects,
         markers: Markers::new(alloc),
         enabled: true,

@@ -1,11 +1,15 @@
-//! The edit decision list of a timeline, and conforming: the timeline that an event list and a
-//! media list stand for.
+//! The edit decision list of a timeline, and the timeline of a list.
 //!
-//! [`events`] answers the list of a timeline, or names the first child that a list doesn't carry. A
-//! [`Job`] is what the list is written for. A [`Seat`] is a child as it stands in its track, and
-//! [`Seat::past_after`] is what stands before the next one. [`conform`] answers the timeline of a
-//! list, or names the first event that the media list doesn't hold. What the list of a timeline is,
-//! what reasons and events are, and what a list stands for, is defined in the crate `edl_frames`.
+//! **The surface.** [`events`] makes the list of a timeline, or names the first child that a list
+//! doesn't carry ([`NotCarried`], with its reason, [`Why`]). [`conform`] makes the timeline of a
+//! list, or names the first event that the media list doesn't hold ([`ConformFault`]). The types
+//! that these take and give are given out here too, so a caller needs no other crate for them: the
+//! list and its parts ([`EventList`], [`Event`], [`Side`], ..), [`MediaList`] and [`Timeline`].
+//!
+//! The other calls are for the crates of this program. [`homes`] names the item that each event of
+//! a timeline's list comes from. A [`Job`] is what a list is written for, and a [`ChildContext`] a
+//! child of a track with its neighbours; [`reason_of`] and [`event_of`] say why a child isn't
+//! carried and which event it gives. What all this means is defined in the crate `edl_frames`.
 #![tactic(auto)]
 
 mod bools;
@@ -42,13 +46,16 @@ mod times;
 mod visible_clips;
 mod wipes;
 
-pub use child_context::{Past, Seat};
+pub use child_context::{ChildContext, Past};
 pub use child_reasons::reason_of;
 pub use conforming::conform;
 pub use edl_frames::{ConformFault, NotCarried, Why};
+pub use edl_list::{Channel, Cross, Event, EventList, EventSeq, Reel, Side};
 pub use event_homes::homes;
 pub use event_of_child::event_of;
 pub use events_of_timeline::events;
 pub use laws::seats_are_children;
 pub use list_settings::Job;
+pub use media_list::MediaList;
+pub use otio_model::Timeline;
 pub use settings_for::job_of;

@@ -9,13 +9,13 @@ ghost use Rattle.edl_list.specs.Speeds.{count_of};
 ghost use Rattle.edl_frames.specs.Refused as refused;
 ghost use Rattle.edl_frames.specs.Refused.{use_of};
 ghost use Rattle.edl_frames.specs.Shown as shown;
-ghost use Rattle.edl_conform.specs.Fits.{FitsEvent, FitsSide};
+ghost use Rattle.edl_law.specs.Fits.{FitsEvent, FitsSide};
 ghost use Rattle.edl_conform.specs.ConformedRanges.{IsLess, IsShown, IsSmall};
 ghost use Rattle.edl_conform.specs.Uses as uses;
 ghost use Rattle.edl_conform.specs.Uses.{uses_fault};
 
 use crate::outgoing_side::product;
-use crate::reel_rows::reel_row;
+use crate::reel_rows::{ListMedia, reel_row};
 use crate::speeds::speed_of;
 use edl_frames::{ConformFault, is_row_outside};
 use edl_list::{Cross, Event, Reel, Side};
@@ -76,7 +76,7 @@ fn advance(k: i64, speed: i64) -> i128
     product(k, speed).div_euclid(1_000_000)
 }
 
-// So much behind a number.
+// So much after a number.
 fn behind(from: i64, more: i128) -> i128
     requires more { IsLess more }
     ensures { result ≡ from +ℤ more }
@@ -159,108 +159,125 @@ fn first_reason(line: u32, unlisted: bool, other_rate: bool, outside: bool) -> O
     None
 }
 
-// Why an event of one side, shown in so many frames, isn't held.
-fn cut_fault(
-    rate: Rate,
-    media: Option<&MediaList>,
-    line: u32,
-    side: &Side,
+/// A side of an event, and in how many frames of the record it is shown.
+#[derive(Clone, Copy)]
+struct SideUse<'a> {
+    side: &'a Side,
     frames: i64,
-) -> Option<ConformFault>
-    requires timecode { 1 ≤ count_of rate }
-    requires side { FitsSide rate side.now }
-    requires frames { IsShown frames }
-    ensures { result ≡ uses_fault rate (option_copied media.entry) line
-        (use_of side.now frames ∷ []) }
+}
+
+// Why an event of one side isn't held.
+fn cut_fault(media: &ListMedia<'_>, line: u32, to: &SideUse<'_>) -> Option<ConformFault>
+    requires timecode { 1 ≤ count_of media.now.rate }
+    requires side { FitsSide media.now.rate to.now.side.now }
+    requires frames { IsShown to.now.frames }
+    ensures { result ≡ uses_fault media.now.rate (option_copied media.now.rows) line
+        (use_of to.now.side.now to.now.frames ∷ []) }
 {
-    let row = reel_row(media, &side.reel);
+    let row = reel_row(media.rows, &to.side.reel);
     first_reason(
         line,
-        alone(is_unlisted(media, side, row)),
-        alone(has_other_rate(rate, row)),
-        alone(is_outside(rate, side, row, frames)),
+        alone(is_unlisted(media.rows, to.side, row)),
+        alone(has_other_rate(media.rate, row)),
+        alone(is_outside(media.rate, to.side, row, to.frames)),
     )
 }
 
-// One test.
+// What a test says of the one side of a cut.
 fn alone(a: bool) -> bool
     ensures { result ≡ (a || false) }
 {
     a
 }
 
-// Either test.
+// Whether a test holds of one of the two sides of a pair.
 fn either(a: bool, b: bool) -> bool
     ensures { result ≡ (a || (b || false)) }
 {
     a || b
 }
 
-// Why an event of two sides, each shown in so many frames, isn't held.
+// Why an event of two sides isn't held.
 fn pair_fault(
-    rate: Rate,
-    media: Option<&MediaList>,
+    media: &ListMedia<'_>,
     line: u32,
-    from: &Side,
-    from_frames: i64,
-    to: &Side,
-    to_frames: i64,
+    from: &SideUse<'_>,
+    to: &SideUse<'_>,
 ) -> Option<ConformFault>
-    requires timecode { 1 ≤ count_of rate }
-    requires from { FitsSide rate from.now }
-    requires from_frames { IsShown from_frames }
-    requires to { FitsSide rate to.now }
-    requires to_frames { IsShown to_frames }
-    ensures { result ≡ uses_fault rate (option_copied media.entry) line
-        (use_of from.now from_frames ∷ use_of to.now to_frames ∷ []) }
+    requires timecode { 1 ≤ count_of media.now.rate }
+    requires from { FitsSide media.now.rate from.now.side.now }
+    requires from_frames { IsShown from.now.frames }
+    requires to { FitsSide media.now.rate to.now.side.now }
+    requires to_frames { IsShown to.now.frames }
+    ensures { result ≡ uses_fault media.now.rate (option_copied media.now.rows) line
+        (use_of from.now.side.now from.now.frames ∷ use_of to.now.side.now to.now.frames ∷ []) }
 {
-    let from_row = reel_row(media, &from.reel);
-    let to_row = reel_row(media, &to.reel);
+    let from_row = reel_row(media.rows, &from.side.reel);
+    let to_row = reel_row(media.rows, &to.side.reel);
     first_reason(
         line,
         either(
-            is_unlisted(media, from, from_row),
-            is_unlisted(media, to, to_row),
+            is_unlisted(media.rows, from.side, from_row),
+            is_unlisted(media.rows, to.side, to_row),
         ),
-        either(has_other_rate(rate, from_row), has_other_rate(rate, to_row)),
         either(
-            is_outside(rate, from, from_row, from_frames),
-            is_outside(rate, to, to_row, to_frames),
+            has_other_rate(media.rate, from_row),
+            has_other_rate(media.rate, to_row),
+        ),
+        either(
+            is_outside(media.rate, from.side, from_row, from.frames),
+            is_outside(media.rate, to.side, to_row, to.frames),
         ),
     )
 }
 
 // Why an event isn't held. Each reel is looked up once.
-fn event_fault(rate: Rate, media: Option<&MediaList>, event: &Event) -> Option<ConformFault>
-    requires { FitsEvent rate event.now }
-    ensures { result ≡ refused.event_fault rate (option_copied media.entry) event.now }
+fn event_fault(media: &ListMedia<'_>, event: &Event) -> Option<ConformFault>
+    requires { FitsEvent media.now.rate event.now }
+    ensures { result ≡
+        refused.event_fault media.now.rate (option_copied media.now.rows) event.now }
 {
-    let to = &event.to;
-    let long = length_of(event);
+    let to = SideUse {
+        side: &event.to,
+        frames: length_of(event),
+    };
     match &event.cross {
-        Cross::Cut => cut_fault(rate, media, event.line, to, long),
+        Cross::Cut => cut_fault(media, event.line, &to),
         Cross::Dissolve { frames, from } => {
-            let short = count_of_frames(rate, *frames);
-            pair_fault(rate, media, event.line, from.get(), short, to, long)
+            let frames = count_of_frames(media.rate, *frames);
+            pair_fault(
+                media,
+                event.line,
+                &SideUse {
+                    side: from.get(),
+                    frames,
+                },
+                &to,
+            )
         }
         Cross::Wipe { frames, from, .. } => {
-            let short = count_of_frames(rate, *frames);
-            pair_fault(rate, media, event.line, from.get(), short, to, long)
+            let frames = count_of_frames(media.rate, *frames);
+            pair_fault(
+                media,
+                event.line,
+                &SideUse {
+                    side: from.get(),
+                    frames,
+                },
+                &to,
+            )
         }
     }
 }
 
 /// The fault of the first event that has one.
-pub(crate) fn first_fault(
-    rate: Rate,
-    media: Option<&MediaList>,
-    events: &[Event],
-) -> Option<ConformFault>
-    requires { All (FitsEvent rate) events.now }
-    ensures { result ≡ refused.first_fault rate (option_copied media.entry) events.now }
+pub(crate) fn first_fault(media: &ListMedia<'_>, events: &[Event]) -> Option<ConformFault>
+    requires { All (FitsEvent media.now.rate) events.now }
+    ensures { result ≡
+        refused.first_fault media.now.rate (option_copied media.now.rows) events.now }
 {
     'events: for event in events {
-        match event_fault(rate, media, event) {
+        match event_fault(media, event) {
             Some(fault) => return Some(fault),
             None => {}
         }

@@ -6,7 +6,7 @@ ghost use Rattle.std.specs.Option.{option_copied};
 ghost use Rattle.std.specs.Ordering.{int_eq};
 ghost use Rattle.edl_list.specs.Speeds as speeds;
 ghost use Rattle.edl_frames.specs.Conformed as conformed;
-ghost use Rattle.edl_conform.specs.Fits.{FitsBefore, FitsSide};
+ghost use Rattle.edl_law.specs.Fits.{FitsBefore, FitsEvent, FitsSide};
 ghost use Rattle.edl_conform.specs.ConformedRanges.{IsLess, IsSmall};
 
 use crate::speeds::speed_of;
@@ -98,19 +98,17 @@ fn all_four(a: bool, b: bool, c: bool, d: bool) -> bool
 
 // Whether an event that ends at a frame goes on as a side: with the same reel and speed, and its
 // source has come to that of the side.
-fn goes_on(rate: Rate, before: &Event, speed: i64, at: i64, side: &Side, side_speed: i64) -> bool
-    requires speed { speed ≡ pos (speeds.side_speed rate before.now.to) }
-    requires side_speed { side_speed ≡ pos (speeds.side_speed rate side.now) }
-    requires small { IsSmall speed }
-    requires from { IsSmall before.now.to.src_in }
-    requires count { IsSmall (before.now.rec_out -ℤ before.now.rec_in) }
-    requires to { IsSmall side.now.src_in }
+fn goes_on(rate: Rate, before: &Event, at: i64, side: &Side) -> bool
+    requires timecode { 1 ≤ speeds.count_of rate }
+    requires before { FitsEvent rate before.now }
+    requires side { FitsSide rate side.now }
     ensures { result ≡ conformed.goes_on rate before.now at side.now }
 {
+    let speed = speed_of(rate, &before.to);
     all_four(
         is_same(before.rec_out, at),
         is_same_reel(&before.to.reel, &side.reel),
-        is_same_speed(speed, side_speed),
+        is_same_speed(speed, speed_of(rate, side)),
         has_come(
             before.to.src_in,
             before.rec_out - before.rec_in,
@@ -120,15 +118,15 @@ fn goes_on(rate: Rate, before: &Event, speed: i64, at: i64, side: &Side, side_sp
     )
 }
 
-// Whether what stands before is a gap: the event ends earlier, or is black.
+// Whether a gap stands before a frame: the event before ends earlier, or is black.
 fn leaves_gap(before: &Event, at: i64) -> bool
     ensures { result ≡ conformed.leaves_gap before.now at }
 {
     before.rec_out < at || is_black(&before.to.reel)
 }
 
-/// Whether the item before, that of the event before or the gap behind it, serves as the side that
-/// goes out at a frame; the head of a track serves as black.
+/// Whether the item before, that of the event before or the gap after it, continues as the side
+/// that goes out at a frame; the start of a track continues as black.
 pub(crate) fn serves(rate: Rate, before: Option<&Event>, at: i64, side: &Side) -> bool
     requires timecode { 1 ≤ speeds.count_of rate }
     requires before { FitsBefore rate (option_copied before) }
@@ -141,8 +139,7 @@ pub(crate) fn serves(rate: Rate, before: Option<&Event>, at: i64, side: &Side) -
             if is_black(&side.reel) {
                 leaves_gap(event, at)
             } else {
-                let speed = speed_of(rate, &event.to);
-                goes_on(rate, event, speed, at, side, speed_of(rate, side))
+                goes_on(rate, event, at, side)
             }
         }
     }

@@ -9,7 +9,7 @@ ghost use Rattle.edl_conform.specs.Ranges.{IsNear};
 ghost use Rattle.edl_conform.specs.Seated.{IsOpen, IsOpenPast, IsSeated};
 ghost use Rattle.edl_conform.specs.Shots.{IsOverlap, stated_overlap};
 
-use crate::child_context::{Lap, Seat};
+use crate::child_context::{ChildContext, Lap};
 use otio_model::{Item, ItemOf, offset_ticks};
 use sequences::Text;
 
@@ -93,7 +93,7 @@ pub(crate) fn lap_at(at: i128, overlap: Overlap<'_>) -> Option<Lap<'_>>
 }
 
 /// The overlap behind an item.
-pub(crate) fn lap_behind<'a>(seat: &Seat<'a>) -> Option<Lap<'a>>
+pub(crate) fn lap_behind<'a>(seat: &ChildContext<'a>) -> Option<Lap<'a>>
     requires { IsSeated seat.now }
     ensures lap { option_map stated_lap result ≡ seats.lap_behind (stated_seat seat.now) }
     ensures range { IfSome result IsOpen }
@@ -140,7 +140,7 @@ pub(crate) fn is_there(lap: Option<Lap<'_>>) -> bool
 }
 
 /// Where the event of a child begins: with the child, or with the overlap before it.
-pub(crate) fn begin_of(seat: &Seat<'_>) -> i128
+pub(crate) fn begin_of(seat: &ChildContext<'_>) -> i128
     requires seated { IsSeated seat.now }
     requires past { IsOpenPast seat.now.past }
     ensures value { result ≡ seats.begin_of (stated_seat seat.now) }
@@ -150,7 +150,7 @@ pub(crate) fn begin_of(seat: &Seat<'_>) -> i128
 }
 
 /// Where the event of a child ends: with the child, or where this overlap behind it begins.
-pub(crate) fn end_of(seat: &Seat<'_>, behind: Option<Lap<'_>>) -> i128
+pub(crate) fn end_of(seat: &ChildContext<'_>, behind: Option<Lap<'_>>) -> i128
     requires seated { IsSeated seat.now }
     requires behind { option_map stated_lap behind ≡ seats.lap_behind (stated_seat seat.now) }
     requires open { IfSome behind IsOpen }

@@ -1,4 +1,4 @@
-//! Rows of reels.
+//! The media of a list, and the rows of its reels.
 
 ghost use Rattle.std.specs.Prelude.{◌≡◌, IfSome};
 ghost use Rattle.std.specs.Option.{option_copied};
@@ -10,6 +10,14 @@ use edl_list::Reel;
 use media_list::MediaList;
 use media_rows::MediaRow;
 use sequences::Text;
+use tick_time::Rate;
+
+/// What a list is conformed with: its rate, and its media list, where there is one.
+#[derive(Clone, Copy)]
+pub(crate) struct ListMedia<'a> {
+    pub(crate) rate: Rate,
+    pub(crate) rows: Option<&'a MediaList>,
+}
 
 /// The row of a reel, where there is a media list that lists it.
 pub(crate) fn row_of<'a>(media: Option<&'a MediaList>, reel: &Text) -> Option<&'a MediaRow>

@@ -1,25 +1,24 @@
 //! Tracks, and the timeline.
 
-ghost use Rattle.std.specs.Prelude.{◌≡◌, ◌||◌, AllPairs, IfOk, OnOk, None, [], ◌∷◌};
+ghost use Rattle.std.specs.Prelude.{◌≡◌, AllPairs, IfOk, OnOk, [], ◌∷◌};
 ghost use Rattle.std.specs.Option.{option_copied};
 ghost use Rattle.otio_model.specs.Trees.{items_of};
 ghost use Rattle.edl_list.specs.declared.list.Channel.TheVariants as channels;
 ghost use Rattle.edl_list.specs.Formed.{AreInOrder, IsWellFormed};
-ghost use Rattle.edl_list.specs.Laws.{IsTimed};
 ghost use Rattle.edl_frames.specs.Conformed as conformed;
-ghost use Rattle.edl_frames.specs.Shown as shown;
-ghost use Rattle.edl_conform.specs.Fits.{AreAhead};
-ghost use Rattle.edl_conform.specs.Steps.{AddsTrack, HasAllAhead, HasTrackItems};
+ghost use Rattle.edl_conform.specs.Steps.{AddsTrack, HasTrackItems};
 
+use crate::bools::any_of;
 use crate::channels::has_events;
 use crate::items_from_events::items_on;
-use crate::times::frames;
+use crate::reel_rows::ListMedia;
 use edl_list::{Channel, Event, EventList};
 use json_value::Members;
 use media_list::MediaList;
 use otio_model::{Children, Effects, Item, ItemOf, Markers, Stack, StackOf, Timeline, TrackOf};
 use sequences::{Sequence, Text};
 use std::alloc::{AllocError, Global};
+use tick_time::Time;
 
 // The name of a channel's track.
 fn channel_name(alloc: Global, channel: Channel) -> Result<Text, AllocError>
@@ -50,18 +49,12 @@ pub(crate) fn has_track(channel: Channel, list: &EventList) -> bool
     let events = list.events.as_slice();
     match channel {
         Channel::V => has_events(Channel::V, events),
-        Channel::A => either(
+        Channel::A => any_of(
             has_events(Channel::A, events),
             has_events(Channel::A2, events),
         ),
         Channel::A2 => has_events(Channel::A2, events),
     }
-}
-
-fn either(a: bool, b: bool) -> bool
-    ensures { result ≡ (a || b) }
-{
-    a || b
 }
 
 // The children of a channel's track.
@@ -70,21 +63,17 @@ fn children_on(
     list: &EventList,
     media: Option<&MediaList>,
     channel: Channel,
-    first: i64,
 ) -> Result<Children, AllocError>
-    requires { AreAhead list.now.rate None first (shown.on_channel channel list.now.events) }
-    ensures { IfOk result (λ children. conformed.AreItems list.now.rate
-        (option_copied media.entry) None first (shown.on_channel channel list.now.events)
-        (items_of children)) }
+    requires { IsWellFormed list.now }
+    ensures { IfOk result (λ children. conformed.AreChildren list.now
+        (option_copied media.entry) channel (items_of children)) }
 {
-    let items = items_on(
-        alloc,
-        list.rate,
-        media,
-        list.events.as_slice(),
-        channel,
-        first,
-    )?;
+    let first = first_record(list);
+    let media = ListMedia {
+        rate: list.rate,
+        rows: media,
+    };
+    let items = items_on(alloc, &media, list.events.as_slice(), channel, first)?;
     let children = Children::of(alloc, Sequence::of(items))?;
     Ok(children)
 }
@@ -95,15 +84,12 @@ fn track_of(
     list: &EventList,
     media: Option<&MediaList>,
     channel: Channel,
-    first: i64,
 ) -> Result<Item, AllocError>
-    requires first { first ≡ conformed.first_record list.now.events }
-    requires ahead { AreAhead list.now.rate None first
-        (shown.on_channel channel list.now.events) }
+    requires { IsWellFormed list.now }
     ensures { IfOk result
         (conformed.IsTrackOf list.now (option_copied media.entry) channel) }
 {
-    let children = children_on(alloc, list, media, channel, first)?;
+    let children = children_on(alloc, list, media, channel)?;
     let name = channel_name(alloc, channel)?;
     let kind = channel_kind(alloc, channel)?;
     Ok(ItemOf::Track(TrackOf {
@@ -119,23 +105,20 @@ fn track_of(
     }))
 }
 
-// Puts the track of a channel behind the others, where it has one.
+// Puts the track of a channel after the others, where it has one.
 fn put_track(
     alloc: Global,
     list: &EventList,
     media: Option<&MediaList>,
     channel: Channel,
-    first: i64,
     tracks: &mut Vec<Item>,
 ) -> Result<(), AllocError>
-    requires first { first ≡ conformed.first_record list.now.events }
-    requires ahead { AreAhead list.now.rate None first
-        (shown.on_channel channel list.now.events) }
+    requires { IsWellFormed list.now }
     ensures { OnOk result (AddsTrack list.now (option_copied media.entry) channel
         tracks.old.items tracks.new.items) }
 {
     if has_track(channel, list) {
-        let track = track_of(alloc, list, media, channel, first)?;
+        let track = track_of(alloc, list, media, channel)?;
         tracks.push(track)?;
         return Ok(());
     }
@@ -147,17 +130,15 @@ fn tracks_of(
     alloc: Global,
     list: &EventList,
     media: Option<&MediaList>,
-    first: i64,
 ) -> Result<Vec<Item>, AllocError>
-    requires first { first ≡ conformed.first_record list.now.events }
-    requires ahead { HasAllAhead list.now first }
+    requires { IsWellFormed list.now }
     ensures { IfOk result (λ tracks. conformed.AreTracks list.now (option_copied media.entry)
         (channels.V ∷ channels.A ∷ channels.A2 ∷ []) tracks.items) }
 {
     let mut tracks = Vec::new(alloc);
-    put_track(alloc, list, media, Channel::V, first, &mut tracks)?;
-    put_track(alloc, list, media, Channel::A, first, &mut tracks)?;
-    put_track(alloc, list, media, Channel::A2, first, &mut tracks)?;
+    put_track(alloc, list, media, Channel::V, &mut tracks)?;
+    put_track(alloc, list, media, Channel::A, &mut tracks)?;
+    put_track(alloc, list, media, Channel::A2, &mut tracks)?;
     Ok(tracks)
 }
 
@@ -210,21 +191,18 @@ pub(crate) fn timeline_of(
     alloc: Global,
     list: &EventList,
     media: Option<&MediaList>,
-    first: i64,
 ) -> Result<Timeline, AllocError>
-    requires first { first ≡ conformed.first_record list.now.events }
-    requires timed { IsTimed list.now.rate first }
-    requires ahead { HasAllAhead list.now first }
+    requires { IsWellFormed list.now }
     ensures { IfOk result (conformed.IsTimelineOf list.now (option_copied media.entry)) }
 {
-    let tracks = tracks_of(alloc, list, media, first)?;
+    let tracks = tracks_of(alloc, list, media)?;
     let root = root_of(alloc, tracks)?;
     let title = Text::of(alloc, list.title.as_str())?;
     Ok(Timeline::of(
         alloc,
         Members::new(alloc),
         title,
-        Some(frames(first, list.rate)),
+        Some(Time::of_frames(first_record(list), list.rate)),
         root,
         Members::new(alloc),
     ))

@@ -13,3 +13,4 @@ pub mod Sides
 pub mod ChildEvents
 pub mod ChildReasons
 pub mod Carried
+pub mod ReasonWords

@@ -1,6 +1,7 @@
 //! Why a timeline isn't written as a list.
 
 ghost use Rattle.std.specs.Prelude.{◌≡◌};
+ghost use Rattle.edl_frames.specs.ReasonWords.{code_of, word_of};
 
 use otio_model::Place;
 use std::alloc::{AllocError, AllocFailed};
@@ -25,7 +26,7 @@ pub enum Why {
     /// The transition is neither a dissolve nor a wipe, and its overlap isn't empty.
     Kind,
     /// The transition's overlap starts before the track, before the item before it or before the
-    /// end of an earlier overlap, ends behind the item after it or behind the track, or has more
+    /// end of an earlier overlap, ends after the item after it or after the track, or has more
     /// than 999 frames.
     Overlap,
     /// The clip has an effect that neither warps nor freezes time.
@@ -46,8 +47,56 @@ pub enum Why {
     /// A record label of the event that the child gives isn't one of the day.
     RecordDay,
     /// There are more events than the layout has numbers for: 999, in the wide layout 999 999. It
-    /// is said of the timeline itself, behind all else.
+    /// is said of the timeline itself, after all else.
     Events,
+}
+
+impl Why {
+    /// Its code in a message: `N` and a number from 1 to 15.
+    pub fn code(self) -> &'static str
+        ensures { result.now ≡ code_of self }
+    {
+        match self {
+            Why::Tracks => "N1",
+            Why::Nested => "N2",
+            Why::OffFrame => "N3",
+            Why::NoReel => "N4",
+            Why::RateDiffers => "N5",
+            Why::SourceDay => "N6",
+            Why::Effect => "N7",
+            Why::Speed => "N8",
+            Why::Phase => "N9",
+            Why::Overlap => "N10",
+            Why::Kind => "N11",
+            Why::Outside => "N12",
+            Why::Events => "N13",
+            Why::RecordDay => "N14",
+            Why::NoTimecode => "N15",
+        }
+    }
+
+    /// The word for it in a message, which is its name.
+    pub fn word(self) -> &'static str
+        ensures { result.now ≡ word_of self }
+    {
+        match self {
+            Why::Tracks => "Tracks",
+            Why::Nested => "Nested",
+            Why::OffFrame => "OffFrame",
+            Why::NoReel => "NoReel",
+            Why::RateDiffers => "RateDiffers",
+            Why::SourceDay => "SourceDay",
+            Why::Effect => "Effect",
+            Why::Speed => "Speed",
+            Why::Phase => "Phase",
+            Why::Overlap => "Overlap",
+            Why::Kind => "Kind",
+            Why::Outside => "Outside",
+            Why::Events => "Events",
+            Why::RecordDay => "RecordDay",
+            Why::NoTimecode => "NoTimecode",
+        }
+    }
 }
 
 /// Why a timeline has no list.

@@ -2,6 +2,7 @@
 use Rattle.std.proofs.Common.{◌≡◌, refl, ap, ◌∙◌, ℕ, zero, suc, ℤ, pos, ◌≤ℤ◌, ◌&&◌, ◌||◌, subst, Bool, true, false, List, [], ◌∷◌, Option, Some, None, slice_get, arith}
 use Rattle.std.specs.Prelude.{int_lt, option_and_then}
 use Rattle.std.proofs.lemmas.Int.{ints}
+use Rattle.limits.proofs.IntegerTests.{int_lt-false}
 use Rattle.tick_time.specs.declared.times.Time.{Time}
 use Rattle.otio_model.specs.declared.compositions.ItemOf.{ItemOf}
 use Rattle.otio_model.specs.declared.compositions.ItemOf.TheVariants.{Clip, Gap, Transition, Stack, Track}
@@ -32,12 +33,9 @@ neither : (p q : Bool) → (p || q) ≡ false → (p ≡ false) × (q ≡ false)
 neither true q e = absurd (cc e)
 neither false q e = (refl, e)
 
-not_below : (z : ℤ) → int_lt z (pos 0) ≡ false → pos 0 ≤ℤ z
-not_below z e = grind (arith, ints)
-
 offset_low : (o : Option Time) → is_negative o ≡ false → pos 0 ≤ℤ offset_of o
 offset_low None e = omega (arith, ints)
-offset_low (Some t) e = not_below t.ticks e
+offset_low (Some t) e = int_lt-false t.ticks (pos 0) e
 
 no_overlap : (x : ItemOf Listed) → is_transition x ≡ false → overlap_of x ≡ None
 no_overlap (Clip c) e = refl

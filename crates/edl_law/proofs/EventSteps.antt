@@ -18,7 +18,7 @@ use Rattle.edl_list.specs.Labelled.{IsLabelled, IsBelowDay, outgoing}
 use Rattle.edl_text.specs.Rows.{event_lines, lines_with, name_lines, from_head, to_head, has_speed, needs_line, speed_lines_if, written_tenths}
 use Rattle.edl_text.specs.Past.{Block, mode_in, blocks_in}
 use Rattle.edl_text.specs.Sides as sides
-use Rattle.edl_text.specs.Sides.{reel_of, speeds_of, latest, duration, begun, from_side, incoming}
+use Rattle.edl_text.specs.Sides.{reel_of, speeds_of, latest, duration, begun, from_side}
 use Rattle.edl_text.specs.Events.{event_on, events_of}
 use Rattle.edl_text.specs.Lines.{AreSound, event_fault, has_side}
 use Rattle.edl_law.specs.Law.{HasName, HasNames}

@@ -1,8 +1,9 @@
 -- How the items of a conformed track look.
-use Rattle.std.proofs.Common.{◌≡◌, refl, sym, ap, ap₂, ◌∙◌, ℕ, ◌==◌, ◌<◌, ℤ, pos, ◌*ℤ◌, ◌≤ℤ◌, Bool, true, false, cond, List, [], ◌∷◌, Option, Some, None, arith}
-use Rattle.std.specs.Prelude.{codes, unsigned_abs, option_map, option_and_then}
+use Rattle.std.proofs.Common.{◌≡◌, refl, sym, ap, ap₂, ◌∙◌, ℕ, ◌==◌, ◌<◌, ℤ, pos, ◌*ℤ◌, Bool, true, false, cond, List, [], ◌∷◌, Option, Some, None, arith}
+use Rattle.std.specs.Prelude.{codes, option_map, option_and_then}
 use Rattle.std.specs.Option.{option_or}
 use Rattle.std.proofs.lemmas.Int.{ints}
+use Rattle.limits.proofs.IntegerSums.{size-of_natural}
 use Rattle.std.proofs.Math.Nat.{mul-div_right, mul-mod_right}
 use Rattle.tick_time.proofs.Units.{unit_positive}
 use Rattle.sequences.specs.Pairs.{value_of}
@@ -132,9 +133,6 @@ starts_at rate c start count s =
     s.1
     ∙ s.2.from.ticks
 
-abs_is : (z : ℤ) → pos 0 ≤ℤ z → pos (unsigned_abs z) ≡ z
-abs_is z h = omega (arith, ints)
-
 long_is : (o : Option Span) (r : Option Range) (rate : Rate) (start count : ℤ)
     → HasSpan rate start count o
     → pos (or_zero (option_map (λ (r : Range). r.len) (option_or (option_map range_of o) r))) ≡
@@ -142,7 +140,7 @@ long_is : (o : Option Span) (r : Option Range) (rate : Rate) (start count : ℤ)
 long_is o r rate start count h =
     ap (λ q.
     pos (or_zero (option_map (λ (r : Range). r.len) (option_or (option_map range_of q) r)))) h.1
-    ∙ abs_is h.0.len.ticks h.0.forward ∙ h.2.long.ticks
+    ∙ size-of_natural h.0.len.ticks h.0.forward ∙ h.2.long.ticks
 
 pub clip_plays : (rate : Rate) (media : MediaRows) (side : Side) (reel : List ℕ) (count : ℤ)
     (kind : List ℕ) (x : ItemOf Listed)

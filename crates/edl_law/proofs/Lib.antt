@@ -17,7 +17,6 @@ pub mod LineReadings
 pub mod EventLists
 pub mod OrderLemmas
 pub mod RoundTrip
-pub mod Rounding
 pub mod FrameQuotients
 pub mod LookSteps
 pub mod ListedRates
@@ -27,6 +26,8 @@ pub mod TimelineShows
 pub mod CalmTracks
 pub mod ItemCounts
 pub mod OneTimeline
+pub mod EventRanges
+pub mod MadeTimelines
 pub mod OneFault
 pub mod WorkedLists
 pub mod CalmItems

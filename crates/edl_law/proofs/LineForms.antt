@@ -118,7 +118,7 @@ title_says title some tight =
     subst (λ l. SaysTight l (said.Title title)) (sym (head_tight (codes "TITLE: ") title (blank_is 84) some tight))
     (record { text = 32 ∷ title; is = refl; trims = space_trims title tight })
 
-one_blank : AreBlanks (32 ∷ [])
+pub one_blank : AreBlanks (32 ∷ [])
 one_blank = All-cons (λ b. is_blank b ≡ true) 32 [] (blank_is 32) (λ k d h. absurd (omega arith))
 
 behind_space : (word rest : List ℕ) → begins_with_blank rest ≡ false → IsBehind word (word ++ 32 ∷ rest) rest

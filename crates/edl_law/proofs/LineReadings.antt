@@ -86,11 +86,11 @@ shown_name head None p = tt
 shown_name head (Some name) p = shown_headed head (cleaned name) p (cleaned_shown name)
 
 -- an outgoing side that can be written
-pub record IsOut (rate : Rate) (drop : Bool) (from : Side) : Type 0 where
+pub record IsOutSide (rate : Rate) (drop : Bool) (from : Side) : Type 0 where
   pub reel : IsReel from.reel
   pub below : IsBelowDay rate drop from.src_in
 
-shown_with : (rate : Rate) (drop : Bool) (layout : Layout) (number : ℕ) (event : Event) (from : Option Side) → IsReel event.to.reel → IsLabelled rate drop event → IfSome from (IsOut rate drop) → AreShown (lines_with rate drop layout number event from)
+shown_with : (rate : Rate) (drop : Bool) (layout : Layout) (number : ℕ) (event : Event) (from : Option Side) → IsReel event.to.reel → IsLabelled rate drop event → IfSome from (IsOutSide rate drop) → AreShown (lines_with rate drop layout number event from)
 shown_with rate drop layout number event None is labels out = (
   shown_event layout number event.to.reel event.channel event.cross _ _ _ _ is (label_field rate drop event.to.src_in labels.source_in) (label_field rate drop event.to.src_out labels.source_out)
       (label_field rate drop event.rec_in labels.record_in) (label_field rate drop event.rec_out labels.record_out),
@@ -110,7 +110,7 @@ shown_with rate drop layout number event (Some from) is labels out = (
 )
 
 out_by : (rate : Rate) (drop : Bool) (event : Event) (cross : Cross) → IsCross (day_of rate) event.rec_in event.rec_out cross → IfSome (outgoing cross) (λ from. IsBelowDay rate drop from.src_in)
-    → IfSome (outgoing cross) (IsOut rate drop)
+    → IfSome (outgoing cross) (IsOutSide rate drop)
 out_by rate drop event Cut is below = tt
 out_by rate drop event (Dissolve frames from) is below = record { reel = is.1.reel; below = below }
 out_by rate drop event (Wipe code frames from) is below = record { reel = is.2.reel; below = below }

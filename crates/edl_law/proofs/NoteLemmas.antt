@@ -3,7 +3,7 @@ use Rattle.std.proofs.Common.{◌≡◌, ◌≤◌, ◌==◌, ℕ, suc, Bool, tr
 use Rattle.std.proofs.lemmas.Bool.Decides.{nat_tests}
 use Rattle.tick_time.specs.declared.rates.Rate.{Rate}
 use Rattle.edl_text.specs.Statements as said
-use Rattle.edl_text.specs.Statements.{Statement, EventLine, Event, Speed, FromName, ToName}
+use Rattle.edl_text.specs.Statements.{Statement, EventLine, Speed, FromName, ToName}
 use Rattle.edl_text.specs.Saying.{Says}
 use Rattle.edl_list.specs.declared.list.Reel.{Reel}
 use Rattle.edl_text.specs.Columns.{cleaned}

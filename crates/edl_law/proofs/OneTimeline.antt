@@ -1,12 +1,11 @@
 -- A list has one timeline at most.
-use Rattle.std.proofs.Common.{◌≡◌, refl, sym, ap, ap₂, subst, ◌∙◌, ℕ, ℤ, pos, ◌≤ℤ◌, true, false, List, [], ◌∷◌, Option, Some, None, arith}
+use Rattle.std.proofs.Common.{◌≡◌, refl, sym, ap, ap₂, subst, ◌∙◌, ℕ, ℤ, pos, true, false, List, [], ◌∷◌, Option, Some, None, arith}
 use Rattle.std.specs.Prelude.{codes, unwrap_or}
 use Rattle.std.proofs.lemmas.Int.{ints}
-use Rattle.std.proofs.Props.{props}
 use Rattle.tick_time.specs.declared.rates.Rate.{Rate}
 use Rattle.tick_time.specs.declared.spans.Span.{Span}
 use Rattle.tick_time.specs.declared.times.Time.{Time}
-use Rattle.tick_time.proofs.SameValues.{same_time}
+use Rattle.tick_time.proofs.SameValues.{same_frames, same_span}
 use Rattle.json_value.specs.declared.Json.{Json, out-Json, roll-Json, roll-out-Json}
 use Rattle.json_value.specs.declared.Json.TheOpen.{Json-F}
 use Rattle.otio_model.specs.declared.media.Media.{Media}
@@ -30,42 +29,24 @@ use Rattle.edl_frames.specs.Shown.{on_channel}
 use Rattle.media_rows.specs.Rows.{MediaRows, row_of}
 use Rattle.edl_law.specs.PlainItems.{clip_with, gap_with, transition_with, track_with}
 use Rattle.edl_frames.specs.Conformed.{IsSpanOf, HasSpan, HasFrames, effects_at, first_record, TellsReel, external, IsReference, IsClip, IsGap, IsReelItem, IsItem, IsTransition, Pair, serves, AreItems, end, gap, cut, pair, pair_with_side, IsTrackOf, AreTracks, none, used, unused, IsTimelineOf}
-use Rattle.tick_time.specs.Frames.{IsFrames}
 
 -- ---- times and spans
-
-same_frames : (rate : Rate) (n : ℤ) (t u : Time) → IsFrames rate n t → IsFrames rate n u → t ≡ u
-same_frames rate n t u i j = same_time t u (i.ticks ∙ sym j.ticks) (i.kept ∙ sym j.kept)
 
 same_offset : (rate : Rate) (n : ℤ) (a b : Option Time) → HasFrames rate n a → HasFrames rate n b
     → a ≡ b
 same_offset rate n a b i j =
     i.1 ∙ ap (λ t. Some t) (same_frames rate n i.0 j.0 i.2 j.2) ∙ sym j.1
 
-abbrev built_span : (start len : Time) → pos 0 ≤ℤ len.ticks → Span
-built_span start len f = record { start = start; len = len; forward = f }
-
-span_built : (a b c d : Time) (p : pos 0 ≤ℤ b.ticks) (q : pos 0 ≤ℤ d.ticks) → a ≡ c → b ≡ d
-    → built_span a b p ≡ built_span c d q
-span_built a b c d p q h k =
-    subst (λ (x : Time). built_span a b p ≡ built_span x d q) h
-    (subst (λ (y : Time). (f : pos 0 ≤ℤ y.ticks) → built_span a b p ≡ built_span a y f) k
-    (λ f. ap (built_span a b) (forward_is p f)) q)
-  where
-    forward_is : IsProp (pos 0 ≤ℤ b.ticks)
-    forward_is = hlevel props
-
-same_span : (rate : Rate) (start count : ℤ) (x y : Span) → IsSpanOf rate start count x
+frames_span : (rate : Rate) (start count : ℤ) (x y : Span) → IsSpanOf rate start count x
     → IsSpanOf rate start count y → x ≡ y
-same_span rate start count x y i j =
-    span_built x.start x.len y.start y.len x.forward y.forward
-    (same_frames rate start x.start y.start i.from j.from)
+frames_span rate start count x y i j =
+    same_span x y (same_frames rate start x.start y.start i.from j.from)
     (same_frames rate count x.len y.len i.long j.long)
 
 same_source : (rate : Rate) (start count : ℤ) (a b : Option Span) → HasSpan rate start count a
     → HasSpan rate start count b → a ≡ b
 same_source rate start count a b i j =
-    i.1 ∙ ap (λ s. Some s) (same_span rate start count i.0 j.0 i.2 j.2) ∙ sym j.1
+    i.1 ∙ ap (λ s. Some s) (frames_span rate start count i.0 j.0 i.2 j.2) ∙ sym j.1
 
 -- ---- what a clip has
 
@@ -84,7 +65,7 @@ same_reference : (row : Option MediaRow) (a b : Media) → IsReference row a →
     → a ≡ b
 same_reference None a b i j = i ∙ sym j
 same_reference (Some row) a b i j =
-    i.2 ∙ ap (external row.url) (same_span row.rate row.start row.count i.0 j.0 i.1 j.1) ∙ sym j.2
+    i.2 ∙ ap (external row.url) (frames_span row.rate row.start row.count i.0 j.0 i.1 j.1) ∙ sym j.2
 
 -- ---- items
 
@@ -289,7 +270,7 @@ same_tracks list media cs xs ys (unused c others l h more) (unused _ _ m _ again
 -- ---- the timeline
 
 -- a timeline by what isn't the same in all conformed ones
-abbrev bare_with : List ℕ → Option Time → Listed → Timeline
+abbrev pub bare_with : List ℕ → Option Time → Listed → Timeline
 bare_with name start children = record {
   metadata = [];
   name = name;

@@ -6,7 +6,11 @@ use Rattle.edl_text.specs.Statements as said
 use Rattle.edl_text.specs.Statements.{Statement}
 use Rattle.edl_text.specs.Saying.{Says}
 use Rattle.edl_list.specs.declared.list.EventList.{EventList}
-use Rattle.edl_list.specs.Alike.{IsSame}
+use Rattle.edl_list.specs.declared.list.Event.{Event}
+use Rattle.edl_list.specs.Formed.{IsWellFormed}
+use Rattle.edl_list.specs.Alike.{IsEven, IsSame}
+use Rattle.limits.specs.Limits.{most_bytes}
+use Rattle.text_lines.specs.Lines.{lines_of}
 use Rattle.edl_text.specs.Columns.{cleaned}
 use Rattle.edl_text.specs.Rows.{headed}
 use Rattle.edl_text.specs.Spelling.{spelling, list_lines, title_lines, mode_line, lines_from}
@@ -24,19 +28,19 @@ use Rattle.edl_law.proofs.FieldLemmas.{append_some}
 use Rattle.edl_law.proofs.NameLemmas.{cleaned_utf8, cleaned_tight}
 use Rattle.edl_law.proofs.NoteLemmas.{sound_append}
 use Rattle.edl_law.proofs.LineReadings.{shown_title, shown_mode, shown_events}
-use Rattle.edl_law.proofs.EventLists.{walk, matched_same}
+use Rattle.edl_law.proofs.EventLists.{AreMatched, AreRising, walk, matched_same}
 use Rattle.edl_law.proofs.OrderLemmas.{read_ordered, read_fine}
 
 -- what the line of a title says
-record Titled (rate : Rate) (lines : List (List ℕ)) : Type 0 where
-  now : List Statement
-  sound : AreSound rate [] lines now
-  blocks : blocks_in now ≡ []
+pub record Titled (rate : Rate) (lines : List (List ℕ)) : Type 0 where
+  pub now : List Statement
+  pub sound : AreSound rate [] lines now
+  pub blocks : blocks_in now ≡ []
 
-title_sound : (title : List ℕ) → IsUtf8 title → title_fault 1 title None ≡ None
+pub title_sound : (title : List ℕ) → IsUtf8 title → title_fault 1 title None ≡ None
 title_sound title utf8 = rw (is_utf8-from_IsUtf8 title utf8) refl
 
-titled : (rate : Rate) (text title : List ℕ) → IsUtf8 text → title ≡ cleaned text → Titled rate (headed (codes "TITLE: ") title)
+pub titled : (rate : Rate) (text title : List ℕ) → IsUtf8 text → title ≡ cleaned text → Titled rate (headed (codes "TITLE: ") title)
 titled rate text [] utf8 e = record { now = []; sound = refl; blocks = refl }
 titled rate text (b ∷ title) utf8 e =
     let kept : IsUtf8 (b ∷ title) = subst IsUtf8 (sym e) (cleaned_utf8 text utf8) in
@@ -53,9 +57,37 @@ titled rate text (b ∷ title) utf8 e =
       blocks = refl;
     }
 
-quiet : (rate : Rate) (blocks : List Block) → events_of rate (noted said.Nothing blocks) ≡ events_of rate blocks
+pub quiet : (rate : Rate) (blocks : List Block) → events_of rate (noted said.Nothing blocks) ≡ events_of rate blocks
 quiet rate [] = refl
 quiet rate (block ∷ blocks) = refl
+
+-- what sound lines say whose events match those of a list
+pub list_read : (list : EventList) (text : List ℕ) (start : ℕ) (past : List Statement)
+    (read : List Event) → length text ≤ most_bytes → IsWellFormed list → IsEven list
+    → AreSound list.rate [] (lines_of text) past → events_in list.rate past ≡ read
+    → AreMatched list.rate list.events read → AreRising start read
+    → IsList list.rate text (record {
+      title = unwrap_or (title_in past) [];
+      rate = list.rate;
+      drop = unwrap_or (first_mode_in past) false;
+      events = read;
+    })
+list_read list text start past read small formed even sound events matched rising = record {
+  small = small;
+  past = past;
+  sound = sound;
+  fine = subst AreFine (sym events)
+      (read_fine list.rate start list.events read matched rising even formed.apart);
+  says = record {
+    title = refl;
+    counted = refl;
+    drop = refl;
+    events = record {
+      same = record { moves = []; below = tt; is = sym events };
+      order = read_ordered list.rate start list.events read matched rising formed.order;
+    };
+  };
+}
 
 -- what is read of the text of a list
 pub record Reading (list : EventList) (drop wide : Bool) : Type 0 where
@@ -64,7 +96,7 @@ pub record Reading (list : EventList) (drop wide : Bool) : Type 0 where
   pub same : IsSame list read
 
 -- the numbers from one on
-numbered : (wide : Bool) (n : ℕ) → n ≤ most_events (layout_of wide) → 1 + n ≤ 10 ^ (layout_of wide).number_width
+pub numbered : (wide : Bool) (n : ℕ) → n ≤ most_events (layout_of wide) → 1 + n ≤ 10 ^ (layout_of wide).number_width
 numbered true n h = omega (arith, h)
 numbered false n h = omega (arith, h)
 
@@ -88,20 +120,8 @@ reading list drop wide h =
     sound_append rate lines ([] ∷ []) [] path.now past (sound_append rate (title_lines list.title) (mode_line drop ∷ lines_from rate drop layout 1 list.events) [] head.now path.now head.sound body) last in
     record {
       read = record { title = unwrap_or (title_in past) []; rate = rate; drop = unwrap_or (first_mode_in past) false; events = path.read };
-      reads = record {
-        small = h.small;
-        past = past;
-        sound = subst (λ l. AreSound rate [] l past) (sym (lines_written lines shown)) whole;
-        fine = subst AreFine (sym events) (read_fine rate (length start) list.events path.read path.matched path.rising h.even h.formed.apart);
-        says = record {
-          title = refl;
-          counted = refl;
-          drop = refl;
-          events = record {
-            same = record { moves = []; below = tt; is = sym events };
-            order = read_ordered rate (length start) list.events path.read path.matched path.rising h.formed.order;
-          };
-        };
-      };
+      reads = list_read list (spelling list drop wide) (length start) past path.read h.small h.formed h.even
+          (subst (λ l. AreSound rate [] l past) (sym (lines_written lines shown)) whole)
+          events path.matched path.rising;
       same = record { rate = refl; events = matched_same rate list.events path.read path.matched };
     }

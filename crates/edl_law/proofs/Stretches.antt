@@ -35,12 +35,12 @@ AreBits f (x ∷ xs) [] = ⊥
 AreBits f (x ∷ xs) (y ∷ ys) = IsBit f x y × AreBits f xs ys
 
 -- a stretch of the record, and what is seen in each of its frames
-pub record Stretch : Type 0 where
+pub record RecordStretch : Type 0 where
   pub begin : ℤ
   pub end : ℤ
   pub shows : ℤ → Image
 
-abbrev pub stretches_show : List Stretch → ℤ → Image
+abbrev pub stretches_show : List RecordStretch → ℤ → Image
 stretches_show [] m = Empty
 stretches_show (s ∷ ss) m = cond (within s.begin s.end m) (s.shows m) (stretches_show ss m)
 
@@ -60,7 +60,7 @@ abbrev pub nothing : ℤ → Image
 nothing m = Empty
 
 -- the stretches of a track, where `last` is what is seen of the item before, counted from here
-abbrev pub stretches : ℤ → (ℤ → Image) → List Bit → List Stretch
+abbrev pub stretches : ℤ → (ℤ → Image) → List Bit → List RecordStretch
 stretches at last [] = []
 stretches at last ((piece n gives) ∷ l) =
     record { begin = at; end = front_of (at +ℤ n) l; shows = λ m. gives (m -ℤ at) } ∷ stretches

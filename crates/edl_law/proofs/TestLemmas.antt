@@ -30,9 +30,6 @@ other_number a b h = grind (arith, nat_tests)
 pub number_is : (a b : ℕ) → (a == b) ≡ true → a ≡ b
 number_is a b h = grind (arith, nat_tests)
 
-pub same_bytes : (a : List ℕ) → bytes_eq a a ≡ true
-same_bytes a = (bytes_eq-Decides a a).1 refl
-
 not_true : (t : Bool) → (t ≡ true → ⊥) → t ≡ false
 not_true true h = absurd (h refl)
 not_true false h = refl
@@ -43,7 +40,7 @@ other_bytes a b h = not_true (bytes_eq a b) (λ e. h ((bytes_eq-Decides a b).0 e
 -- a reel is itself
 pub same_reel : (a : Reel) → is_one_reel a a ≡ true
 same_reel Black = refl
-same_reel (Named a) = same_bytes a
+same_reel (Named a) = (bytes_eq-Decides a a).1 refl
 
 -- reels are the same as they are spelled
 pub reels_spelled : (a b : Reel) → IsReel a → IsReel b → bytes_eq (reel_text a) (reel_text b) ≡ is_one_reel a b

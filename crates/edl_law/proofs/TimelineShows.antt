@@ -209,8 +209,8 @@ abbrev AllKnown : List Sight → Type 0
 AllKnown [] = Unit {0}
 AllKnown (x ∷ l) = ((n : ℕ) × (x.length ≡ Some n)) × AllKnown l
 
-abbrev HasLength : ItemOf Listed → Type 0
-HasLength x = (n : ℕ) × ((sight x).length ≡ Some n)
+abbrev KnownLength : ItemOf Listed → Type 0
+KnownLength x = (n : ℕ) × ((sight x).length ≡ Some n)
 
 span_known : (rate : Rate) (start count : ℤ) (o : Option Span) (r : Option Range)
     → HasSpan rate start count o → (n : ℕ)
@@ -220,21 +220,21 @@ span_known rate start count o r h = (
   ap (λ q. option_map (λ (r : Range). r.len) (option_or (option_map range_of q) r)) h.1,
 )
 
-gap_known : (rate : Rate) (count : ℤ) (x : ItemOf Listed) → IsGap rate count x → HasLength x
+gap_known : (rate : Rate) (count : ℤ) (x : ItemOf Listed) → IsGap rate count x → KnownLength x
 gap_known rate count x i = rw i.is
     (span_known rate (pos 0) count i.gap.source_range (Some (from_zero 0)) i.source)
 
 item_known : (rate : Rate) (media : MediaRows) (side : Side) (count : ℤ) (x : ItemOf Listed)
-    → IsItem rate media side count x → HasLength x
+    → IsItem rate media side count x → KnownLength x
 item_known rate media side count x i = by side.reel i
   where
-    by : (r : Reel) → IsReelItem rate media side r count x → HasLength x
+    by : (r : Reel) → IsReelItem rate media side r count x → KnownLength x
     by Black j = gap_known rate count x j
     by (Named reel) j = rw j.is (span_known rate side.src_in count j.clip.source_range
         (option_map range_of (clip_range j.clip)) j.source)
 
 transition_known : (rate : Rate) (type : List ℕ) (frames : ℕ) (x : ItemOf Listed)
-    → IsTransition rate type frames x → HasLength x
+    → IsTransition rate type frames x → KnownLength x
 transition_known rate type frames x i = rw i.is (0, refl)
 
 event_known : (rate : Rate) (media : MediaRows) (e : Event) (x : ItemOf Listed)
@@ -279,9 +279,6 @@ sum_known v (x ∷ l) k =
 real_time : (u : ℤ) → pos 0 +ℤ int_div_euclid (u *ℤ pos 1000000) (pos 1000000) ≡ u
 real_time u = let e = count-product u (pos 1000000) (omega (arith, ints)) in omega (arith, ints, e)
 
-same_bytes : (a b : List ℕ) → a ≡ b → bytes_eq a b ≡ true
-same_bytes a b e = (bytes_eq-Decides a b).1 e
-
 pub inside_track : (t : TrackOf Listed) (v : View) (u : ℤ) → t.source_range ≡ None → t.effects ≡ []
     → t.enabled ≡ true → t.kind ≡ v.kind → (sight (Track t)).shows v u ≡ track_shows
     (looks v (items_of t.children)) u
@@ -291,7 +288,7 @@ inside_track t v u a b c d =
     (combined (pos 1000000) es) u)) a b
     ∙ ap (λ m. shows_inside sights (Track t) v m) (real_time u)
     ∙ ap₂ (λ p q. cond (p && q) (track_shows (map (seen v) (sights t.children)) u) Blank) c
-    (same_bytes t.kind v.kind d)
+    ((bytes_eq-Decides t.kind v.kind).1 d)
     ∙ ap (λ l. track_shows l u) (looks-items v t.children)
 
 long_track : (t : TrackOf Listed) (v : View) → t.source_range ≡ None

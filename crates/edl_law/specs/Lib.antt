@@ -3,5 +3,6 @@ pub mod Law
 pub mod PlainItems
 pub mod Worked
 pub mod Premises
+pub mod Fits
 pub mod WorkedTracks
 pub mod Kept

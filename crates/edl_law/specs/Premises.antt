@@ -10,7 +10,7 @@ use Rattle.edl_list.specs.Alike.{IsEven}
 use Rattle.edl_frames.specs.Refused.{IsAccepted}
 use Rattle.coord.specs.Keys.{key_of, reel_of}
 use Rattle.edl_frames.specs.Channels.{KeySeen}
-use Rattle.media_rows.specs.Rows.{AreRows, MediaRows}
+use Rattle.media_rows.specs.Rows.{AreRows, IsRowInRange, MediaRows}
 use Rattle.edl_frames.specs.Shown.{reel_key}
 use Rattle.edl_frames.specs.Sides.{clip_reel}
 
@@ -23,6 +23,12 @@ KnowsKeys key media = (layout : Layout) (c : ClipRow) (reel : List ℕ)
 abbrev pub AreListed : MediaRows → Type 0
 AreListed None = Unit {0}
 AreListed (Some rows) = AreRows rows
+
+-- the media of each row of the media list, where there is one, lie within a million seconds of 0,
+-- as each media list has them
+abbrev pub AreInRange : MediaRows → Type 0
+AreInRange None = Unit {0}
+AreInRange (Some rows) = All IsRowInRange rows
 
 -- A list that has a text in a mode and a layout, and that its media list holds: it is well formed
 -- and even, the layout has room for it, and each of its labels is below the day in that mode.

@@ -25,7 +25,7 @@ ghost use Rattle.edl_frames.specs.Faults.{IsConformFault};
 ghost use Rattle.edl_frames.specs.declared.reasons.NotCarried.{NotCarried};
 ghost use Rattle.edl_frames.specs.declared.reasons.NotCarried.TheVariants.{Memory as NoMemory};
 ghost use Rattle.edl_frames.specs.Carried.{not_carried, IsListOf, IsNotCarried};
-ghost use Rattle.edl_law.specs.Premises.{AreListed, IsFine};
+ghost use Rattle.edl_law.specs.Premises.{AreInRange, AreListed, IsFine};
 ghost use Rattle.edl_law.specs.WorkedTracks.{AreWorkedTracks, Clock24};
 ghost use Rattle.edl_law.specs.Worked.{AreWorkedLists, IsRate24};
 
@@ -44,7 +44,14 @@ pub fn conformed_timelines_are_calm()
         IsTimelineOf list media t → IsCalm t }
 {}
 
-/// Law: a list has one timeline at most, the memory that it keeps to spare aside.
+/// Law: each well formed list has a timeline, with any media list whose media lie within a million
+/// seconds of 0, as those of each media list do.
+pub fn conformed_timelines_are_there()
+    ensures { (list : EventList) (media : MediaRows) → IsWellFormed list → AreInRange media →
+        (t : Timeline) × IsTimelineOf list media t }
+{}
+
+/// Law: a list has one timeline at most, its reserved memory aside.
 pub fn conformed_timelines_are_one()
     ensures { (list : EventList) (media : MediaRows) (a b : Timeline) →
         IsTimelineOf list media a → IsTimelineOf list media b → bare a ≡ bare b }

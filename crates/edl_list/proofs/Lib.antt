@@ -2,3 +2,4 @@ pub mod SpeedLemmas
 pub mod DayLemmas
 pub mod ChannelLemmas
 pub mod LayoutLemmas
+pub mod RecordOrder

@@ -6,7 +6,8 @@ use Rattle.edl_list.specs.Formed.{IsSpeed}
 use Rattle.edl_list.specs.Laws.{IsCount}
 use Rattle.edl_list.specs.Speeds.{half_even, speed_of}
 
-one_more : (p q : Bool) (n : ℕ) → cond p 0 (cond q 1 (n % 2)) ≤ 1
+-- what rounding adds
+pub one_more : (p q : Bool) (n : ℕ) → cond p 0 (cond q 1 (n % 2)) ≤ 1
 one_more true q n = omega arith
 one_more false true n = omega arith
 one_more false false n = omega arith

@@ -1,6 +1,7 @@
 -- How many frames a rate counts, and the speeds that are counted in them.
-use Rattle.std.specs.Prelude.{ℕ, ◌+◌, ◌*◌, ◌/◌, ◌%◌, cond, nat_lt, false, Option, Some, None, option_map, unwrap_or, length}
+use Rattle.std.specs.Prelude.{ℕ, ◌*◌, false, Option, Some, None, option_map, unwrap_or, length}
 use Rattle.tick_time.specs.declared.rates.Rate.{Rate}
+pub use Rattle.tick_time.specs.Rounding.{half_even}
 use Rattle.smpte_tc.specs.Modes.{mode_of}
 use Rattle.smpte_tc.specs.Day.{counted_of}
 use Rattle.edl_list.specs.declared.list.Side.{Side}
@@ -12,11 +13,6 @@ count_of rate = unwrap_or (option_map (λ mode. mode.nominal) (mode_of rate fals
 -- the frame numbers of a day at a rate without drop-frame, and 0 where the rate has no timecode
 abbrev pub day_of : Rate → ℕ
 day_of rate = unwrap_or (option_map (λ mode. length (counted_of mode)) (mode_of rate false)) 0
-
--- a / b, rounded to the nearest whole number, and to the even one of two
-abbrev pub half_even : ℕ → ℕ → ℕ
-half_even a b =
-    a / b + cond (nat_lt (2 * (a % b)) b) 0 (cond (nat_lt b (2 * (a % b))) 1 (a / b % 2))
 
 -- the speed in millionths of so many tenths of a frame a second, where timecode counts so many
 -- frames a second: 10 ^ 6 is the rate's own speed, also without an M2 line

@@ -4,7 +4,7 @@ use Rattle.std.specs.declared.option.Option.{Option}
 use Rattle.std.proofs.Math.Seq.{drop-append_seam, take-append_seam}
 use Rattle.std.proofs.lemmas.List.{append_cancel_left}
 use Rattle.edl_text.specs.Statements.{EventLine, Reel, labels_of}
-use Rattle.edl_text.specs.Numbers.{IsNumber, IsReel, number_digits, duration_digits, code_digits}
+use Rattle.edl_text.specs.Numbers.{IsNumber, IsReel, event_digits, duration_digits, code_digits}
 use Rattle.edl_text.specs.EventForms.{AreChannels, IsLasting, IsWipeCode, IsWipe, IsKind, IsEvent}
 use Rattle.edl_text.specs.Saying.{first_of}
 use Rattle.edl_text.specs.declared.statement_types.Channels.{Channels}
@@ -26,7 +26,7 @@ same_parts xs us ys vs n e =
 
 -- what the parts of the fields of an event say
 pub record Parts (number reel channels : List ℕ) (kind labels : List (List ℕ)) (event : EventLine) : Type 0 where
-  pub is_number : IsNumber number_digits number event.number
+  pub is_number : IsNumber event_digits number event.number
   pub is_reel : IsReel reel event.reel
   pub are_channels : AreChannels channels event.channels
   pub is_kind : IsKind kind event.kind
@@ -41,7 +41,7 @@ parts number reel channels kind labels event four p =
     let e : kind ++ labels ≡ p.kind ++ labels_of event = cc (p.are) in
     let s = same_parts kind labels p.kind (labels_of event) four e in
     record {
-      is_number = subst (λ x. IsNumber number_digits x event.number) n p.is_number;
+      is_number = subst (λ x. IsNumber event_digits x event.number) n p.is_number;
       is_reel = subst (λ x. IsReel x event.reel) r p.is_reel;
       are_channels = subst (λ x. AreChannels x event.channels) c p.are_channels;
       is_kind = subst (λ x. IsKind x event.kind) (sym s.0) p.is_kind;
@@ -49,7 +49,7 @@ parts number reel channels kind labels event four p =
     }
 
 -- fields with no number, no reel, no channels or no type are no event
-pub no_number : (number reel channels : List ℕ) (kind labels : List (List ℕ)) → length labels ≡ 4 → ((n : ℕ) → IsNumber number_digits number n → ⊥)
+pub no_number : (number reel channels : List ℕ) (kind labels : List (List ℕ)) → length labels ≡ 4 → ((n : ℕ) → IsNumber event_digits number n → ⊥)
     → (event : EventLine) → IsEvent (number ∷ reel ∷ channels ∷ (kind ++ labels)) event → ⊥
 no_number number reel channels kind labels four none event p = none event.number (parts number reel channels kind labels event four p).is_number
 
@@ -181,7 +181,7 @@ same_event a b n r c k e f g h =
 pub event_unique : (fields : List (List ℕ)) (a b : EventLine) → IsEvent fields a → IsEvent fields b → a ≡ b
 event_unique fields a b p q =
     let s = parts q.number q.reel q.channels q.kind (labels_of b) a refl (subst (λ f. IsEvent f a) q.are p) in
-    same_event a b (number_unique number_digits q.number a.number b.number s.is_number q.is_number) (reel_unique q.reel a.reel b.reel s.is_reel q.is_reel)
+    same_event a b (number_unique event_digits q.number a.number b.number s.is_number q.is_number) (reel_unique q.reel a.reel b.reel s.is_reel q.is_reel)
     (some_same _ a.channels b.channels s.are_channels q.are_channels) (kind_unique q.kind a.kind b.kind s.is_kind q.is_kind) (cc (s.are_labels)) (cc (s.are_labels)) (cc (s.are_labels)) (cc (s.are_labels))
 
 -- the type of an event doesn't begin with `K`

@@ -1,10 +1,7 @@
 -- Numbers and reels, each of one field.
-use Rattle.std.proofs.Common.{◌≡◌, ◌+◌, ◌-◌, ◌*◌, ◌^◌, ◌<◌, ◌≤◌, ℕ, List, [], ◌∷◌, ◌++◌, take, length, get_or, refl, sym, ap, ◌∙◌, arith}
+use Rattle.std.proofs.Common.{◌≡◌, ◌^◌, ◌<◌, ◌≤◌, ℕ, List, length, refl, sym, ap, ◌∙◌, arith}
 use Rattle.std.specs.Str.Parse.{AllDigits, IsNumeral, digits_value}
-use Rattle.std.proofs.lemmas.List.{take_more}
-use Rattle.std.proofs.lemmas.Str.{digit_value_digit}
-use Rattle.std.proofs.lemmas.Str.Parse.{digit_at, digits_value-take-le}
-use Rattle.std.proofs.lemmas.Int.Digits.{digits_value-lt, digits_value_push}
+use Rattle.std.proofs.lemmas.Int.Digits.{digits_value-lt}
 use Rattle.std.proofs.Math.Nat.{pow-le-pow_right}
 use Rattle.edl_text.specs.Statements.{Reel, Black, Named}
 use Rattle.edl_text.specs.Numbers.{IsNumber, IsReel}
@@ -19,15 +16,6 @@ is_number field most digits few = record { digits = digits; few = few; value = r
 -- a number of at most four digits fits sixteen bits
 pub fits_short : (n most : ℕ) → n < 10 ^ most → most ≤ 4 → n < 65536
 fits_short n most small few = omega (arith, small, pow-le-pow_right {n = 10} (omega arith) {i = most} {j = 4} few)
-
--- a digit more of at most six leaves a number below a million
-pub one_more : (digits : List ℕ) (i : ℕ) → AllDigits 10 digits → length digits ≤ 6 → i < length digits
-    → digits_value 10 (take i digits) * 10 + (get_or digits i 0 - 48) < 1000000
-one_more digits i all few within =
-    let range = digit_at digits i all within in
-    let push = digits_value_push 10 (take i digits) (get_or digits i 0) in
-    let more : digits_value 10 (take (i + 1) digits) ≡ digits_value 10 (take i digits ++ get_or digits i 0 ∷ []) = ap (digits_value 10) (take_more digits i 0 within) in
-    omega (arith, range, digit_value_digit (get_or digits i 0) range, push, more, digits_value-take-le 10 digits (i + 1) (omega arith), below digits 6 all few)
 
 -- a field writes one number
 pub number_unique : (most : ℕ) (field : List ℕ) (a b : ℕ) → IsNumber most field a → IsNumber most field b → a ≡ b

@@ -6,6 +6,7 @@ use Rattle.std.specs.List.{All, AllPairs, position}
 use Rattle.std.specs.List.Sorted.{IsPermutation}
 use Rattle.std.proofs.lemmas.Int.{ints}
 use Rattle.std.proofs.lemmas.Int.Digits.{digits_value-lt}
+use Rattle.std.proofs.lemmas.Bool.{not-false, or_parts}
 use Rattle.std.proofs.lemmas.Bool.Decides.{nat_tests, Decides-eqb}
 use Rattle.std.proofs.lemmas.List.{length-map}
 use Rattle.std.proofs.lemmas.List.Elements.{All-nil, All-append, All-map, All-head}
@@ -221,14 +222,6 @@ formed_noted rate s (block ∷ before) g h =
       h.2,
     )
 
-not_false : (b : Bool) → not b ≡ false → b ≡ true
-not_false true e = refl
-not_false false e = cc e
-
-or_neither : (a b : Bool) → a || b ≡ false → (a ≡ false) × (b ≡ false)
-or_neither false b e = (refl, e)
-or_neither true b e = cc e
-
 none_yet : AreSpeeds []
 unfolding AreSpeeds
 none_yet = tt
@@ -239,12 +232,12 @@ formed_event rate past line event sound =
     let block = block_behind past event in
     let says = sound.says in
     let four = none_of_four (not (is_cut event.kind) && not (follows_cut block (blocks_in past))) (not (has_labels rate block)) (runs_back rate block) (misses rate block (blocks_in past)) _ _ _ _ sound.sound in
-    let labels = not_false (has_labels rate block) four.1 in
+    let labels = not-false (has_labels rate block) four.1 in
     let a = and_both (is_some (label_frame rate block.drop event.source_in)) _ labels in
     let b = and_both (is_some (label_frame rate block.drop event.source_out)) _ a.1 in
     let c = and_both (is_some (label_frame rate block.drop event.record_in)) _ b.1 in
     let d = and_both (is_some (label_frame rate block.drop event.record_out)) _ c.1 in
-    let back = or_neither (nat_lt (source_out rate block) (source_in rate block)) (nat_lt (record_out rate block) (record_in rate block)) four.2 in (
+    let back = or_parts (nat_lt (source_out rate block) (source_in rate block)) (nat_lt (record_out rate block) (record_in rate block)) four.2 in (
       record {
         reel = good_reel says.reel event.reel says.is_reel;
         frames = few_frames says.kind event.kind says.is_kind;
@@ -303,7 +296,7 @@ lasting : (rate : Rate) (block a : Block) (others : List Block) (n : ℕ) → du
     → IsFormed rate block → misses rate block (a ∷ others) ≡ false → AreFrames n (pos (record_in rate block)) (pos (record_out rate block))
 lasting rate block a others n e cut some few h m =
     let open_test : not (is_cut block.says.kind) && (not (record_out rate a == record_in rate block) || nat_lt (record_out rate block - record_in rate block) (duration block.says.kind)) ≡ false = m in
-    let both = or_neither (not (record_out rate a == record_in rate block)) (nat_lt (record_out rate block - record_in rate block) (duration block.says.kind)) (rw cut at open_test) in
+    let both = or_parts (not (record_out rate a == record_in rate block)) (nat_lt (record_out rate block - record_in rate block) (duration block.says.kind)) (rw cut at open_test) in
     let inside : duration block.says.kind ≤ record_out rate block - record_in rate block = not_below (record_out rate block - record_in rate block) (duration block.says.kind) both.1 in
     let span = h.record_span in
     record {

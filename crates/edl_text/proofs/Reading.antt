@@ -62,11 +62,11 @@ held_more rate bytes piece old new h none s f held taken =
     }
 
 -- what stands before a line feed is the last line, and it ends there
-ended_here : (bytes line : List ℕ) → line ≡ last_line bytes → HasNone 10 line → ended_lines (bytes ++ 10 ∷ []) ≡ ended_lines bytes ++ without_return line ∷ []
+pub ended_here : (bytes line : List ℕ) → line ≡ last_line bytes → HasNone 10 line → ended_lines (bytes ++ 10 ∷ []) ≡ ended_lines bytes ++ without_return line ∷ []
 ended_here bytes line e none =
     ended_more bytes (10 ∷ []) ∙ ap (λ l. ended_lines bytes ++ ended_lines (l ++ 10 ∷ [])) (sym e) ∙ ap (λ l. ended_lines bytes ++ l) (ended_at line [] none ∙ ap (λ l. without_return line ∷ l) no_lines)
 
-last_here : (bytes line : List ℕ) → line ≡ last_line bytes → HasNone 10 line → last_line (bytes ++ 10 ∷ []) ≡ []
+pub last_here : (bytes line : List ℕ) → line ≡ last_line bytes → HasNone 10 line → last_line (bytes ++ 10 ∷ []) ≡ []
 last_here bytes line e none = last_more bytes (10 ∷ []) ∙ ap (λ l. last_line (l ++ 10 ∷ [])) (sym e) ∙ last_at line [] none ∙ no_last
 
 pub none_in_none : HasNone 10 []

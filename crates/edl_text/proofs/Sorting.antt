@@ -5,18 +5,19 @@ use Rattle.std.specs.declared.cmp.Ordering.{Ordering}
 use Rattle.std.specs.declared.cmp.Ordering.TheVariants.{Less, Equal, Greater}
 use Rattle.std.specs.List.Sorted.{IsSortedBy}
 use Rattle.std.specs.Cmp.{IsTotalOrder}
-use Rattle.std.proofs.lemmas.Cmp.{ranked, int_ranked, int_cmp_total, nat_cmp_total, on_total, then_total}
+use Rattle.std.proofs.lemmas.Cmp.{ranked, int_ranked, nat_cmp_total, on_total, then_total}
 use Rattle.std.proofs.lemmas.List.Sorted.{sorted_far, ranks_by}
 use Rattle.edl_list.specs.declared.list.Event.{Event}
 use Rattle.edl_list.specs.Formed.{rank}
+use Rattle.edl_list.proofs.RecordOrder.{record_cmp, record_cmp-total}
 use Rattle.edl_text.specs.Order.{StandsNoLater}
 
--- the order of events: record in, channel, line
-abbrev event_cmp : Event → Event → Ordering
-event_cmp a b = ordering_then (ordering_then (int_cmp a.rec_in b.rec_in) (nat_cmp (rank a.channel) (rank b.channel))) (nat_cmp a.line b.line)
+-- by place in the record, and then by line
+abbrev line_cmp : Event → Event → Ordering
+line_cmp a b = ordering_then (record_cmp a b) (nat_cmp a.line b.line)
 
-event_total : IsTotalOrder event_cmp
-event_total = then_total (then_total (on_total (λ e. e.rec_in) int_cmp_total) (on_total (λ e. rank e.channel) nat_cmp_total)) (on_total (λ e. e.line) nat_cmp_total)
+line_cmp-total : IsTotalOrder line_cmp
+line_cmp-total = then_total record_cmp-total (on_total (λ e. e.line) nat_cmp_total)
 
 by_line : (a b : Event) (o : Ordering) → o ≡ nat_cmp b.line a.line → is_lt o ≡ false → a.line ≤ b.line
 by_line a b Less e h = cc
@@ -35,7 +36,7 @@ by_start a b Equal e h = inr (sym (int_ranked b.rec_in a.rec_in Equal e), by_cha
 by_start a b Greater e h = inl (int_ranked b.rec_in a.rec_in Greater e)
 
 -- sorted events stand in order
-pub sorted_stand : (events : List Event) → IsSortedBy (λ a b. is_lt (event_cmp a b)) events → AllPairs StandsNoLater events
+pub sorted_stand : (events : List Event) → IsSortedBy (λ a b. is_lt (line_cmp a b)) events → AllPairs StandsNoLater events
 sorted_stand events sorted i j d l m =
     by_start (get_or events i d) (get_or events j d) (int_cmp (get_or events j d).rec_in (get_or events i d).rec_in) refl
-    (sorted_far (λ a b. is_lt (event_cmp a b)) (ranks_by event_total (λ e. e)) events sorted i j d (omega (arith, l)) m)
+    (sorted_far (λ a b. is_lt (line_cmp a b)) (ranks_by line_cmp-total (λ e. e)) events sorted i j d (omega (arith, l)) m)

@@ -1,7 +1,8 @@
 -- The event lines of a CMX 3600 list, by their fields.
-use Rattle.std.specs.Prelude.{◌≡◌, ℕ, Bool, true, false, List, [], ◌∷◌, ◌++◌, Option, Some, None, codes, length, bytes_eq, if◌then◌else◌}
+use Rattle.std.specs.Prelude.{◌≡◌, ℕ, Bool, true, false, List, [], ◌∷◌, ◌++◌, Some, codes, length}
+use Rattle.text_lines.specs.KeyWords.{meaning}
 use Rattle.edl_text.specs.Statements.{EventLine, labels_of}
-use Rattle.edl_text.specs.Numbers.{IsNumber, IsReel, number_digits, duration_digits, code_digits}
+use Rattle.edl_text.specs.Numbers.{IsNumber, IsReel, event_digits, duration_digits, code_digits}
 use Rattle.edl_text.specs.declared.statement_types.Channels.{Channels}
 use Rattle.edl_text.specs.declared.statement_types.Kind.{Kind}
 use Rattle.edl_text.specs.declared.statement_types.Kind.TheVariants.{Cut, Dissolve, Wipe}
@@ -18,11 +19,6 @@ channel_words =
     ∷ (codes "A2", channels false false true) ∷ (codes "AA", channels false true true)
     ∷ (codes "B", channels true true false) ∷ (codes "A/V", channels true true false)
     ∷ (codes "A2/V", channels true false true) ∷ (codes "AA/V", channels true true true) ∷ []
-
--- what a word stands for in a list of words
-abbrev pub meaning : List ℕ → List (List ℕ × Channels) → Option Channels
-meaning field [] = None
-meaning field (word ∷ words) = if bytes_eq field word.0 then Some word.1 else meaning field words
 
 -- the field is a word for these channels
 abbrev pub AreChannels : List ℕ → Channels → Type 0
@@ -62,7 +58,7 @@ pub record IsEvent (fields : List (List ℕ)) (event : EventLine) : Type 0 where
   pub channels : List ℕ
   pub kind : List (List ℕ)
   pub are : fields ≡ number ∷ reel ∷ channels ∷ (kind ++ labels_of event)
-  pub is_number : IsNumber number_digits number event.number
+  pub is_number : IsNumber event_digits number event.number
   pub is_reel : IsReel reel event.reel
   pub are_channels : AreChannels channels event.channels
   pub is_kind : IsKind kind event.kind

@@ -5,8 +5,8 @@ use Rattle.text_lines.specs.ReelNames.{IsReelName}
 use Rattle.edl_text.specs.Statements.{Reel, Black, Named}
 
 -- how many digits the number of an event has at most
-abbrev pub number_digits : ℕ
-number_digits = 6
+abbrev pub event_digits : ℕ
+event_digits = 6
 
 -- how many digits the duration of a dissolve or wipe has at most
 abbrev pub duration_digits : ℕ

@@ -1,19 +1,22 @@
-//! The texts of edit decision lists in the general form of CMX 3600: read from their bytes, in
-//! pieces of any size, to their events, and written.
+//! The text of edit decision lists in the general form of CMX 3600: read, in pieces of any size,
+//! and written.
 //!
-//! [`EdlReader`] takes a list piece by piece, at a rate, and keeps of it only the events and the
-//! line in hand. It gives exactly the list that the lines say together, or their first fault: a
-//! line is judged by what it says by itself ([`statement_of`]) and by what the lines before it say,
-//! and once all lines are sound the events are judged in the order of the record
-//! ([`in_record_order`], [`first_overlap`]). What a line says, what lines say together, their
-//! faults and the order of these stand in `specs/`.
+//! **The surface.** [`EdlReader`] takes the bytes of a list at a rate, and gives the list that its
+//! lines say together, or their first fault ([`EdlFault`]). [`write_list`] sends the text of a
+//! list, and [`write_event`] that of one event; writing takes no memory. The types that these take
+//! and give are given out here too: [`EventList`], [`Event`], [`Side`] and the others of a list.
+//! Rates are those of `tick_time`, and outputs those of `dev_io`.
 //!
-//! A line comes without its end, a line feed or a carriage return and a line feed. Spaces and tabs
-//! at both ends say nothing, and runs of them part its fields.
+//! The other calls are for the crates of this program: [`statement_of`] reads one line,
+//! [`in_record_order`] sorts events, [`first_overlap`] finds two that overlap, and [`put_event`]
+//! and [`put_head`] write into a buffer. [`first_label_past_day`] and [`first_wide_reel`] name the
+//! first event that a text of a list can't have.
 //!
-//! [`write_list`] writes a list at its rate, in drop-frame mode or not, in the wide layout or the
-//! narrow one, as `specs/Spelling.antt` says: the title, the frame code mode, and the events
-//! numbered from 1, each with its lines of speeds and notes of names. Writing takes no memory.
+//! A line is judged by what it says by itself and by what the lines before it say; once all lines
+//! are valid the events are judged in the order of the record. A line comes without its end, a line
+//! feed or a carriage return and a line feed. Spaces and tabs at both ends say nothing, and runs of
+//! them part its fields. What a line says, what lines say together, their faults and the order of
+//! these stand in `specs/`, and the one text of a list in `specs/Spelling.antt`.
 #![tactic(auto)]
 
 ghost use Rattle.std.specs.Prelude.{◌≡◌, ℕ, List};
@@ -49,6 +52,7 @@ mod write_rows;
 mod write_speeds;
 mod written_labels;
 
+pub use edl_list::{Channel, Cross, Event, EventList, EventSeq, Layout, Reel, Side};
 pub use faults::EdlFault;
 pub use laws::one_statement;
 pub use list_settings::{Numbering, Style};

@@ -1,15 +1,16 @@
 // The event of a line that begins with a digit.
 ghost use Rattle.std.specs.Prelude.{◌≡◌, ◌∷◌, [], ◌++◌, List, ℕ, None, Some, MatchOption, codes, IsTrue, ◌↔◌};
+ghost use Rattle.text_lines.specs.KeyWords.{meaning};
 ghost use Rattle.text_lines.specs.Lines.{fields_of};
 ghost use Rattle.edl_text.specs.Statements.{EventLine as Event};
-ghost use Rattle.edl_text.specs.EventForms.{IsEvent, IsKind, IsWipeCode, meaning, channel_words};
+ghost use Rattle.edl_text.specs.EventForms.{IsEvent, IsKind, IsWipeCode, channel_words};
 ghost use Rattle.edl_text.specs.Views.{event_said};
 ghost use Rattle.edl_text.specs.StateLines.{fields_in, duration_in};
 ghost use Rattle.edl_text.specs.declared.statement_types.Kind.{Kind as KindSaid};
 
 use crate::fields::EventFields;
 use crate::read_numbers::{
-    CODE_DIGITS, DURATION_DIGITS, NUMBER_DIGITS, number_of, reel_of, short_number_of,
+    CODE_DIGITS, DURATION_DIGITS, EVENT_DIGITS, number_of, reel_of, short_number_of,
 };
 use crate::statement_types::{Channels, EventLine, Kind};
 use text_lines::{is_text, strip_front};
@@ -34,7 +35,7 @@ fn event_from(fields: EventFields<'_>) -> Option<EventLine<'_>>
         ((event : Event) → IsEvent (fields_in fields.entry) event → ⊥)
         (λ event. IsEvent (fields_in fields.entry) (event_said event)) }
 {
-    let number = number_of(fields.number, NUMBER_DIGITS)?;
+    let number = number_of(fields.number, EVENT_DIGITS)?;
     let reel = reel_of(fields.reel)?;
     let channels = channels_of(fields.channels)?;
     let kind = kind_of(fields.kind, fields.duration)?;
@@ -47,7 +48,7 @@ fn event_from(fields: EventFields<'_>) -> Option<EventLine<'_>>
     })
 }
 
-// The channels that a word stands for.
+// The channels that a word means.
 fn channels_of(word: &[u8]) -> Option<Channels>
     ensures { result ≡ meaning word.now channel_words }
 {
@@ -108,7 +109,7 @@ fn lasting_of(kind: &[u8], duration: &[u8]) -> Option<Kind>
     Some(Kind::Wipe { code, frames })
 }
 
-// The code of a wipe: the three digits behind `W`.
+// The code of a wipe: the three digits after `W`.
 #[tactic(auto, using(crate::proofs::EventParts::no_w, crate::proofs::EventParts::no_digits, crate::proofs::EventParts::no_code_number, crate::proofs::EventParts::code_is))]
 fn wipe_code(kind: &[u8]) -> Option<u16>
     ensures { MatchOption result ((code : ℕ) → IsWipeCode kind.now code → ⊥) (IsWipeCode kind.now) }

@@ -1,15 +1,16 @@
 // Numbers and reels, each of one field.
-ghost use Rattle.std.specs.Prelude.{◌≡◌, ◌≤◌, ◌<◌, ◌^◌, ◌↔◌, ℕ, IsTrue, IfSome, MatchOption, length};
-ghost use Rattle.std.specs.Str.Parse.{AllDigits, IsNumeral, digits_value};
+ghost use Rattle.std.specs.Prelude.{◌≤◌, ◌<◌, ◌^◌, ◌↔◌, ℕ, IsTrue, IfSome, MatchOption};
+ghost use Rattle.std.specs.Str.Parse.{IsNumeral};
 ghost use Rattle.edl_text.specs.Numbers.{IsNumber, IsReel};
 ghost use Rattle.edl_text.specs.Statements.{Reel};
 ghost use Rattle.edl_text.specs.Views.{reel_said};
 
 use crate::statement_types::ReelName;
-use text_lines::{are_within, is_text, reel_name};
+use text_lines::{is_text, reel_name};
+use tick_time::are_digits;
 
 /// How many digits the number of an event has at most.
-pub(crate) const NUMBER_DIGITS: usize = 6;
+pub(crate) const EVENT_DIGITS: usize = 6;
 
 /// How many digits the duration of a dissolve or wipe has at most.
 pub(crate) const DURATION_DIGITS: usize = 3;
@@ -30,7 +31,7 @@ pub(crate) fn number_of(field: &[u8], most: usize) -> Option<u32>
     ensures bound { IfSome result (λ number. number < 10 ^ most) }
 {
     if field.len() <= most && is_numeral(field) {
-        Some(value_of(field))
+        Some(tick_time::number_of(field) as u32)
     } else {
         None
     }
@@ -52,24 +53,10 @@ pub(crate) fn short_number_of(field: &[u8], most: usize) -> Option<u16>
 }
 
 // Whether the field is one digit or more.
-#[tactic(auto, using(tick_time::proofs::DigitBytes::digits_of, tick_time::proofs::DigitBytes::of_digits))]
 fn is_numeral(field: &[u8]) -> bool
     ensures { IsTrue result ↔ IsNumeral 10 field.now }
 {
-    !field.is_empty() && are_within(field, b'0', b'9')
-}
-
-// The number that at most six digits write.
-fn value_of(digits: &[u8]) -> u32
-    requires digits { AllDigits 10 digits.now }
-    requires few { length digits.now ≤ 6 }
-    ensures { result ≡ digits_value 10 digits.now }
-{
-    let mut number: u32 = 0;
-    'digits: for digit in digits {
-        number = number * 10 + u32::from(*digit - b'0');
-    }
-    number
+    !field.is_empty() && are_digits(field)
 }
 
 /// The reel of a field.

@@ -1,22 +1,16 @@
 -- The children of the root stack.
-use Rattle.std.specs.Prelude.{ℕ, Bool, true, false, ◌&&◌, List, [], ◌∷◌, is_none}
+use Rattle.std.specs.Prelude.{◌≡◌, ℕ, Bool, true, false, ◌&&◌, List, [], ◌∷◌, is_none}
 use Rattle.std.specs.Str.{bytes_eq}
 use Rattle.otio_model.specs.declared.compositions.ItemOf.{ItemOf}
 use Rattle.otio_model.specs.declared.compositions.ItemOf.TheVariants.{Clip, Gap, Transition, Stack, Track}
 use Rattle.otio_model.specs.declared.compositions.Listed.{Listed}
 use Rattle.otio_model.specs.declared.timelines.Timeline.{Timeline}
+pub use Rattle.otio_model.specs.Trees.{is_track}
 use Rattle.otio_model.specs.Trees.{listed, items_of}
 
 abbrev pub is_empty : {A : Type 0} → List A → Bool
 is_empty [] = true
 is_empty (x ∷ l) = false
-
-abbrev pub is_track : ItemOf Listed → Bool
-is_track (Clip c) = false
-is_track (Gap g) = false
-is_track (Transition t) = false
-is_track (Stack s) = false
-is_track (Track t) = true
 
 -- a track without a source_range and without effects
 abbrev pub is_plain : ItemOf Listed → Bool
@@ -25,6 +19,11 @@ is_plain (Gap g) = false
 is_plain (Transition t) = false
 is_plain (Stack s) = false
 is_plain (Track t) = is_none t.source_range && is_empty t.effects
+
+-- plain tracks alone
+abbrev pub ArePlainTracks : List (ItemOf Listed) → Type 0
+ArePlainTracks [] = Unit {0}
+ArePlainTracks (x ∷ l) = (is_plain x ≡ true) × ArePlainTracks l
 
 -- a stack or a track
 abbrev pub is_nested : ItemOf Listed → Bool

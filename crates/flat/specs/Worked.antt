@@ -1,9 +1,9 @@
 -- Flat timelines worked out by hand, at 24 frames a second.
-use Rattle.std.specs.Prelude.{◌≡◌, ℕ, pos, true, false, List, [], ◌∷◌, Some, None, codes}
+use Rattle.std.specs.Prelude.{◌≡◌, ℕ, pos, true, false, List, [], ◌∷◌, Some, codes}
 use Rattle.tick_time.specs.Rates.{frame}
 use Rattle.otio_model.specs.declared.compositions.ItemOf.{ItemOf}
-use Rattle.otio_model.specs.declared.compositions.ItemOf.TheVariants.{Track}
 use Rattle.otio_model.specs.declared.compositions.Listed.{Listed}
+use Rattle.otio_model.specs.Plain.{track_with}
 use Rattle.otio_model.specs.Trees.{listed}
 use Rattle.edits.specs.Finest.{rate_24}
 use Rattle.edits.specs.Children.{all_made}
@@ -18,17 +18,7 @@ abbrev pub video : List ℕ
 video = codes "Video"
 
 abbrev pub track : List (ItemOf Listed) → ItemOf Listed
-track l = Track (record {
-  metadata = [];
-  name = codes "v";
-  source_range = None;
-  effects = [];
-  markers = [];
-  enabled = true;
-  children = listed l;
-  kind = video;
-  rest = [];
-})
+track l = track_with video (codes "v") (listed l)
 
 abbrev pub a : ℕ → ℕ → ItemOf Listed
 a s n = shot (codes "a") 240 [] s n
@@ -62,7 +52,7 @@ pieces =
     ∷ record { from = frames 20; to = frames 50; of = Some giver_c }
     ∷ record { from = frames 50; to = frames 100; of = Some giver_a } ∷ []
 
-pub record AreWorked : Type 0 where
+pub record AreFlatsWorked : Type 0 where
   pub stretches : AreLongest (giver 0 video layers) (longest video layers) (pos 0) pieces
   pub flat : piece_items rate_24 pieces ≡ Some (a 0 20 ∷ c 0 30 ∷ a 50 50 ∷ [])
   pub window : window_of rate_24 (frames 4) (frames 12)

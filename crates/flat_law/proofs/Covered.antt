@@ -10,7 +10,7 @@ use Rattle.coord.specs.Programs.{kind_of}
 use Rattle.edits_law.proofs.Splice.{cases}
 use Rattle.flat.specs.Roots.{is_of, is_track, roots}
 use Rattle.flat.specs.Joined.{track_of, Slot, slots_in, is_new, slots, joined_slots}
-use Rattle.flat_law.proofs.Givers.{same_bytes}
+use Rattle.std.proofs.lemmas.Slice.Eq.{bytes_eq-Decides}
 
 abbrev among : List ℕ → List (ItemOf Listed) → ℕ
 among kind l = length (filter (is_of kind) l)
@@ -27,7 +27,7 @@ of_own (Clip c) e = absurd (cc e)
 of_own (Gap c) e = absurd (cc e)
 of_own (Transition c) e = absurd (cc e)
 of_own (Stack c) e = absurd (cc e)
-of_own (Track c) e = same_bytes c.kind
+of_own (Track c) e = (bytes_eq-Decides c.kind c.kind).1 refl
 
 -- one more of the kind, or none
 one_more : (kind : List ℕ) (x : ItemOf Listed) (l : List (ItemOf Listed)) → is_of kind x ≡ true → among kind (l ++ x ∷ []) ≡ among kind l + 1

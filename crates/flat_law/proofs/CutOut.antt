@@ -30,7 +30,8 @@ use Rattle.edits_law.proofs.Pieces.{left_looks, no_transition, back_looks}
 use Rattle.coord.proofs.Members.{same_some}
 use Rattle.edits_law.proofs.Made.{made_look, made_looks, first_of_two}
 use Rattle.flat.specs.Windowed.{front_alone, window_of}
-use Rattle.flat_law.proofs.Givers.{IsBare, plain_inside, same_bytes, sights_look, sum_total, sum_parts, twice}
+use Rattle.std.proofs.lemmas.Slice.Eq.{bytes_eq-Decides}
+use Rattle.flat_law.proofs.Givers.{IsBare, plain_inside, sights_look, sum_total, sum_parts, twice}
 use Rattle.flat_law.proofs.Stretches.{range_of_made, sum_more}
 use Rattle.flat_law.proofs.Windows.{front_only, IsCutOut, cut_out, stripped_clear, blank_both}
 
@@ -258,7 +259,7 @@ pub any_plain : (rate_kept : FrameRate → FrameRate) (t : TrackOf Listed) (n : 
     → child_shows rate_kept (Track t) u ≡ cond (t.enabled && within (pos 0) (total (looks (viewer rate_kept (t.kind)) (items_of t.children))) u) (list_shows (looks (viewer rate_kept (t.kind)) (items_of t.children)) u) Blank
 any_plain rate_kept t n u b e = cases t.enabled
     (λ on.
-    ap (λ z. cond (within (pos 0) (ticks (Track t)) u) z Blank) (plain_inside (viewer rate_kept (t.kind)) t u b on (same_bytes t.kind))
+    ap (λ z. cond (within (pos 0) (ticks (Track t)) u) z Blank) (plain_inside (viewer rate_kept (t.kind)) t u b on ((bytes_eq-Decides t.kind t.kind).1 refl))
     ∙ ap (λ z. cond (within (pos 0) z u) (track_shows (looks (viewer rate_kept (t.kind)) (items_of t.children)) u) Blank) (plain_known (viewer rate_kept (t.kind)) t n b e)
     ∙ twice (within (pos 0) (total (looks (viewer rate_kept (t.kind)) (items_of t.children))) u) (list_shows (looks (viewer rate_kept (t.kind)) (items_of t.children)) u)
     ∙ rw on refl)

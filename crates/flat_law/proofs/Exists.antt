@@ -25,7 +25,8 @@ use Rattle.edits.specs.Nears.{near, near_by, span_of, span_by, is_whole}
 use Rattle.edits.specs.Children.{Ranged, with_range, start_rate, length_rate, made}
 use Rattle.edits.specs.Cuts.{is_whole_at}
 use Rattle.edits_law.proofs.Pieces.{whole_rest, sum-times, floor_is}
-use Rattle.edits_law.proofs.Touched.{or_false}
+use Rattle.std.proofs.lemmas.Bool.{or_parts}
+use Rattle.limits.proofs.IntegerTests.{below-int_le, int_le-true}
 
 -- ---- times that there are
 
@@ -123,12 +124,6 @@ nat_most m n e = grind arith
 nat_least : (m n : ℕ) → n ≤ m → nat_lt m n ≡ false
 nat_least m n e = grind arith
 
-le_is : (a b : ℤ) → int_le a b ≡ true → a ≤ℤ b
-le_is a b e = grind (arith, ints)
-
-le_yes : (a b : ℤ) → a ≤ℤ b → int_le a b ≡ true
-le_yes a b h = grind (arith, ints)
-
 pub sound_one : (x : ItemOf Listed) → is_transition x ≡ false → fault_of x ≡ None → IsSoundOne x
 sound_one x t e = of (length_of x) refl (rw t at e)
   where
@@ -141,16 +136,16 @@ sound_one x t e = of (length_of x) refl (rw t at e)
     of None f m = absurd (cc m)
     of (Some n) f m =
         let c = both (keeps_speed (pos 1000000) (effects_of x)) (is_long x n) m in
-        let d = or_false (nat_lt most_ticks n) (nat_lt most_ticks (available_ticks x) || not (int_le (pos 0 -ℤ most_end) (media_end x n) && int_le (media_end x n) most_end)) c.1 in
-        let g = or_false (nat_lt most_ticks (available_ticks x)) (not (int_le (pos 0 -ℤ most_end) (media_end x n) && int_le (media_end x n) most_end)) d.1 in
+        let d = or_parts (nat_lt most_ticks n) (nat_lt most_ticks (available_ticks x) || not (int_le (pos 0 -ℤ most_end) (media_end x n) && int_le (media_end x n) most_end)) c.1 in
+        let g = or_parts (nat_lt most_ticks (available_ticks x)) (not (int_le (pos 0 -ℤ most_end) (media_end x n) && int_le (media_end x n) most_end)) d.1 in
         let h = and_true (int_le (pos 0 -ℤ most_end) (media_end x n)) (int_le (media_end x n) most_end) g.1 in
-        record { ticks = n; length = f; speed = c.0; short = nat_most most_ticks n d.0; room = g.0; low = le_is _ _ h.0; high = le_is _ _ h.1 }
+        record { ticks = n; length = f; speed = c.0; short = nat_most most_ticks n d.0; room = g.0; low = int_le-true _ _ h.0; high = int_le-true _ _ h.1 }
 
 pub fault_none : (x : ItemOf Listed) → IsSoundOne x → fault_of x ≡ None
 fault_none x s = of (is_transition x)
   where
     long : is_long x s.ticks ≡ false
-    long = rw (nat_least most_ticks s.ticks s.short, s.room, le_yes (pos 0 -ℤ most_end) (media_end x s.ticks) s.low, le_yes (media_end x s.ticks) most_end s.high) refl
+    long = rw (nat_least most_ticks s.ticks s.short, s.room, below-int_le (pos 0 -ℤ most_end) (media_end x s.ticks) s.low, below-int_le (media_end x s.ticks) most_end s.high) refl
 
     of : (b : Bool) → cond {A = Option ItemFault} b None (judged x (length_of x)) ≡ None
     of true = refl

@@ -41,8 +41,10 @@ use Rattle.flat_law.proofs.Flat.{fault_free, at_root}
 use Rattle.flat_law.proofs.CutOut.{AreKnown, sum_known, any_plain, added_total}
 use Rattle.edits_law.proofs.EditShown.{frame_low}
 use Rattle.flat_law.proofs.Joins.{AreOpen, HasHead, has_item, AreClosed}
-use Rattle.flat_law.proofs.Joined.{Ready, IsReady, AreReady, ArePlain, AllPlain, good_slots, all_joined}
-use Rattle.edits_law.proofs.Touched.{or_false}
+use Rattle.flat_law.proofs.Joined.{Ready, IsReady, AreReady, AllPlain, good_slots, all_joined}
+use Rattle.flat.specs.Roots.{ArePlainTracks}
+use Rattle.std.proofs.lemmas.Bool.{or_parts}
+use Rattle.limits.proofs.IntegerTests.{int_lt-false}
 use Rattle.coord.proofs.ShortItems.{judged}
 use Rattle.flat_law.proofs.Exists.{nat_most}
 
@@ -154,9 +156,6 @@ apart is_first is_last l k x f e on = record {
         (cases ((not is_first && begins_early (items_in x) i o) || (not is_last && ends_late (items_in x) i o))
         (λ z. absurd (f (k ∷ i ∷ []) C.Crossing (crossing (k ∷ i ∷ []) k i x y o refl e on s h z))) (λ z. z))
 
-lt_not : (a b : ℤ) → int_lt a b ≡ false → b ≤ℤ a
-lt_not a b e = grind (arith, ints)
-
 -- ---- the list of an input
 
 none_ready : (rate_kept : FrameRate → FrameRate) (f : ℕ) (kind : List ℕ) (is_first is_last : Bool) (l : List (ItemOf Listed)) (o : Option (ItemOf Listed)) → ((u : ℤ) → shown_by rate_kept o u ≡ Blank)
@@ -214,9 +213,9 @@ track_ready rate_kept f kind is_first is_last l i t positive there plain of_kind
       good = good_looks v items fair;
       known = sum_known items n sum;
       shown = λ u. own u ∙ rw on refl;
-      opens = λ e. opened v items (λ j y o s h. (or_false (j == 0) (int_lt (added (take j items)) o.before) (a.begins e j y o s h)).1);
+      opens = λ e. opened v items (λ j y o s h. (or_parts (j == 0) (int_lt (added (take j items)) o.before) (a.begins e j y o s h)).1);
       head = λ e. head_by v items (λ y o s h. not_first (a.begins e 0 y o s h));
-      closed = λ e. (closed_by v items (λ j y o s h. let z = or_false (is_empty (drop (suc j) items)) (int_lt (added (drop (suc j) items)) o.after) (a.ends e j y o s h) in (z.0, lt_not (added (drop (suc j) items)) o.after z.1))).0;
+      closed = λ e. (closed_by v items (λ j y o s h. let z = or_parts (is_empty (drop (suc j) items)) (int_lt (added (drop (suc j) items)) o.after) (a.ends e j y o s h) in (z.0, int_lt-false (added (drop (suc j) items)) o.after z.1))).0;
       short = omega (arith, ints, len, most, top, up, total_is, add);
     }))
     (λ off. subst (Ready rate_kept f kind is_first is_last l (Some (Track t))) (ap (λ z. cond z items []) (sym off))
@@ -227,7 +226,7 @@ track_ready rate_kept f kind is_first is_last l i t positive there plain of_kind
 
     opened : (v : View) (m : List (ItemOf Listed)) → ((j : ℕ) (y : ItemOf Listed) (o : Overlap) → slice_get m j ≡ Some y → overlap_of y ≡ Some o → int_lt (added (take j m)) o.before ≡ false) → AreOpen (pos 0) (looks v m)
     opened v m g = subst (λ z. AreOpen z (looks v m)) (let e : pos 0 -ℤ pos 0 ≡ pos 0 = omega (arith, ints) in e)
-        (open_by v m (pos 0) (λ j y o s h. let k = lt_not (added (take j m)) o.before (g j y o s h) in omega (arith, ints)))
+        (open_by v m (pos 0) (λ j y o s h. let k = int_lt-false (added (take j m)) o.before (g j y o s h) in omega (arith, ints)))
 
     plain_total : (v : View) (t : TrackOf Listed) (n : ℕ) → IsBare t → sum_of (lengths_seen (map sight (items_of t.children))) ≡ Some n → pos (or_zero (sight (Track t)).length) ≡ total (looks v (items_of t.children))
     plain_total v t n b e = Rattle.flat_law.proofs.CutOut.plain_known v t n b e
@@ -256,11 +255,11 @@ all_ready rate_kept f kind k is_first t (m ∷ more) h a = (ready rate_kept f ki
 
 -- ---- the law
 
-plain_by : (l : List (ItemOf Listed)) → ((i : ℕ) (x : ItemOf Listed) → slice_get l i ≡ Some x → is_plain x ≡ true) → ArePlain l
+plain_by : (l : List (ItemOf Listed)) → ((i : ℕ) (x : ItemOf Listed) → slice_get l i ≡ Some x → is_plain x ≡ true) → ArePlainTracks l
 plain_by [] f = tt
 plain_by (x ∷ l) f = (f 0 x refl, plain_by l (λ i y e. f (suc i) y e))
 
-plain_roots : (is_first is_last : Bool) (t : Timeline) → IsFit is_first is_last t → ArePlain (roots t)
+plain_roots : (is_first is_last : Bool) (t : Timeline) → IsFit is_first is_last t → ArePlainTracks (roots t)
 plain_roots is_first is_last t fit = plain_by (roots t) (λ i x e. cases (is_plain x) (λ z. z) (λ z. absurd (fit.free (i ∷ []) C.Nested (not_plain (i ∷ []) i x refl e z))))
 
 all_plain : (is_first : Bool) (t : Timeline) (more : List Timeline) → AreFit is_first t more → AllPlain (roots t ∷ map roots more)

@@ -27,7 +27,8 @@ use Rattle.flat.specs.Roots.{is_of, is_layer, items_in, roots, with_roots}
 use Rattle.flat.specs.Pieces.{Giver, gives, holder, giver, longest, Piece, AreLongest, no_more, one_more, up_to, from_on, piece_item, piece_items, cuts_at}
 use Rattle.flat.specs.Blocked.{Blocks, IsFree}
 use Rattle.flat.specs.Flattened.{flat_track, has_kind, in_place, put_flat, AreFlat, IsFlattened, unchanged, changed}
-use Rattle.flat_law.proofs.Givers.{IsGiven, giver_given, both_true, IsBare}
+use Rattle.flat_law.proofs.Givers.{IsGiven, giver_given, IsBare}
+use Rattle.std.proofs.lemmas.Bool.{and_parts}
 use Rattle.coord.proofs.Members.{same_some}
 use Rattle.flat_law.proofs.Stretches.{IsSure, AreCut, sure, left_from, whole_in, whole_like, stretches}
 use Rattle.flat_law.proofs.Flat.{all_cut}
@@ -119,7 +120,7 @@ piece_made r from to None s f h = let long = s.long in let m = gap_made r (to -�
 piece_made r from to (Some g) s f h =
     let x = g.item in
     let long = s.long in let low = s.from g refl in let high = s.to g refl in
-    let c = both_true (cuts_at x (from -ℤ g.start)) (cuts_at x (to -ℤ g.start)) (s.cut g refl) in
+    let c = and_parts (cuts_at x (from -ℤ g.start)) (cuts_at x (to -ℤ g.start)) (s.cut g refl) in
     let a = up_made r x (to -ℤ g.start) (f g refl) (omega (arith, ints)) in
     let l = left_from blind r x a.item (to -ℤ g.start) (λ p q. refl) (s.clip g refl) (omega (arith, ints)) (omega (arith, ints)) a.made in
     let len : ticks a.item ≡ to -ℤ g.start = ap (λ (q : Look). q.length) l.look in

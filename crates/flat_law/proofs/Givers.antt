@@ -32,6 +32,8 @@ use Rattle.edits_law.proofs.Seams.{total_low, items_good}
 use Rattle.flat.specs.Roots.{is_empty, is_plain, is_nested, is_layer, items_in}
 use Rattle.flat.specs.Pieces.{Giver, gives, holder, giver}
 use Rattle.flat.specs.Flattened.{top_shows}
+use Rattle.std.proofs.lemmas.Bool.{and_parts}
+use Rattle.coord.proofs.Within.{within_is}
 
 -- what a clip, or none, shows at w
 abbrev pub given_shows : View → Option Giver → ℤ → Show
@@ -48,9 +50,6 @@ AreSimple [] = Unit {0}
 AreSimple (x ∷ l) = IsSimple x × AreSimple l
 
 -- ---- the clip that gives an instant
-
-pub within_is : (a b w : ℤ) → within a b w ≡ true → (a ≤ℤ w) × (w <ℤ b)
-within_is a b w e = (grind (arith, ints), grind (arith, ints))
 
 pub record IsGiven (g : Giver) (u : ℤ) : Type 0 where
   pub from : g.start ≤ℤ u
@@ -227,15 +226,12 @@ plain_length v t n b e =
     inner None m = absurd (cc m)
     inner (Some a) m = m
 
-pub same_bytes : (a : List ℕ) → bytes_eq a a ≡ true
-same_bytes a = (bytes_eq-Decides a a).1 refl
-
 -- what a plain enabled track of clips and gaps shows
 pub plain_shows : (rate_kept : FrameRate → FrameRate) (t : TrackOf Listed) (n : ℕ) (u : ℤ) → IsBare t → t.enabled ≡ true → length_of (Track t) ≡ Some n → AreSimple (items_of t.children)
     → child_shows rate_kept (Track t) u ≡ item_shows (looks (viewer rate_kept (t.kind)) (items_of t.children)) u
 plain_shows rate_kept t n u b e len a =
     let v : View = viewer rate_kept (t.kind) in
-    ap (λ z. cond (within (pos 0) (ticks (Track t)) u) z Blank) (plain_inside v t u b e (same_bytes t.kind))
+    ap (λ z. cond (within (pos 0) (ticks (Track t)) u) z Blank) (plain_inside v t u b e ((bytes_eq-Decides t.kind t.kind).1 refl))
     ∙ ap (λ z. cond (within (pos 0) z u) (track_shows (looks v (items_of t.children)) u) Blank) (plain_length v t n b len)
     ∙ bounded (looks v (items_of t.children)) u (items_of_simple v (items_of t.children) a)
 
@@ -252,11 +248,6 @@ abbrev pub AreLayers : List ℕ → List (ItemOf Listed) → Type 0
 AreLayers kind [] = Unit {0}
 AreLayers kind (x ∷ l) = (is_layer kind x ≡ true → IsLayer x) × AreLayers kind l
 
-pub both_true : (a b : Bool) → (a && b) ≡ true → (a ≡ true) × (b ≡ true)
-both_true true true e = (refl, refl)
-both_true true false e = absurd (cc e)
-both_true false b e = absurd (cc e)
-
 pub layer_shows : (rate_kept : FrameRate → FrameRate) (kind : List ℕ) (k : ℕ) (x : ItemOf Listed) (u : ℤ) → is_layer kind x ≡ true → IsLayer x
     → given_shows (viewer rate_kept (kind)) (holder k 0 (pos 0) (items_in x) u) u ≡ child_shows rate_kept x u
 layer_shows rate_kept kind k (Clip c) u e o = absurd (cc o.plain)
@@ -264,7 +255,7 @@ layer_shows rate_kept kind k (Gap c) u e o = absurd (cc o.plain)
 layer_shows rate_kept kind k (Transition c) u e o = absurd (cc o.plain)
 layer_shows rate_kept kind k (Stack c) u e o = absurd (cc o.plain)
 layer_shows rate_kept kind k (Track t) u e o =
-    let b = both_true t.enabled (bytes_eq t.kind kind) e in
+    let b = and_parts t.enabled (bytes_eq t.kind kind) e in
     let same : t.kind ≡ kind = (bytes_eq-Decides t.kind kind).0 b.1 in
     holder_shows (viewer rate_kept (kind)) k 0 (pos 0) (items_of t.children) u u o.simple (omega (arith, ints))
     ∙ ap (λ z. item_shows (looks (viewer rate_kept (z)) (items_of t.children)) u) (sym same)

@@ -25,13 +25,14 @@ use Rattle.edits_law.proofs.Shaped.{good_join}
 use Rattle.edits_law.proofs.Pieces.{olds_look, append_looks}
 use Rattle.coord.proofs.Members.{same_some}
 use Rattle.edits_law.proofs.Made.{made_looks, first_of_two}
-use Rattle.edits_law.proofs.Parted.{lt_yes}
+use Rattle.limits.proofs.IntegerTests.{below-int_lt}
 use Rattle.flat.specs.Roots.{is_plain}
 use Rattle.flat.specs.Joined.{track_of, own_items, stretch, pad, joined_children, Slot, slots_in, is_new, slots, joined_with, joined_track, joined_tracks, joined_shows}
 use Rattle.flat_law.proofs.Givers.{bare_of}
 use Rattle.flat_law.proofs.Flat.{items-listed}
 use Rattle.flat_law.proofs.CutOut.{AreKnown, known_sum, AreKnownChildren, known_made, any_plain, added_total, ranged_olds, known_olds}
 use Rattle.flat_law.proofs.Joins.{AreOpen, HasHead, later_of, open_join, head_join, AreClosed, IsPadded, padded_before, padded_behind}
+use Rattle.flat.specs.Roots.{ArePlainTracks}
 
 lt_none : (a b : ℤ) → b ≤ℤ a → int_lt a b ≡ false
 lt_none a b h = grind (arith, ints)
@@ -141,7 +142,7 @@ looks_show rate_kept f kind k is_first l (m ∷ more) u r =
     } in
     ap (λ q. track_shows q u) (in_parts v own (pad (n -ℤ added own)) (joined_children f kind k m more))
     ∙ by_lt_z u n
-    (λ h. rw (lt_yes u n h) (padded_before (looks v own) (child_looks v (pad (n -ℤ added own))) (joined_looks rate_kept f kind k m more) n u parts h ∙ sym (one.shown u)))
+    (λ h. rw (below-int_lt u n h) (padded_before (looks v own) (child_looks v (pad (n -ℤ added own))) (joined_looks rate_kept f kind k m more) n u parts h ∙ sym (one.shown u)))
     (λ h. rw (lt_none u n h) (padded_behind (looks v own) (child_looks v (pad (n -ℤ added own))) (joined_looks rate_kept f kind k m more) n u parts h
     ∙ looks_show rate_kept f kind k false m more (u -ℤ n) r.1))
 
@@ -237,11 +238,7 @@ abbrev pub AreGoodSlots : List Slot → Type 0
 AreGoodSlots [] = Unit {0}
 AreGoodSlots (s ∷ l) = IsGoodSlot s × AreGoodSlots l
 
-abbrev pub ArePlain : List (ItemOf Listed) → Type 0
-ArePlain [] = Unit {0}
-ArePlain (x ∷ l) = (is_plain x ≡ true) × ArePlain l
-
-good_in : (before l : List (ItemOf Listed)) → ArePlain l → AreGoodSlots (slots_in before l)
+good_in : (before l : List (ItemOf Listed)) → ArePlainTracks l → AreGoodSlots (slots_in before l)
 good_in before [] p = tt
 good_in before (x ∷ l) p = (record { plain = p.0; kind = refl }, good_in (before ++ x ∷ []) l p.1)
 
@@ -255,7 +252,7 @@ good_append (s ∷ a) b g h = (g.0, good_append a b g.1 h)
 
 abbrev pub AllPlain : List (List (ItemOf Listed)) → Type 0
 AllPlain [] = Unit {0}
-AllPlain (l ∷ more) = ArePlain l × AllPlain more
+AllPlain (l ∷ more) = ArePlainTracks l × AllPlain more
 
 pub good_slots : (earlier inputs : List (List (ItemOf Listed))) → AllPlain inputs → AreGoodSlots (slots earlier inputs)
 good_slots earlier [] p = tt

@@ -20,7 +20,8 @@ use Rattle.edits_law.proofs.Splice.{cases}
 use Rattle.edits.specs.After.{rate_of}
 use Rattle.edits.specs.Edges.{added}
 use Rattle.edits_law.proofs.Apart.{AreThings as NoTransitions, Apart, Shut, join_shut}
-use Rattle.edits_law.proofs.Apart.{neither, things_first}
+use Rattle.edits_law.proofs.Apart.{things_first}
+use Rattle.std.proofs.lemmas.Bool.{or_parts}
 use Rattle.flat.specs.declared.faults.Cause.TheVariants as C
 use Rattle.flat.specs.Answers.{AreFree, Joins, joins}
 use Rattle.flat.specs.Blocked.{IsFree}
@@ -74,7 +75,7 @@ open_tracks is_first l f k x e on i y o s h =
     let free : (begins || ends) ≡ false = cases (begins || ends)
     (λ z. absurd (f (k ∷ i ∷ []) C.Crossing (crossing (k ∷ i ∷ []) k i x y o refl e on s h z)))
     (λ z. z) in
-    (neither (is_empty (drop (suc i) (items_in x))) _ (neither begins ends free).1).0
+    (or_parts (is_empty (drop (suc i) (items_in x))) _ (or_parts begins ends free).1).0
 
 -- ---- what a track of an input has
 
@@ -158,13 +159,13 @@ item_joined x m (W.track _ t e h) k =
     W.track (joined_with x m) (record t { enabled = true; children = listed m })
     (ap (λ y. joined_with y m) e) (track_with t true m h k)
 
-same_kind : (x : ItemOf Listed) (m : List (ItemOf Listed))
+joined_with-keeps_sort : (x : ItemOf Listed) (m : List (ItemOf Listed))
     → is_transition (joined_with x m) ≡ is_transition x
-same_kind (Clip c) m = refl
-same_kind (Gap c) m = refl
-same_kind (Transition c) m = refl
-same_kind (Stack c) m = refl
-same_kind (Track c) m = refl
+joined_with-keeps_sort (Clip c) m = refl
+joined_with-keeps_sort (Gap c) m = refl
+joined_with-keeps_sort (Transition c) m = refl
+joined_with-keeps_sort (Stack c) m = refl
+joined_with-keeps_sort (Track c) m = refl
 
 track_thing : (r : Rate) (l : List (ItemOf Listed)) (more : List (List (ItemOf Listed)))
     (s : Slot) (y : ItemOf Listed) → AreInputs l more → IsThing s.first
@@ -183,7 +184,7 @@ track_thing r l more s y h t e = by (all_made r children) refl e
         (children_apart (frame r.num r.den) s.kind s.index l more h) f in
         subst IsThing (same_some (joined_with s.first m) y g) (record {
           writable = item_joined s.first m t.writable k;
-          thing = same_kind s.first m ∙ t.thing;
+          thing = joined_with-keeps_sort s.first m ∙ t.thing;
         })
 
 -- ---- all tracks

@@ -9,6 +9,7 @@ use Rattle.coord.specs.Programs.{shown_by, at_by}
 use Rattle.flat.specs.Roots.{roots}
 use Rattle.flat.specs.Piled.{IsPiled, piled_shows}
 use Rattle.flat_law.proofs.Flat.{at_root}
+use Rattle.std.proofs.lemmas.List.{append-nil}
 
 -- an index into a list in two parts
 at_join : (l r : List (ItemOf Listed)) (k : ℕ) → slice_get (l ++ r) k ≡ cond (nat_lt k (length l)) (slice_get l k) (slice_get r (k - length l))
@@ -23,12 +24,8 @@ shown_cond : (rate_kept : FrameRate → FrameRate) (b : Bool) (x y : Option (Ite
 shown_cond rate_kept true x y u = refl
 shown_cond rate_kept false x y u = refl
 
-none_more : (l : List (ItemOf Listed)) → l ++ [] ≡ l
-none_more [] = refl
-none_more (x ∷ l) = ap (λ m. x ∷ m) (none_more l)
-
 each_shows : (rate_kept : FrameRate → FrameRate) (t : Timeline) (more : List Timeline) (k : ℕ) (u : ℤ) → shown_by rate_kept (slice_get (roots t ++ flat_map roots more) k) u ≡ piled_shows rate_kept t more k u
-each_shows rate_kept t [] k u = ap (λ l. shown_by rate_kept (slice_get l k) u) (none_more (roots t))
+each_shows rate_kept t [] k u = ap (λ l. shown_by rate_kept (slice_get l k) u) (append-nil (roots t))
 each_shows rate_kept t (m ∷ more) k u =
     ap (λ o. shown_by rate_kept o u) (at_join (roots t) (roots m ++ flat_map roots more) k)
     ∙ shown_cond rate_kept (nat_lt k (length (roots t))) (slice_get (roots t) k) (slice_get (roots m ++ flat_map roots more) (k - length (roots t))) u

@@ -19,7 +19,7 @@ use Rattle.edits.specs.WorkedItems.{frames, dissolve}
 use Rattle.coord.proofs.LookSteps.{is_within, missed_behind}
 use Rattle.flat.specs.Pieces.{Giver, giver, longest, holder, AreLongest, no_more, one_more}
 use Rattle.flat.specs.Joined.{crossing, JoinBlocks}
-use Rattle.flat.specs.Worked.{video, track, a, b, low, high, layers, giver_a, giver_c, pieces, AreWorked}
+use Rattle.flat.specs.Worked.{video, track, a, b, low, high, layers, giver_a, giver_c, pieces, AreFlatsWorked}
 use Rattle.flat_law.proofs.Flat.{items-listed}
 
 track_ticks : (l : List (ItemOf Listed)) → or_zero (sight (track l)).length ≡ or_zero (option_map (λ (r : Range). r.len) (option_map from_zero (sum_of (lengths_seen (map sight l)))))
@@ -81,7 +81,7 @@ row_f8 = crossing (0 ∷ 1 ∷ []) 0 1 (track row_list) (dissolve 2 8) (record {
     (ap (λ l. slice_get l 1) (items-listed row_list)) refl
     (ap (λ l. (not true && begins_early l 1 (record { kind = codes "SMPTE_Dissolve"; before = frames 2; after = frames 8 })) || (not false && ends_late l 1 (record { kind = codes "SMPTE_Dissolve"; before = frames 2; after = frames 8 }))) (items-listed row_list))
 
-pub are_worked : AreWorked
+pub are_worked : AreFlatsWorked
 are_worked = record {
   stretches = subst (λ z. AreLongest (giver 0 video layers) z (pos 0) pieces) (sym end_is) row_24;
   flat = refl;

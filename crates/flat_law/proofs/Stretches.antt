@@ -24,7 +24,8 @@ use Rattle.edits_law.proofs.Pieces.{left_looks, right_looks}
 use Rattle.coord.proofs.Members.{same_some}
 use Rattle.edits_law.proofs.Made.{first_of_two, made_look}
 use Rattle.flat.specs.Pieces.{Giver, gives, Piece, AreLongest, no_more, one_more, up_to, from_on, piece_item, piece_items, cuts_at, is_cut}
-use Rattle.flat_law.proofs.Givers.{given_shows, IsSimple, AreSimple, IsGiven, both_true}
+use Rattle.flat_law.proofs.Givers.{given_shows, IsSimple, AreSimple, IsGiven}
+use Rattle.std.proofs.lemmas.Bool.{and_parts}
 
 -- ---- a clip with another range
 
@@ -167,7 +168,7 @@ becomes v r p y b s e = by p.of refl e
     by (Some g) f m =
         let x = g.item in
         let is_clip = s.clip g f in
-        let c = both_true (cuts_at x (p.from -ℤ g.start)) (cuts_at x (p.to -ℤ g.start)) (s.cut g f) in
+        let c = and_parts (cuts_at x (p.from -ℤ g.start)) (cuts_at x (p.to -ℤ g.start)) (s.cut g f) in
         let low = s.from g f in let high = s.to g f in let long = s.long in
         let two = and_then (up_to r (p.to -ℤ g.start) x) (from_on r (p.from -ℤ g.start)) y m in
         let z = two.0 in

@@ -15,7 +15,7 @@ use Rattle.otio_model.proofs.Views.{items-listed}
 use Rattle.coord.specs.Soundness.{IsFaultless, IsSound}
 use Rattle.edits.specs.Children.{Ranged, made, new_gap, plain_gap, with_first}
 use Rattle.edits_law.proofs.Splice.{cases}
-use Rattle.edits_law.proofs.Apart.{neither}
+use Rattle.std.proofs.lemmas.Bool.{or_parts}
 use Rattle.edits_law.proofs.MadeParts.{made_apart}
 use Rattle.flat.specs.Roots.{items_in, roots, with_roots}
 use Rattle.coord.proofs.Members.{same_some}
@@ -73,7 +73,7 @@ things_of : (l : List (ItemOf Listed)) → AreWritable l → list_any is_transit
     → AreThings l
 things_of [] h e = tt
 things_of (x ∷ l) h e =
-    let n = neither (is_transition x) (list_any is_transition l) e in
+    let n = or_parts (is_transition x) (list_any is_transition l) e in
     (record { writable = h.0; thing = n.0 }, things_of l h.1 n.1)
 
 -- ---- children of an item

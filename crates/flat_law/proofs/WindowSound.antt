@@ -29,12 +29,13 @@ use Rattle.edits.specs.Children.{ticks, with_first}
 use Rattle.edits.specs.Cuts.{strip}
 use Rattle.edits.specs.After.{rate_of, frame_of}
 use Rattle.edits_law.proofs.Clamps.{times_whole}
-use Rattle.edits_law.proofs.Accepted.{times_low}
+use Rattle.limits.proofs.IntegerSums.{multiple-from_zero}
 use Rattle.flat.specs.Roots.{items_in, roots, with_roots}
 use Rattle.flat.specs.Blocked.{IsFree}
 use Rattle.flat.specs.Windowed.{stripped, with_items, window_track, window_tracks, from_start, is_window, IsWindowed, WindowBlocks}
 use Rattle.flat_law.proofs.Fair.{HasFair}
-use Rattle.flat_law.proofs.Givers.{IsBare, bare_of, both_true, sum_parts, sum_total, map_looks}
+use Rattle.flat_law.proofs.Givers.{IsBare, bare_of, sum_parts, sum_total, map_looks}
+use Rattle.std.proofs.lemmas.Bool.{and_parts}
 use Rattle.coord.proofs.Members.{same_some}
 use Rattle.flat_law.proofs.Flat.{items-listed}
 use Rattle.flat_law.proofs.CutOut.{AreKnown, known_sum, known_strip, plain_known, Windowing, early, cut, windowing}
@@ -171,7 +172,7 @@ whole_frame k r =
 zone : (t : Timeline) (a b : ℤ) → a ≤ℤ b → from_start t a ≤ℤ from_start t b
 zone t a b h =
     let f = frame (rate_of t).num (rate_of t).den in
-    let low = times_low (b -ℤ a) f (omega (arith, ints)) in
+    let low = multiple-from_zero (b -ℤ a) f (omega (arith, ints)) in
     let e : (b -ℤ start_frame t) *ℤ pos f ≡ ((b -ℤ a) *ℤ pos f) +ℤ ((a -ℤ start_frame t) *ℤ pos f) =
     (let g : b -ℤ start_frame t ≡ (b -ℤ a) +ℤ (a -ℤ start_frame t) = omega (arith, ints) in ap (λ z. z *ℤ pos f) g) ∙ Rattle.edits_law.proofs.Pieces.sum-times (b -ℤ a) (a -ℤ start_frame t) (pos f) in
     omega (arith, ints, low, e)
@@ -179,7 +180,7 @@ zone t a b h =
 all_made : (t : Timeline) (a b : ℤ) → IsFaultless t → HasFair t → a <ℤ b → start_frame t ≤ℤ a → IsFree (WindowBlocks (roots t) (from_start t a) (from_start t b)) → TracksMade (rate_of t) (from_start t a) (from_start t b) (roots t)
 all_made t a b s fair h g f =
     tracks_made (rate_of t) (from_start t a) (from_start t b) (roots t) (root_sound t s) (plain_tracks t (from_start t a) (from_start t b) s fair f)
-    (times_low (a -ℤ start_frame t) (frame (rate_of t).num (rate_of t).den) (omega (arith, ints))) (zone t a b (omega (arith, ints)))
+    (multiple-from_zero (a -ℤ start_frame t) (frame (rate_of t).num (rate_of t).den) (omega (arith, ints))) (zone t a b (omega (arith, ints)))
 
 pub window_sound : (t r : Timeline) (a b : ℤ) → IsFaultless t → HasFair t → a <ℤ b → start_frame t ≤ℤ a → IsFree (WindowBlocks (roots t) (from_start t a) (from_start t b)) → IsWindowed t a b r → IsFaultless r
 window_sound t r a b s fair h g f w =
@@ -196,9 +197,9 @@ window_sound t r a b s fair h g f w =
 
 pub window_there : (t : Timeline) (a b : ℤ) → IsFaultless t → HasFair t → is_window t a b ≡ true → IsFree (WindowBlocks (roots t) (from_start t a) (from_start t b)) → (r : Timeline) × IsWindowed t a b r
 window_there t a b s fair e f =
-    let p = both_true (int_lt a b && int_le (start_frame t) a) (in_range (a *ℤ frame_of t) && in_range (b *ℤ frame_of t)) e in
-    let q = both_true (int_lt a b) (int_le (start_frame t) a) p.0 in
-    let k = both_true (in_range (a *ℤ frame_of t)) (in_range (b *ℤ frame_of t)) p.1 in
+    let p = and_parts (int_lt a b && int_le (start_frame t) a) (in_range (a *ℤ frame_of t) && in_range (b *ℤ frame_of t)) e in
+    let q = and_parts (int_lt a b) (int_le (start_frame t) a) p.0 in
+    let k = and_parts (in_range (a *ℤ frame_of t)) (in_range (b *ℤ frame_of t)) p.1 in
     let m = all_made t a b s fair (lt_is a b q.0) (le_is (start_frame t) a q.1) f in
     let z = near_frame (a *ℤ frame_of t) (rate_of t) (in_range (a *ℤ frame_of t)) refl (is_whole (a *ℤ frame_of t) (rate_of t)) refl k.0 (whole_frame a (rate_of t)) in
     (record (with_roots m.items t) { global_start_time = Some z.0 }, record { tracks = m.items; are = m.made; start = z.0; ticks = z.1; rate = z.2; is = refl })

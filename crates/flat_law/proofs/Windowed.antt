@@ -41,13 +41,14 @@ use Rattle.edits_law.proofs.Beside.{total_strip}
 use Rattle.edits_law.proofs.Sorts.{point, thing, sort}
 use Rattle.edits_law.proofs.Parted.{added_strip}
 use Rattle.edits_law.proofs.EditShown.{frame_low}
-use Rattle.edits_law.proofs.Accepted.{times_low}
+use Rattle.limits.proofs.IntegerSums.{multiple-from_zero}
 use Rattle.flat.specs.declared.faults.Cause.TheVariants as C
 use Rattle.flat.specs.Roots.{is_plain, items_in, roots, with_roots}
 use Rattle.flat.specs.Pieces.{cuts_at}
 use Rattle.flat.specs.Blocked.{IsFree}
 use Rattle.flat.specs.Windowed.{stripped, window_of, with_items, window_track, window_tracks, from_start, IsWindowed, WindowBlocks, not_plain, phase, window_shows}
-use Rattle.flat_law.proofs.Givers.{bare_of, both_true}
+use Rattle.flat_law.proofs.Givers.{bare_of}
+use Rattle.std.proofs.lemmas.Bool.{and_parts}
 use Rattle.coord.proofs.Members.{same_some}
 use Rattle.edits_law.proofs.Made.{first_of_two}
 use Rattle.flat_law.proofs.Flat.{fault_free, length_known, items-listed}
@@ -207,7 +208,7 @@ plain_tracks t a b s fair f = tracks_by (roots t) a b (λ k x e.
       known = of x p (let n = length_known x (no_transition x p) (fault_free t k x s e) in n.0) (let n = length_known x (no_transition x p) (fault_free t k x s e) in n.1);
       whole = whole_by (items_in x) a (λ i y g.
           let both = cases (cuts_at y (a -ℤ added (take i (items_in x))) && cuts_at y (b -ℤ added (take i (items_in x)))) (λ z. z) (λ z. absurd (f (k ∷ i ∷ []) C.Phase (phase (k ∷ i ∷ []) k i x y refl e g z))) in
-          (both_true _ _ both).0);
+          (and_parts _ _ both).0);
     })
   where
     no_transition : (x : ItemOf Listed) → is_plain x ≡ true → is_transition x ≡ false
@@ -240,9 +241,9 @@ pub windowed : (t r : Timeline) (a b : ℤ) (rate_kept : FrameRate → FrameRate
 windowed t r a b rate_kept k n blind s fair h g f w =
     let new : Timeline = record (with_roots w.tracks t) { global_start_time = Some w.start } in
     let u = (n -ℤ a) *ℤ frame_of t in
-    let low : pos 0 ≤ℤ from_start t a = times_low (a -ℤ start_frame t) (frame (rate_of t).num (rate_of t).den) (omega (arith, ints)) in
+    let low : pos 0 ≤ℤ from_start t a = multiple-from_zero (a -ℤ start_frame t) (frame (rate_of t).num (rate_of t).den) (omega (arith, ints)) in
     let zone : from_start t b ≡ ((b -ℤ a) *ℤ frame_of t) +ℤ from_start t a = shifted (frame_of t) b a (start_frame t) in
-    let wide : pos 0 ≤ℤ ((b -ℤ a) *ℤ frame_of t) = times_low (b -ℤ a) (frame (rate_of t).num (rate_of t).den) (omega (arith, ints)) in
+    let wide : pos 0 ≤ℤ ((b -ℤ a) *ℤ frame_of t) = multiple-from_zero (b -ℤ a) (frame (rate_of t).num (rate_of t).den) (omega (arith, ints)) in
     ap (λ (z : Timeline). at_by rate_kept z k (instant z n)) w.is
     ∙ ap (at_by rate_kept new k) (new_instant t w.start a n w.ticks w.rate)
     ∙ ap (λ q. shown_by rate_kept (slice_get q k) u) (items-listed w.tracks)

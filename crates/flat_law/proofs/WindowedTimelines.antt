@@ -22,8 +22,8 @@ use Rattle.edits.specs.Cuts.{back, olds, strip}
 use Rattle.edits.specs.Finest.{in_range}
 use Rattle.edits.specs.After.{frame_of, rate_of}
 use Rattle.edits.specs.Edges.{added}
-use Rattle.edits_law.proofs.Parted.{le_yes, lt_yes}
-use Rattle.edits_law.proofs.Apart.{Apart, apart_items, back_apart, items_apart, le_not, lt_not}
+use Rattle.limits.proofs.IntegerTests.{above-int_le, above-int_lt, below-int_le, below-int_lt}
+use Rattle.edits_law.proofs.Apart.{Apart, apart_items, back_apart, items_apart}
 use Rattle.edits_law.proofs.Apart.{strip_apart}
 use Rattle.edits_law.proofs.MadeParts.{made_apart}
 use Rattle.flat.specs.Blocked.{IsFree}
@@ -31,7 +31,7 @@ use Rattle.flat.specs.Roots.{items_in, roots, with_roots}
 use Rattle.flat.specs.Windowed.{IsWindowed, WindowBlocks, from_start, front_alone, is_window}
 use Rattle.flat.specs.Windowed.{stripped, window_of, window_track, window_tracks, with_items}
 use Rattle.flat_law.proofs.Fair.{has_fair}
-use Rattle.flat_law.proofs.Givers.{both_true}
+use Rattle.std.proofs.lemmas.Bool.{and_parts}
 use Rattle.coord.proofs.Members.{same_some}
 use Rattle.edits_law.proofs.Made.{first_of_two}
 use Rattle.flat_law.proofs.Windowed.{mapped}
@@ -54,22 +54,22 @@ front_writable : (l : List (ItemOf Listed)) (t : ℤ) → AreWritable l
     → AreWritableChildren (front_alone l t)
 front_writable [] t h = tt
 front_writable (x ∷ l) t h = by_lt_z (pos 0) t
-    (λ p. let e = lt_yes (pos 0) t p in by_lt_z t (ticks x)
-    (λ q. let f = le_not (ticks x) t q in
+    (λ p. let e = below-int_lt (pos 0) t p in by_lt_z t (ticks x)
+    (λ q. let f = above-int_le (ticks x) t q in
     rw (e, f) (ranged_writable x (trimmed_start x) t h.0, tt))
-    (λ q. let f = le_yes (ticks x) t q in
+    (λ q. let f = below-int_le (ticks x) t q in
     rw (e, f) (old_writable x h.0, front_writable l (t -ℤ ticks x) h.1)))
-    (λ p. let e = lt_not (pos 0) t p in rw e tt)
+    (λ p. let e = above-int_lt (pos 0) t p in rw e tt)
 
 front_apart : (p : Bool) (l : List (ItemOf Listed)) (t : ℤ) → Apart p (olds l)
     → Apart p (front_alone l t)
 front_apart p [] t k = tt
 front_apart p (x ∷ l) t k = by_lt_z (pos 0) t
-    (λ h. let e = lt_yes (pos 0) t h in by_lt_z t (ticks x)
-    (λ j. let f = le_not (ticks x) t j in rw (e, f) (k.0, tt))
-    (λ j. let f = le_yes (ticks x) t j in
+    (λ h. let e = below-int_lt (pos 0) t h in by_lt_z t (ticks x)
+    (λ j. let f = above-int_le (ticks x) t j in rw (e, f) (k.0, tt))
+    (λ j. let f = below-int_le (ticks x) t j in
     rw (e, f) (k.0, front_apart (is_transition x) l (t -ℤ ticks x) k.1)))
-    (λ h. let e = lt_not (pos 0) t h in rw e tt)
+    (λ h. let e = above-int_lt (pos 0) t h in rw e tt)
 
 -- ---- one track
 
@@ -135,13 +135,13 @@ items_with x m (W.track _ t e h) k =
     W.track (with_items x m) (record t { children = listed m }) (ap (λ y. with_items y m) e)
     (track_with t t.enabled m h k)
 
-same_kind : (x : ItemOf Listed) (m : List (ItemOf Listed))
+with_items-keeps_sort : (x : ItemOf Listed) (m : List (ItemOf Listed))
     → is_transition (with_items x m) ≡ is_transition x
-same_kind (Clip c) m = refl
-same_kind (Gap c) m = refl
-same_kind (Transition c) m = refl
-same_kind (Stack c) m = refl
-same_kind (Track c) m = refl
+with_items-keeps_sort (Clip c) m = refl
+with_items-keeps_sort (Gap c) m = refl
+with_items-keeps_sort (Transition c) m = refl
+with_items-keeps_sort (Stack c) m = refl
+with_items-keeps_sort (Track c) m = refl
 
 track_thing : (r : Rate) (a b : ℤ) (x y : ItemOf Listed) → IsThing x
     → window_track r a b x ≡ Some y → IsThing y
@@ -151,7 +151,7 @@ track_thing r a b x y h e =
     (stripped_calm (items_in x) a b (inside_calm x h.writable)) d.1 in
     subst IsThing d.2 (record {
       writable = items_with x d.0 h.writable k;
-      thing = same_kind x d.0 ∙ h.thing;
+      thing = with_items-keeps_sort x d.0 ∙ h.thing;
     })
 
 -- ---- the timeline
@@ -176,9 +176,9 @@ pub windowed_sound : (t r : Timeline) (a b : ℤ) → IsSound t → IsTimeline t
     → is_window t a b ≡ true → IsFree (WindowBlocks (roots t) (from_start t a) (from_start t b))
     → IsWindowed t a b r → IsSound r
 windowed_sound t r a b s h e f w =
-    let p = both_true (int_lt a b && int_le (start_frame t) a)
+    let p = and_parts (int_lt a b && int_le (start_frame t) a)
     (in_range (a *ℤ frame_of t) && in_range (b *ℤ frame_of t)) e in
-    let q = both_true (int_lt a b) (int_le (start_frame t) a) p.0 in
+    let q = and_parts (int_lt a b) (int_le (start_frame t) a) p.0 in
     sound_with r (window_sound t r a b s.faultless (has_fair t s.calm) (lt_is a b q.0)
     (le_is (start_frame t) a q.1) f w) (windowed_is t r a b h w)
   where

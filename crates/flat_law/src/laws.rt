@@ -25,7 +25,7 @@ ghost use Rattle.flat.specs.Roots.{is_track, roots};
 ghost use Rattle.flat.specs.Straight.{IsStraight, still_shows};
 ghost use Rattle.flat.specs.Windowed.{IsWindowed, WindowBlocks, from_start, is_window};
 ghost use Rattle.flat.specs.Windowed.{window_shows};
-ghost use Rattle.flat.specs.Worked.{AreWorked};
+ghost use Rattle.flat.specs.Worked.{AreFlatsWorked};
 
 /// Law: there is one flattened timeline at most, and its flat track shows at each instant what the
 /// topmost enabled track of the kind that isn't Blank shows there, up to the rates of media.
@@ -98,7 +98,7 @@ pub fn straight_shows()
 
 /// Law: flat timelines are as they are worked out by hand.
 pub fn rows_are_worked()
-    ensures { AreWorked }
+    ensures { AreFlatsWorked }
 {}
 
 /// Law: where nothing refuses sound timelines, they can be flattened, cut to a window and joined:

@@ -1,5 +1,5 @@
-//! What flat timelines show, that they are there, and that what is written of a flattened, cut,
-//! joined, piled or straightened timeline stands for it: laws of the definitions that `flat` has.
+//! Theorems on the definitions of `flat`: what flat timelines show, that there are such timelines,
+//! and that a flattened, cut, joined, stacked or straightened timeline reads back as it is written.
 //! Their functions do nothing.
 #![tactic(auto)]
 

@@ -23,7 +23,8 @@ use Rattle.flat.specs.Joined.{IsJoined, JoinBlocks, Slot, joined_children, joine
 use Rattle.flat.specs.Joined as J
 use Rattle.flat.specs.Roots.{is_plain, roots, with_roots}
 use Rattle.flat_stack.proofs.CopyLemmas.{taken_more}
-use Rattle.flat_law.proofs.Joined.{AllPlain, AreGoodSlots, ArePlain, good_slots}
+use Rattle.flat_law.proofs.Joined.{AllPlain, AreGoodSlots, good_slots}
+use Rattle.flat.specs.Roots.{ArePlainTracks}
 use Rattle.coord.proofs.Members.{same_some}
 use Rattle.flat_stack.specs.declared.inputs.Part.{Part}
 use Rattle.flat_stack.specs.Inputs.{AreParts, AreStretched, IsJoinedOf, IsPart, IsWithin, children_from, given, inputs_of, list_of, lists_of, pad_behind, track_counts, tracks_from}
@@ -32,22 +33,22 @@ use Rattle.flat_stack.proofs.CountLemmas.{tracks_made}
 -- ---- inputs that nothing refuses have plain tracks alone
 
 plain_by : (l : List (ItemOf Listed))
-    → ((i : ℕ) (x : ItemOf Listed) → slice_get l i ≡ Some x → is_plain x ≡ true) → ArePlain l
+    → ((i : ℕ) (x : ItemOf Listed) → slice_get l i ≡ Some x → is_plain x ≡ true) → ArePlainTracks l
 plain_by [] f = tt
 plain_by (x ∷ l) f = (f 0 x refl, plain_by l (λ i y e. f (suc i) y e))
 
-free_plain : (f s : Bool) (t : Timeline) → IsFree (JoinBlocks f s (roots t)) → ArePlain (roots t)
+free_plain : (f s : Bool) (t : Timeline) → IsFree (JoinBlocks f s (roots t)) → ArePlainTracks (roots t)
 free_plain f s t free = plain_by (roots t) (λ i x e. cases (is_plain x) (λ z. z)
     (λ z. absurd (free (i ∷ []) C.Nested (J.not_plain (i ∷ []) i x refl e z))))
 
 pub plain_inputs : (f : Bool) (l : List Timeline) (i : ℕ) (t : Timeline) → AreFree f l
-    → slice_get l i ≡ Some t → ArePlain (roots t)
+    → slice_get l i ≡ Some t → ArePlainTracks (roots t)
 plain_inputs f [] i t a e = absurd (cc e)
 plain_inputs f (q ∷ []) zero t a e =
-    subst (λ (z : Timeline). ArePlain (roots z)) (same_some q t e) (free_plain f true q a)
+    subst (λ (z : Timeline). ArePlainTracks (roots z)) (same_some q t e) (free_plain f true q a)
 plain_inputs f (q ∷ []) (suc i) t a e = absurd (cc e)
 plain_inputs f (q ∷ (m ∷ more)) zero t a e =
-    subst (λ (z : Timeline). ArePlain (roots z)) (same_some q t e) (free_plain f false q a.0)
+    subst (λ (z : Timeline). ArePlainTracks (roots z)) (same_some q t e) (free_plain f false q a.0)
 plain_inputs f (q ∷ (m ∷ more)) (suc i) t a e = plain_inputs false (m ∷ more) i t a.1 e
 
 -- ---- the loop over inputs

@@ -26,7 +26,7 @@ use Rattle.flat.specs.Roots.{is_of, is_plain, is_track}
 use Rattle.pieces.specs.Short.{AreCuttable}
 use Rattle.pieces.proofs.Inner.{root_faultless}
 use Rattle.flat_stack.proofs.CopyLemmas.{taken_more}
-use Rattle.flat_law.proofs.Joined.{ArePlain}
+use Rattle.flat.specs.Roots.{ArePlainTracks}
 use Rattle.flat_stack.specs.declared.inputs.Seat.{Seat}
 use Rattle.flat_stack.specs.Inputs.{Tracks, lent, tracks_at, Knows, Updates, slot_of, slots_of}
 
@@ -147,7 +147,7 @@ seated_all m seats l i a e f = (
   sym (append-nil (slots_of seats)) ∙ ap (λ z. slots_of seats ++ slots_in (take i l) z) (sym f) ∙ a.slots,
 )
 
-pub plain_at : (l : List (ItemOf Listed)) (i : ℕ) (x : ItemOf Listed) → ArePlain l
+pub plain_at : (l : List (ItemOf Listed)) (i : ℕ) (x : ItemOf Listed) → ArePlainTracks l
     → slice_get l i ≡ Some x → is_plain x ≡ true
 plain_at [] i x p e = absurd (cc e)
 plain_at (y ∷ l) zero x p e =

@@ -22,7 +22,8 @@ use Rattle.flat.specs.Flattened.{flat_track, has_kind, in_place, put_flat, IsFla
 use Rattle.flat_law.proofs.Built.{given_start}
 use Rattle.flat_law.proofs.Exists.{range_yes, sound_one}
 use Rattle.flat_law.proofs.Firsts.{giver_at}
-use Rattle.flat_law.proofs.Givers.{giver_given, both_true}
+use Rattle.flat_law.proofs.Givers.{giver_given}
+use Rattle.std.proofs.lemmas.Bool.{and_parts}
 use Rattle.coord.proofs.Members.{same_some}
 use Rattle.flat_law.proofs.WindowKept.{own_sound, ticks_is}
 use Rattle.flat_stack.specs.declared.stretches.Given.{Given}
@@ -70,7 +71,7 @@ longest_most kind (x ∷ l) s = of (is_layer kind x) refl (longest_most kind l (
 -- ---- the parts
 
 layer_track : (kind : List ℕ) (x : ItemOf Listed) → is_layer kind x ≡ true → is_track x ≡ true
-layer_track kind x e = of x (both_true (is_enabled x) (is_of kind x) e).1
+layer_track kind x e = of x (and_parts (is_enabled x) (is_of kind x) e).1
   where
     of : (y : ItemOf Listed) → is_of kind y ≡ true → is_track y ≡ true
     of (Clip c) f = absurd (cc f)
@@ -210,7 +211,7 @@ pub both_cut : (l : List (ItemOf Listed)) (p : Part) (g : Given) (x : ItemOf Lis
     → ((q : Giver) → (piece_of l p).of ≡ Some q → Rattle.flat.specs.Pieces.is_cut (piece_of l p) q ≡ true)
     → (cuts_at x (p.from -ℤ g.start) ≡ true) × (cuts_at x (p.to -ℤ g.start) ≡ true)
 both_cut l p g x e h cut =
-    both_true (cuts_at x (p.from -ℤ g.start)) (cuts_at x (p.to -ℤ g.start))
+    and_parts (cuts_at x (p.from -ℤ g.start)) (cuts_at x (p.to -ℤ g.start))
     (ap (λ z. cuts_at z (p.from -ℤ g.start) && cuts_at z (p.to -ℤ g.start))
     (sym (child_item l g.track g.child x h)) ∙ cut (giver_of l g) (given_is l p g e))
 

@@ -4,7 +4,7 @@ use Rattle.std.specs.Prelude.{nat_lt, IfSome}
 use Rattle.coord.specs.Soundness.{Precedes}
 use Rattle.flat.specs.declared.faults.Cause.{Cause}
 use Rattle.flat.specs.Blocked.{IsFirst, IsFree}
-use Rattle.flat_law.proofs.Givers.{both_true}
+use Rattle.std.proofs.lemmas.Bool.{and_parts}
 use Rattle.flat_stack.specs.declared.fault_places.Spot.{Spot}
 use Rattle.flat_stack.specs.Spots.{inner_place, spot_place, IsNear, Under, StartsBelow, IsFreeTo}
 use Rattle.flat_stack.specs.Sought.{child_before, is_before, earlier, IsSought}
@@ -86,7 +86,7 @@ before_both s t (i ∷ p) e h =
             | inr b ↦ let same = b.0 in inl (omega (arith, same, less))
           ]
       | inr a ↦
-          let two = both_true (s.track == t.track) (child_before s.child t.child) a in
+          let two = and_parts (s.track == t.track) (child_before s.child t.child) a in
           let same = same_is s.track t.track two.0 in
           elim h [
             | inl b ↦ inl (omega (arith, b, same))

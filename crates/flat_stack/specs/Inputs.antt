@@ -23,7 +23,7 @@ use Rattle.edits.specs.Edges.{added}
 use Rattle.flat.specs.Joined.{Slot, joined_with, own_items, pad, slots_in, stretch, track_of}
 use Rattle.flat.specs.Answers.{Joins}
 use Rattle.flat.specs.Roots.{is_empty, is_of, roots, with_roots}
-use Rattle.flat_law.proofs.Joined.{ArePlain}
+use Rattle.flat.specs.Roots.{ArePlainTracks}
 use Rattle.flat_stack.specs.declared.inputs.Part.{Part}
 use Rattle.flat_stack.specs.declared.inputs.Seat.{Seat}
 
@@ -69,7 +69,7 @@ lists_of ps = map list_of ps
 
 -- an input of plain tracks without a fault, with what is kept of it
 pub record IsPart (p : Part) : Type 0 where
-  pub plain : ArePlain (list_of p)
+  pub plain : ArePlainTracks (list_of p)
   pub few : count p.input.now.tracks.children < 2 ^ 32
   pub faultless : AreFaultless p.input.now.tracks.children
   pub known : Knows p.tracks (list_of p)

@@ -12,7 +12,7 @@ ghost use Rattle.coord.specs.Programs as programs;
 ghost use Rattle.coord.specs.Soundness.{AreFaultless};
 ghost use Rattle.flat.specs.Joined as joined;
 ghost use Rattle.flat.specs.Roots as roots;
-ghost use Rattle.flat_law.proofs.Joined.{ArePlain};
+ghost use Rattle.flat.specs.Roots.{ArePlainTracks};
 ghost use Rattle.flat_stack.specs.Inputs.{IsPart, Knows, Updates, lent, tracks_at};
 
 use crate::lengths::stretch_of;
@@ -115,7 +115,7 @@ pub(crate) fn part_of<'a>(
     input: &'a Timeline,
     rate: Rate,
 ) -> Result<Part<'a>, AllocError>
-    requires plain { ArePlain (roots.roots input.now) }
+    requires plain { ArePlainTracks (roots.roots input.now) }
     requires few { count input.now.tracks.children < 2 ^ 32 }
     requires faultless { AreFaultless input.now.tracks.children }
     ensures part { IfOk result IsPart }

@@ -4,12 +4,12 @@ use Rattle.std.specs.Str.{bytes_eq}
 use Rattle.json_value.specs.declared.Json.{Json, out-Json, Str}
 use Rattle.json_value.specs.declared.Json.TheOpen.{Json-F}
 use Rattle.sequences.specs.Pairs.{value_of, put}
-use Rattle.schema_rows.specs.declared.old_names.Form.{Form}
-use Rattle.schema_rows.specs.declared.old_names.Form.TheVariants as S
-use Rattle.schema_rows.specs.declared.old_names.Row.{Row}
-use Rattle.schema_rows.specs.declared.old_names.Row.TheVariants.{Kept, Object, Objects, Media}
-use Rattle.schema_rows.specs.Names.{schema_text}
-use Rattle.schema_rows.specs.Upgrades.{Pairs, with_schema, without, named_anew, version_part, with_name, missing, medium_in, medium_of, media_of, clip_kept, second_clip, second_marker, renewed, renewed_at}
+use Rattle.schema_up.specs.declared.old_names.Form.{Form}
+use Rattle.schema_up.specs.declared.old_names.Form.TheVariants as S
+use Rattle.schema_up.specs.declared.old_names.Row.{Row}
+use Rattle.schema_up.specs.declared.old_names.Row.TheVariants.{Kept, Object, Objects, Media}
+use Rattle.schema_up.specs.Names.{schema_text}
+use Rattle.schema_up.specs.Upgrades.{Pairs, with_schema, without, named_anew, version_part, with_name, missing, medium_in, medium_of, media_of, clip_kept, second_clip, second_marker, renewed, renewed_at}
 use Rattle.json_law.proofs.NumeralsInside.{HasAll, MembersHave, is_string, is_object, no_pairs, more_pairs}
 
 either_has : (b : Bool) (x y : Pairs) → MembersHave x → MembersHave y → MembersHave (if b then x else y)

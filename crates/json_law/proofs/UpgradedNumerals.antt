@@ -4,13 +4,13 @@ use Rattle.json_value.specs.declared.Json.{Json}
 use Rattle.json_law.specs.Written.{IsJson, null, truth, number, string, list, object, AreJson, no_values, more_values, AreMembers, no_members, more_members}
 use Rattle.json_law.proofs.Reading.{read_is_json}
 use Rattle.json_law.proofs.Numerals.{numeral_of_json}
-use Rattle.schema_rows.specs.declared.old_names.Form.{Form}
-use Rattle.schema_rows.specs.declared.old_names.Row.{Row}
-use Rattle.schema_rows.specs.declared.old_names.Row.TheVariants.{Object}
-use Rattle.schema_rows.specs.Names.{schema_in}
-use Rattle.schema_rows.specs.UpgradeRows.{item_row, member_row}
-use Rattle.schema_rows.specs.Upgrades.{Pairs, upgraded_at, items_at, pairs_at, map_at}
-use Rattle.schema_rows.proofs.Levels.{upgraded_at-Null, upgraded_at-Bool, upgraded_at-Num, upgraded_at-Str, upgraded_at-List, upgraded_at-Map}
+use Rattle.schema_up.specs.declared.old_names.Form.{Form}
+use Rattle.schema_up.specs.declared.old_names.Row.{Row}
+use Rattle.schema_up.specs.declared.old_names.Row.TheVariants.{Object}
+use Rattle.schema_up.specs.Names.{schema_in}
+use Rattle.schema_up.specs.UpgradeRows.{item_row, member_row}
+use Rattle.schema_up.specs.Upgrades.{Pairs, upgraded_at, items_at, pairs_at, map_at}
+use Rattle.schema_up.proofs.Levels.{upgraded_at-Null, upgraded_at-Bool, upgraded_at-Num, upgraded_at-Str, upgraded_at-List, upgraded_at-Map}
 use Rattle.json_law.specs.Law.{ReadHasNumerals, UpgradedHasNumerals}
 use Rattle.json_law.proofs.NumeralsInside.{HasAll, HaveAll, MembersHave, is_null, is_truth, is_number, is_string, is_list, is_object, no_items, more_items, no_pairs, more_pairs, all_numerals}
 use Rattle.json_law.proofs.Members.{renewed_at_has}

@@ -1,5 +1,5 @@
 -- What a value that was read is upgraded to is upgraded: another upgrade leaves it as it is.
-use Rattle.std.proofs.Common.{◌≡◌, ◌≢◌, ◌⊎◌, inl, inr, ℕ, Bool, true, false, List, [], ◌∷◌, ◌++◌, Option, Some, None, refl, sym, ap, ap₂, subst, ◌∙◌, codes}
+use Rattle.std.proofs.Common.{◌≡◌, ◌⊎◌, inl, inr, ℕ, Bool, true, false, List, [], ◌∷◌, ◌++◌, Option, Some, None, refl, sym, ap, ap₂, subst, ◌∙◌, codes}
 use Rattle.std.specs.Str.{bytes_eq}
 use Rattle.std.specs.List.{after_first}
 use Rattle.std.proofs.lemmas.Slice.Eq.{bytes_eq-Decides}
@@ -7,18 +7,20 @@ use Rattle.json_value.specs.declared.Json.{Json, Null, Bool as JsonOfBool, Num, 
 use Rattle.json_value.specs.declared.Json.TheVariants as J
 use Rattle.json_value.specs.declared.Json.TheOpen.{Json-F}
 use Rattle.sequences.specs.Pairs.{value_of, put, names_of, IsNew, AreDistinct}
-use Rattle.sequences.proofs.PairLemmas.{apart, bytes_eq-sym}
+use Rattle.sequences.proofs.PairLemmas.{bytes_eq-sym}
 use Rattle.json_law.specs.Law.{UpgradedStays}
 use Rattle.json_law.proofs.Reading.{read_is_json}
 use Rattle.json_law.specs.Written.{IsJson, null, truth, number, string, list, object, AreJson, no_values, more_values, AreMembers, no_members, more_members}
-use Rattle.schema_rows.specs.declared.old_names.Form.{Form}
-use Rattle.schema_rows.specs.declared.old_names.Form.TheVariants as F
-use Rattle.schema_rows.specs.declared.old_names.Row.{Row}
-use Rattle.schema_rows.specs.declared.old_names.Row.TheVariants.{Kept, Object, Objects, Media}
-use Rattle.schema_rows.specs.Names.{is_point, schema_in, schema_text, schema_or_other, schema_named, versioned, version_in, string_in, text_at}
-use Rattle.schema_rows.specs.UpgradeRows.{row_of, where_holds, item_row}
-use Rattle.schema_rows.specs.Upgrades.{Pairs, upgraded, upgraded_at, items_at, pairs_at, map_at, renewed, with_name, without, named_anew, version_part, missing, medium_in, medium_of, media_of, clip_kept, second_clip, second_marker}
-use Rattle.schema_rows.proofs.Levels.{upgraded_at-Null, upgraded_at-Bool, upgraded_at-Num, upgraded_at-Str, upgraded_at-List, upgraded_at-Map, kept_same, names_at}
+use Rattle.schema_up.specs.declared.old_names.Form.{Form}
+use Rattle.schema_up.specs.declared.old_names.Form.TheVariants as F
+use Rattle.schema_up.specs.declared.old_names.Row.{Row}
+use Rattle.schema_up.specs.declared.old_names.Row.TheVariants.{Kept, Object, Objects, Media}
+use Rattle.schema_up.specs.Names.{is_point, schema_in, schema_text, schema_or_other, schema_named, versioned, version_in, string_in, text_at}
+use Rattle.schema_up.specs.UpgradeRows.{row_of, item_row}
+use Rattle.schema_up.specs.Upgrades.{Pairs, upgraded_at, items_at, pairs_at, map_at, renewed, with_name, without, named_anew, version_part, missing, medium_in, medium_of, media_of, clip_kept, second_clip, second_marker}
+use Rattle.schema_up.proofs.MemberLemmas.{new_without}
+use Rattle.schema_up.proofs.PutLemmas.{differs, put_same, put_other, Lacks}
+use Rattle.schema_up.proofs.Levels.{upgraded_at-Null, upgraded_at-Bool, upgraded_at-Num, upgraded_at-Str, upgraded_at-List, upgraded_at-Map, kept_same, names_at}
 
 -- the value stays at a place; and so does what it becomes, at each
 abbrev Fixed : Row → Json → Type 0
@@ -94,32 +96,6 @@ again ms form is new h =
     ∙ ap Map (new (pairs_at Object form ms) ∙ fixed_pairs form ms h)
 
 -- the schema stays where values are put under other names
-self_name : (name : List ℕ) → bytes_eq name name ≡ true
-self_name name = (bytes_eq-Decides name name).1 refl
-
-put_same : (name : List ℕ) (x : Json) (ms : Pairs) → value_of name (put name x ms) ≡ Some x
-put_same name x [] = rw (self_name name) refl
-put_same name x (m ∷ ms) = by (bytes_eq name m.0) refl (put_same name x ms)
-  where
-    by : (t : Bool) → bytes_eq name m.0 ≡ t → value_of name (put name x ms) ≡ Some x
-        → value_of name (put name x (m ∷ ms)) ≡ Some x
-    by true e below = rw (e, self_name name) refl
-    by false e below = rw (e, e) below
-
-put_other : (name other : List ℕ) (x : Json) (ms : Pairs) → bytes_eq name other ≡ false
-    → value_of name (put other x ms) ≡ value_of name ms
-put_other name other x [] h = rw h refl
-put_other name other x (m ∷ ms) h = by (bytes_eq other m.0) refl (put_other name other x ms h)
-  where
-    by : (t : Bool) → bytes_eq other m.0 ≡ t
-        → value_of name (put other x ms) ≡ value_of name ms
-        → value_of name (put other x (m ∷ ms)) ≡ value_of name (m ∷ ms)
-    by true e below =
-        let same : other ≡ m.0 = (bytes_eq-Decides other m.0).0 e in
-        let apart : bytes_eq name m.0 ≡ false = ap (bytes_eq name) (sym same) ∙ h in
-        rw (e, h, apart) refl
-    by false e below = rw (e, below) refl
-
 abbrev key : List ℕ
 key = codes "OTIO_SCHEMA"
 
@@ -205,18 +181,6 @@ collection_text : (o : Option (List ℕ))
 collection_text None = inr refl
 collection_text (Some text) = collection_named (version_in (after_first is_point text))
 
--- none of the members has the name
-abbrev Lacks : List ℕ → Pairs → Type 0
-Lacks name [] = Unit {0}
-Lacks name (m ∷ ms) = (bytes_eq name m.0 ≡ false) × Lacks name ms
-
-differs : (a b : List ℕ) → a ≢ b → bytes_eq a b ≡ false
-differs a b other = by (bytes_eq a b) refl
-  where
-    by : (t : Bool) → bytes_eq a b ≡ t → bytes_eq a b ≡ false
-    by true e = absurd (other ((bytes_eq-Decides a b).0 e))
-    by false e = e
-
 lacks_new : (name : List ℕ) (ms : Pairs) → IsNew name (names_of ms) → Lacks name ms
 lacks_new name [] h = tt
 lacks_new name (m ∷ ms) h = (differs name m.0 h.0, lacks_new name ms h.1)
@@ -228,16 +192,6 @@ lacks_without name other (m ∷ ms) h =
   where
     by : (t : Bool) → bytes_eq other m.0 ≡ t → Lacks name (without other ms)
         → Lacks name (without other (m ∷ ms))
-    by true e below = rw e h.1
-    by false e below = rw e (h.0, below)
-
-new_without : (n name : List ℕ) (ms : Pairs) → IsNew n (names_of ms)
-    → IsNew n (names_of (without name ms))
-new_without n name [] h = tt
-new_without n name (m ∷ ms) h = by (bytes_eq name m.0) refl (new_without n name ms h.1)
-  where
-    by : (t : Bool) → bytes_eq name m.0 ≡ t → IsNew n (names_of (without name ms))
-        → IsNew n (names_of (without name (m ∷ ms)))
     by true e below = rw e h.1
     by false e below = rw e (h.0, below)
 

@@ -2,10 +2,10 @@
 use Rattle.std.specs.Prelude.{◌≡◌, ℕ, List}
 use Rattle.json_value.specs.declared.Json.{Json}
 use Rattle.json_text.specs.Grammar.{text_of}
-use Rattle.schema_rows.specs.Upgrades.{upgraded}
+use Rattle.schema_up.specs.Upgrades.{upgraded}
 use Rattle.schema_rows.specs.Numerals.{HasNumerals}
 
--- each numeral in a value that a text stands for is one of JSON
+-- each numeral in a value that a text denotes is one of JSON
 abbrev pub ReadHasNumerals : Type 0
 ReadHasNumerals = (bytes : List ℕ) (value : Json) → text_of bytes value → HasNumerals value
 

@@ -42,7 +42,7 @@ mutual
 abbrev pub LayoutIsText : Type 0
 LayoutIsText = (value : Json) → IsJson 127 value → text_of (layout value) value
 
--- what a text stands for is such a value
+-- what a text denotes is such a value
 abbrev pub ReadIsJson : Type 0
 ReadIsJson = (bytes : List ℕ) (value : Json) → text_of bytes value → IsJson 127 value
 

@@ -8,9 +8,8 @@ ghost use Rattle.json_law.specs.Forms.{HaveOneForm};
 ghost use Rattle.json_law.specs.Law.{ReadHasNumerals, UpgradedHasNumerals, UpgradedStays};
 
 /// The layout of a value is a JSON text (RFC 8259) of that value, where at most 127 lists and
-/// objects stand in one another in it and its numerals are JSON numerals; and each value that a
-/// JSON text stands for is such a value. So a text that is read and written again stands for the
-/// same value.
+/// objects are nested in it and its numerals are JSON numerals; and each value that a JSON text
+/// denotes is such a value. So a text that is read and written again denotes the same value.
 pub fn layout_is_text()
     ensures layout { LayoutIsText }
     ensures read { ReadIsJson }
@@ -23,7 +22,7 @@ pub fn one_form()
     ensures { HaveOneForm }
 {}
 
-/// Law: each numeral in a value that a JSON text (RFC 8259) stands for is a number of JSON, as
+/// Law: each numeral in a value that a JSON text (RFC 8259) denotes is a number of JSON, as
 /// `schema_tab` asks of the values that it reads; and so is each one in what that value is upgraded
 /// to. It does nothing.
 pub fn read_has_numerals()
@@ -31,7 +30,7 @@ pub fn read_has_numerals()
     ensures upgraded { UpgradedHasNumerals }
 {}
 
-/// Law: a second upgrade changes nothing. The value that a JSON text (RFC 8259) stands for, once
+/// Law: a second upgrade changes nothing. The value that a JSON text (RFC 8259) denotes, once
 /// upgraded, is left as it is by another upgrade. It does nothing.
 pub fn upgraded_stays()
     ensures { UpgradedStays }

@@ -8,6 +8,7 @@ use Rattle.std.specs.List.{position_or_len}
 use Rattle.std.proofs.lemmas.List.Quantifiers.{position-Some}
 use Rattle.std.proofs.lemmas.List.Sums.{fails_before_first, position_or_len_is}
 use Rattle.json_text.specs.StringTexts.{IsPlain, escape, escaped, needs_escape}
+use Rattle.json_text.proofs.Utf8Lemmas.{order}
 
 -- a byte that needs no escape stands as it is
 pub escape_plain : (b : ℕ) → needs_escape b ≡ false → escape b ≡ b ∷ []
@@ -38,13 +39,6 @@ escaped-None bytes h =
     all_plain bytes (λ k below. fails_before_first needs_escape bytes k 0 (omega (arith, past, below)))
 
 -- ---- blocks without escapes
-
-order : (m n : ℕ) → (m < n) ⊎ (n ≤ m)
-order m n = by (nat_lt m n) refl
-  where
-    by : (y : Bool) → nat_lt m n ≡ y → (m < n) ⊎ (n ≤ m)
-    by true e = inl (grind (arith, nat_tests))
-    by false e = inr (grind (arith, nat_tests))
 
 -- one byte more
 pub more_plain : (bytes : List ℕ) (i : ℕ) → IsPlain i bytes → needs_escape (get_or bytes i 0) ≡ false

@@ -157,8 +157,8 @@ pub(crate) fn is_ascii(bytes: &[u8]) -> bool
     largest < 128
 }
 
-// The larger of two bytes.
-fn larger(one: u8, other: u8) -> u8
+/// The larger of two bytes.
+pub(crate) fn larger(one: u8, other: u8) -> u8
     ensures one { one ≤ result }
     ensures other { other ≤ result }
 {

@@ -107,8 +107,6 @@ fn put_char(made: &mut ArrayVec<u8, ROOM>, character: char)
         return;
     }
     let mut buffer = [0; 4];
-    match made.try_extend_from_slice(character.encode_utf8(&mut buffer).as_bytes()) {
-        Ok(()) => {}
-        Err(_) => unreachable!(),
-    }
+    made.try_extend_from_slice(character.encode_utf8(&mut buffer).as_bytes())
+        .unwrap();
 }

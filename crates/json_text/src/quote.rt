@@ -4,6 +4,7 @@ ghost use Rattle.std.specs.Char.{digit_char};
 ghost use Rattle.dev_io.specs.Buffer.{HandsOver};
 ghost use Rattle.json_text.specs.StringTexts.{IsPlain, code_escape, escape, escaped, quoted, needs_escape};
 
+use crate::bytes::larger;
 use dev_io::{Out, OutBuffer};
 
 // The bytes of a block, which are looked at together.
@@ -85,14 +86,6 @@ fn are_plain(bytes: &[u8]) -> bool
         needing = larger(needing, needs(*byte));
     }
     needing == 0
-}
-
-// The larger of two bytes.
-fn larger(one: u8, other: u8) -> u8
-    ensures one { one ≤ result }
-    ensures other { other ≤ result }
-{
-    if one < other { other } else { one }
 }
 
 // 1 where the byte needs an escape, and 0 where it doesn't.

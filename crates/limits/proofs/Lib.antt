@@ -1,1 +1,3 @@
--- No lemmas.
+pub mod IntegerSums
+pub mod IntegerTests
+pub mod ListLemmas

@@ -1,5 +1,4 @@
 -- Lemmas on media lists.
-pub mod NumberBounds
 pub mod SpanLemmas
 pub mod TabLemmas
 pub mod LookUps

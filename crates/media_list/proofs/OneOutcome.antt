@@ -6,12 +6,12 @@ use Rattle.text_lines.specs.Lines.{lines_of}
 use Rattle.media_rows.specs.Rows.{by_reel, by_url, AreRows}
 use Rattle.media_rows.specs.declared.row.MediaRow.{MediaRow}
 use Rattle.media_list.specs.Lines.{Fields, IsSkipped, IsForm, IsRow, LineSays, nothing, one, HasNoRate, HasNoSpan, IsSpan, IsNew, IsOwnFault, IsTwice, IsLineFault, own, twice}
-use Rattle.smpte_tc.specs.RateWords.{IsRateWord}
+use Rattle.tick_time.specs.RateWords.{IsRateWord}
 use Rattle.media_list.specs.Lists.{LinesSay, IsMediaList, IsFirstFault, IsFault}
 use Rattle.media_list.specs.declared.faults.MediaFault.{MediaFault}
 use Rattle.media_list.specs.declared.faults.MediaFault.TheVariants.{Line, Rate as NoRate, Range, ReelTwice, UrlTwice, Large, Memory}
 use Rattle.media_list.proofs.LookUps.{earlier_new}
-use Rattle.smpte_tc.proofs.RateLemmas.{rate_once}
+use Rattle.tick_time.proofs.RateWordLemmas.{rate_once}
 use Rattle.media_list.proofs.SpanLemmas.{span_once}
 
 abbrev fields_back : List (List ℕ) → Fields
@@ -296,14 +296,17 @@ same_wrong lines f g p q same =
     (subst (λ r. IsLineFault r (length p.before + 1) p.line f) rows p.wrong)) in
     line_fault_once q.rows (length q.before + 1) q.line f g here q.wrong
 
+-- two places of which neither is the earlier one are one place
+pub same_place : {A : Type 0} (m n : ℕ) → (m < n → ⊥) → (n < m → ⊥) → (m ≡ n → A) → A
+same_place m n before behind same =
+    ⊎_elim (λ below. absurd (before below))
+    (λ above. ⊎_elim (λ beyond. absurd (behind beyond)) (λ le. same (omega (arith, above, le)))
+    (cases_lt n m)) (cases_lt m n)
+
 first_once : (lines : List (List ℕ)) (f g : MediaFault) → IsFirstFault lines f
     → IsFirstFault lines g → f ≡ g
-first_once lines f g p q =
-    ⊎_elim (λ below. absurd (earlier_wrong lines f g p q below))
-    (λ above. ⊎_elim (λ behind. absurd (earlier_wrong lines g f q p behind))
-    (λ le. same_wrong lines f g p q (omega (arith, above, le)))
-    (cases_lt (length q.before) (length p.before)))
-    (cases_lt (length p.before) (length q.before))
+first_once lines f g p q = same_place (length p.before) (length q.before)
+    (earlier_wrong lines f g p q) (earlier_wrong lines g f q p) (same_wrong lines f g p q)
 
 -- bytes have one fault
 pub fault_once : (bytes : List ℕ) (f g : MediaFault) → IsFault bytes f → IsFault bytes g → f ≡ g

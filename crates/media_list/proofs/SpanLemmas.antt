@@ -5,6 +5,7 @@ use Rattle.std.specs.Option.{option_map}
 use Rattle.std.specs.Prelude.{◌↔◌, IsTrue, Result, Ok, Err, IfOk, IfErr}
 use Rattle.std.specs.Result.{is_ok}
 use Rattle.std.proofs.lemmas.Bool.{false≢true}
+use Rattle.std.proofs.lemmas.Option.{same_Some}
 use Rattle.tick_time.specs.declared.times.Time.{Time}
 use Rattle.std.proofs.lemmas.Nat.{mul-le}
 use Rattle.std.specs.Str.Parse.{digits_value}
@@ -32,13 +33,10 @@ range_told X ticks (Err e) b same made fault = (
   λ range. absurd (fault.1 range),
 )
 
-same_some : (a b : ℤ) → Some a ≡ Some b → a ≡ b
-same_some a b e = cc
-
 -- a start says one frame
 start_once : (rate : Rate) (field : List ℕ) (a b : ℤ) → start_frame rate field ≡ Some a
     → start_frame rate field ≡ Some b → a ≡ b
-start_once rate field a b p q = same_some a b (sym p ∙ q)
+start_once rate field a b p q = same_Some a b (sym p ∙ q)
 
 -- fields have one span
 pub span_once : (rate : Rate) (f : Fields) (a b n k : ℤ) → IsSpan rate f a n → IsSpan rate f b k
@@ -64,14 +62,14 @@ span_unsaid rate f none start count span =
 mapped_some : (o : Option ℕ) (start : ℤ) → option_map pos o ≡ Some start
     → (n : ℕ) × (start ≡ pos n)
 mapped_some None start e = let h : None ≡ Some start = e in absurd (cc)
-mapped_some (Some n) start e = (n, sym (same_some (pos n) start e))
+mapped_some (Some n) start e = (n, sym (same_Some (pos n) start e))
 
 start_by : (rate : Rate) (field : List ℕ) (t : Bool) (start : ℤ)
     → cond t (option_map pos (label_frame rate false field)) (Some (pos (digits_value 10 field)))
     ≡ Some start
     → (n : ℕ) × (start ≡ pos n)
 start_by rate field true start e = mapped_some (label_frame rate false field) start e
-start_by rate field false start e = (digits_value 10 field, sym (same_some _ start e))
+start_by rate field false start e = (digits_value 10 field, sym (same_Some _ start e))
 
 -- a start isn't negative
 start_positive : (rate : Rate) (field : List ℕ) (start : ℤ) → start_frame rate field ≡ Some start

@@ -1,5 +1,5 @@
 -- The lines of a media list: which are skipped, what a line says, and what is wrong with one.
-use Rattle.std.specs.Prelude.{◌≡◌, ◌==◌, ◌≤ℤ◌, ◌+ℤ◌, ◌*ℤ◌, ℕ, ℤ, pos, Bool, true, false, List, [], ◌∷◌, Some, None, IsSome, IsUtf8}
+use Rattle.std.specs.Prelude.{◌≡◌, ◌==◌, ◌≤ℤ◌, ◌+ℤ◌, ◌*ℤ◌, ℕ, ℤ, pos, true, false, List, [], ◌∷◌, Some, None, IsSome, IsUtf8}
 use Rattle.std.specs.List.{slice_split}
 use Rattle.std.specs.Str.Parse.{digits_value}
 use Rattle.tick_time.specs.Numerals.{IsNumeral}
@@ -8,7 +8,8 @@ use Rattle.tick_time.specs.Times.{IsInRange}
 use Rattle.tick_time.specs.declared.rates.Rate.{Rate}
 use Rattle.media_rows.specs.Rows.{by_reel, by_url}
 use Rattle.media_rows.specs.declared.row.MediaRow.{MediaRow}
-use Rattle.smpte_tc.specs.RateWords.{IsRateWord}
+pub use Rattle.text_lines.specs.Lines.{is_comment}
+use Rattle.tick_time.specs.RateWords.{IsRateWord}
 use Rattle.text_lines.specs.ReelNames.{IsReelName}
 use Rattle.media_list.specs.Words.{IsNumber, IsStartForm, start_frame}
 use Rattle.media_list.specs.declared.faults.MediaFault.{MediaFault}
@@ -28,11 +29,6 @@ field_list f = f.reel ∷ f.rate ∷ f.start ∷ f.count ∷ f.url ∷ []
 -- what stands between the tabs of a line
 unfoldable pub tab_fields : List ℕ → List (List ℕ)
 tab_fields line = slice_split (λ b. b == 9) line
-
--- nothing stands on the line, or `#` stands first
-abbrev pub is_comment : List ℕ → Bool
-is_comment [] = true
-is_comment (b ∷ bytes) = b == 35
 
 -- the line says nothing
 pub record IsSkipped (line : List ℕ) : Type 0 where

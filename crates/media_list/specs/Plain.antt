@@ -3,7 +3,8 @@ use Rattle.std.specs.Prelude.{◌≡◌, ◌≤◌, ℕ, false, All}
 use Rattle.smpte_tc.specs.PointFrames.{IsFrame}
 use Rattle.text_lines.specs.ReelNames.{IsReelName}
 use Rattle.media_rows.specs.declared.row.MediaRow.{MediaRow}
-use Rattle.media_list.specs.Lines.{IsSpanInRange, is_comment}
+use Rattle.text_lines.specs.Lines.{is_comment}
+use Rattle.media_list.specs.Lines.{IsSpanInRange}
 
 -- a printing character of ASCII, the space among them
 abbrev pub IsPrinted : ℕ → Type 0

@@ -2,7 +2,7 @@
 
 ghost use Rattle.std.specs.Prelude.{◌≡◌, ◌≢◌, ◌<◌, ◌∷◌, [], false, IsUtf8, MatchOption, length};
 ghost use Rattle.media_list.specs.Lines.{Fields, IsForm, tab_fields, field_list};
-ghost use Rattle.media_list.specs.Lines.{is_comment as is_comment_line};
+ghost use Rattle.text_lines.specs.Lines.{is_comment as is_comment_line};
 ghost use Rattle.media_list.specs.Views.{fields_in};
 
 use crate::words::{is_number, is_reel, is_start_form};
@@ -50,16 +50,6 @@ fn split_fields(line: &[u8]) -> Option<LineFields<'_>>
             count,
             url,
         }),
-    }
-}
-
-/// Whether a line is empty or begins with `#`.
-pub(crate) fn is_comment(line: &[u8]) -> bool
-    ensures { result ≡ is_comment_line line.now }
-{
-    match line {
-        [] => true,
-        [first, ..] => *first == b'#',
     }
 }
 

@@ -10,13 +10,13 @@ ghost use Rattle.text_lines.specs.ReelNames.{IsReelName};
 ghost use Rattle.media_list.specs.Words.{IsNumber, IsStartForm, start_frame};
 
 use crate::faults::MediaFault;
-use crate::fields::{LineFields, form_of, is_comment};
+use crate::fields::{LineFields, form_of};
 use crate::words::{number_of, start_of};
 use media_rows::MediaRow;
 use sequences::Text;
-use smpte_tc::rate_of;
 use std::alloc::{AllocError, Global};
-use tick_time::{Rate, Time};
+use text_lines::is_comment;
+use tick_time::{Rate, Time, rate_of};
 
 /// Where media start, and how many frames there are.
 #[derive(Clone, Copy)]

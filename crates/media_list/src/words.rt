@@ -1,14 +1,14 @@
 //! Numbers, reels and starts, each of one field.
 
-ghost use Rattle.std.specs.Prelude.{◌≡◌, ◌≤◌, ◌<◌, ◌↔◌, ◌^◌, pos, IsTrue, IfSome, length};
-ghost use Rattle.std.specs.Str.Parse.{AllDigits, digits_value};
+ghost use Rattle.std.specs.Prelude.{◌≡◌, ◌<◌, ◌↔◌, ◌^◌, pos, IsTrue, IfSome};
+ghost use Rattle.std.specs.Str.Parse.{digits_value};
 ghost use Rattle.smpte_tc.specs.PointFrames.{IsFrame};
 ghost use Rattle.text_lines.specs.ReelNames.{IsReelName};
 ghost use Rattle.media_list.specs.Words.{IsNumber, IsStartForm, start_frame};
 
 use smpte_tc::{frame_of_label, is_label_form};
-use text_lines::{are_within, reel_name};
-use tick_time::Rate;
+use text_lines::reel_name;
+use tick_time::{Rate, are_digits, number_of as value_of};
 
 /// How many digits a number has at most.
 const MOST_DIGITS: usize = 18;
@@ -24,12 +24,11 @@ pub(crate) fn is_reel(field: &[u8]) -> bool
 }
 
 /// Whether a field is a number.
-#[tactic(auto, using(tick_time::proofs::DigitBytes::digits_of, tick_time::proofs::DigitBytes::of_digits))]
 pub(crate) fn is_number(field: &[u8]) -> bool
     ensures { IsTrue result ↔ IsNumber field.now }
 {
     let is_short = !field.is_empty() && field.len() <= MOST_DIGITS;
-    is_short && are_within(field, b'0', b'9')
+    is_short && are_digits(field)
 }
 
 /// The number that a field is.
@@ -48,20 +47,6 @@ fn signed(number: u64) -> i64
     ensures bound { IsFrame result }
 {
     number as i64
-}
-
-// The number that at most eighteen digits write.
-fn value_of(digits: &[u8]) -> u64
-    requires digits { AllDigits 10 digits.now }
-    requires few { length digits.now ≤ 18 }
-    ensures value { result ≡ digits_value 10 digits.now }
-    ensures bound { result < 10 ^ 18 }
-{
-    let mut number: u64 = 0;
-    'digits: for digit in digits {
-        number = number * 10 + u64::from(*digit - b'0');
-    }
-    number
 }
 
 /// Whether a field has the form of a start.

@@ -8,7 +8,7 @@ use coord::sound;
 use dev_io::MemOut;
 use otio_model::{Children, Effects, Item, ItemOf, Items, MediaMap, Timeline};
 use sequences::Text;
-use show_prog::{Listing, RowFault, listing_of, write_rows};
+use show_prog::{Listing, OutputFault, listing_of, write_rows};
 use smpte_tc::RecordPoint;
 use std::alloc::{AllocError, Global};
 use std::process::Abort;
@@ -64,7 +64,7 @@ fn sent_of(
     made: Result<Timeline, AllocError>,
     listing: &Listing,
     out: &mut MemOut,
-) -> Result<Option<Result<(), RowFault>>, AllocError> {
+) -> Result<Option<Result<(), OutputFault>>, AllocError> {
     let timeline = made?;
     if 4_294_967_296 <= timeline.tracks.children.items_below() {
         drop(timeline);
@@ -83,15 +83,15 @@ fn written(
     alloc: Global,
     listing: &Listing,
     out: &mut MemOut,
-) -> Result<Option<Result<(), RowFault>>, AllocError> {
+) -> Result<Option<Result<(), OutputFault>>, AllocError> {
     sent_of(alloc, timeline(alloc, None, 2), listing, out)
 }
 
 // Holds how such a listing ends.
 fn ends(
     rt: &impl Abort,
-    sent: Result<Option<Result<(), RowFault>>, AllocError>,
-    wanted: Result<(), RowFault>,
+    sent: Result<Option<Result<(), OutputFault>>, AllocError>,
+    wanted: Result<(), OutputFault>,
 ) -> Result<(), Fail> {
     assert!(rt; sent? == Some(wanted));
     Ok(())
@@ -129,7 +129,7 @@ fn written_long(
     count: i64,
     listing: &Listing,
     out: &mut MemOut,
-) -> Result<Option<Result<(), RowFault>>, AllocError> {
+) -> Result<Option<Result<(), OutputFault>>, AllocError> {
     sent_of(alloc, long_timeline(alloc, count), listing, out)
 }
 
@@ -196,7 +196,7 @@ fn a_stream_that_fails_ends_the_lines(rt: HostRuntime) -> Result<(), Fail> {
         count: 1000,
     };
     let stopped = written(rt.alloc(), &listing, &mut out);
-    ends(&rt, stopped, Err(RowFault::Sink))?;
+    ends(&rt, stopped, Err(OutputFault::Sink))?;
     // the lines of frames 0 to 255, of which the first 10, 90 and 156 have one, two and three
     // digits
     assert!(rt; out.sent().len() == 10 * 6 + 90 * 7 + 156 * 8);

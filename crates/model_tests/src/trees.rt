@@ -8,7 +8,7 @@ use otio_model::{
     Timeline, TrackOf, Warp,
 };
 use owned::Owned;
-use sequences::{NamedValues, Sequence, Text};
+use sequences::{NamedValues, Text};
 use std::alloc::{AllocError, Global};
 use tick_time::{Decimal, Rate, Scalar, Span, Time};
 
@@ -106,7 +106,7 @@ fn warp(alloc: Global, time_scalar: Scalar) -> Result<Effect, AllocError> {
 pub fn warps(alloc: Global, first: Scalar, second: Scalar) -> Result<Effects, AllocError> {
     let first = warp(alloc, first)?;
     let list = vec![in alloc; first, warp(alloc, second)?]?;
-    Ok(Effects::of(Sequence::of(list)))
+    Ok(Effects::of(list))
 }
 
 /// The children that are one item.

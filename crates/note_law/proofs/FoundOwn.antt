@@ -6,6 +6,8 @@ use Rattle.std.specs.Ordering.{int_eq}
 use Rattle.std.proofs.lemmas.Int.{ints}
 use Rattle.std.proofs.lemmas.List.Elements.{All-cons, All-head, All-tail}
 use Rattle.std.proofs.lemmas.Option.{get_or_from_slice_get, slice_get-get_or}
+use Rattle.limits.proofs.IntegerSums.{size-of_natural}
+use Rattle.limits.proofs.IntegerTests.{below-int_le, below-int_lt}
 use Rattle.limits.specs.Limits.{most_ticks}
 use Rattle.text_lines.specs.Lines.{trimmed}
 use Rattle.text_lines.proofs.Trimming.{all_trimmed, trimmed_tight}
@@ -109,10 +111,6 @@ first_is (suc left) rate side v k r e = by (int_eq (source_frame rate side (pos 
         record { high = omega (arith, same); from = omega (arith, same); shows = ap (λ j. source_frame rate side (pos j)) (sym same) ∙ is_eq _ v f }
     by false f h g = let i = h g in let high = i.high in let from = i.from in record { high = omega (arith, high); from = omega (arith, from); shows = i.shows }
 
-abs_is : (z : ℤ) → pos 0 ≤ℤ z → pos (unsigned_abs z) ≡ z
-abs_is (pos a) l = refl
-abs_is (negsuc a) l = absurd (omega (arith, ints, l))
-
 -- where a span starts in a source frame, that frame makes a time
 frame_small : (rate : Rate) (mark : Mark) (v : ℤ) → marked_frame rate mark ≡ Some v → (v *ℤ pos (frame rate.num rate.den)) ≤ℤ pos most_ticks
 frame_small rate mark v e = by mark.marked_range e
@@ -126,12 +124,6 @@ frame_small rate mark v e = by mark.marked_range e
         let whole = fl.whole in
         let high = s.start.high in
         subst (λ z. (z *ℤ pos n) ≤ℤ pos most_ticks) same (omega (arith, ints, whole, high))
-
-le_is : (a b : ℤ) → a ≤ℤ b → int_le a b ≡ true
-le_is a b h = grind (arith, ints, h)
-
-lt_is : (a b : ℤ) → a <ℤ b → int_lt a b ≡ true
-lt_is a b h = grind (arith, ints, h)
 
 -- ---- what is said of an event
 
@@ -170,7 +162,7 @@ loc_fine rate drop e mark v k color is m f c =
     let first = first_is (unsigned_abs (e.rec_out -ℤ e.rec_in)) rate e.to v 0 k f in
     let below = first.high in
     let some = is.some in
-    let long = abs_is (e.rec_out -ℤ e.rec_in) (omega (arith, ints, some)) in
+    let long = size-of_natural (e.rec_out -ℤ e.rec_in) (omega (arith, ints, some)) in
     let a = is.rec_in.low in
     let at = e.rec_in +ℤ pos k in
     let early : e.rec_in ≤ℤ at = omega (arith, ints) in
@@ -180,7 +172,7 @@ loc_fine rate drop e mark v k color is m f c =
     let far : (source_frame rate e.to (at -ℤ e.rec_in) *ℤ pos (frame rate.num rate.den)) ≤ℤ pos most_ticks =
     subst (λ z. (z *ℤ pos (frame rate.num rate.den)) ≤ℤ pos most_ticks) (sym shows) (frame_small rate mark v m) in
     record {
-      counts = ap₂ (λ p q. p && q) (ap₂ (λ p q. p && q) (le_is e.rec_in at early) (lt_is at e.rec_out late)) (le_is _ _ far);
+      counts = ap₂ (λ p q. p && q) (ap₂ (λ p q. p && q) (below-int_le e.rec_in at early) (below-int_lt at e.rec_out late)) (below-int_le _ _ far);
       clean = cleaned_again mark.name;
       below = λ day. below_before rate drop e.rec_out at day (omega (arith, ints, a)) (omega (arith, ints, late));
       spelled = λ day text. (below_before rate drop e.rec_out at day (omega (arith, ints, a)) (omega (arith, ints, late)), color_is mark color c, text);

@@ -1,6 +1,7 @@
 -- The notes of bytes are one.
 use Rattle.std.proofs.Common.{◌≡◌, ◌<◌, ◌≤◌, ◌⊎◌, inl, inr, ℕ, ℤ, pos, Bool, true, false, List, [], ◌∷◌, ◌++◌, All, codes, length, refl, sym, ap, ap₂, subst, ◌∙◌, arith}
 use Rattle.std.proofs.lemmas.List.Elements.{All-head}
+use Rattle.note_text.proofs.FormLemmas.{colon_no_numeral}
 use Rattle.coord.proofs.Members.{same_some}
 use Rattle.text_lines.specs.Lines.{lines_of, trimmed}
 use Rattle.tick_time.specs.declared.rates.Rate.{Rate}
@@ -85,20 +86,6 @@ one_correction line a b c d e f h k =
     ap (λ t. Sop t b c) x.0 ∙ ap (λ t. Sop d t c) y.0 ∙ ap (λ t. Sop d e t) z.0
 
 -- ---- saturation
-
-no_colon_digit : (d : ℕ) (ds x back : List ℕ) → All (λ b. (48 ≤ b) × (b ≤ 57)) (d ∷ ds) → 58 ∷ x ≡ d ∷ (ds ++ back) → ⊥
-no_colon_digit d ds x back h e = let same = heads 58 d x (ds ++ back) e in let high = (All-head (λ b. (48 ≤ b) × (b ≤ 57)) d ds h).1 in omega (arith, same, high)
-
-whole_colon : (whole x back : List ℕ) → 0 < length whole → All (λ b. (48 ≤ b) × (b ≤ 57)) whole → 58 ∷ x ≡ whole ++ back → ⊥
-whole_colon [] x back some h e = absurd (omega (arith, some))
-whole_colon (d ∷ ds) x back some h e = no_colon_digit d ds x back h e
-
-numeral_by : (neg : Bool) (whole x back : List ℕ) → 0 < length whole → All (λ b. (48 ≤ b) × (b ≤ 57)) whole → 58 ∷ x ≡ minus neg ++ (whole ++ back) → ⊥
-numeral_by true whole x back some h e = apart 58 45 x (whole ++ back) colon_minus e
-numeral_by false whole x back some h e = whole_colon whole x back some h e
-
-colon_no_numeral : (x : List ℕ) → IsNumeral (58 ∷ x) → ⊥
-colon_no_numeral x h = numeral_by h.0.neg h.0.whole x _ h.1.int.some (of_digits h.0.whole h.1.int.all) h.1.spelled
 
 loose : (word line rest : List ℕ) → IsBehind word line rest → IsAfter word line rest
 loose word line rest h = record { blanks = h.blanks; are_blanks = h.are_blanks; ends = h.ends; is = h.is }

@@ -2,6 +2,7 @@
 use Rattle.std.proofs.Common.{◌≡◌, ◌≢◌, ◌-◌, ◌==◌, inl, ℕ, ℤ, suc, zero, Bool, true, false, nat_lt, List, [], ◌∷◌, ◌++◌, IsUtf8, codes, length, unsigned_abs, refl, sym, ap, subst, ◌∙◌, append_assoc, append-nil, arith}
 use Rattle.std.proofs.lemmas.Bool.Decides.{nat_tests}
 use Rattle.std.proofs.lemmas.List.Elements.{All-head, All-tail, All-cons}
+use Rattle.edl_law.proofs.LineForms.{one_blank}
 use Rattle.tick_time.specs.declared.rates.Rate.{Rate}
 use Rattle.tick_time.specs.Numerals.{IsNumeral}
 use Rattle.text_lines.specs.First.{is_blank, AreBlanks, HasNone, begins_with_blank}
@@ -21,7 +22,7 @@ use Rattle.note_text.specs.declared.notes.Triple.{Triple}
 use Rattle.note_text.specs.declared.notes.Said.{Said}
 use Rattle.note_text.specs.declared.notes.Said.TheVariants.{Loc, Sop, Sat}
 use Rattle.note_law.specs.Law.{AreSpelled, IsSpelled, IsClean}
-use Rattle.note_law.proofs.NoteLines.{one_blank, tall, numeral_tall, numeral_solid, numeral_some, color_solid, label_solid, note_tight}
+use Rattle.note_law.proofs.NoteLines.{tall, numeral_tall, numeral_solid, numeral_some, color_solid, label_solid, note_tight}
 
 no_blanks : AreBlanks []
 no_blanks = λ k d h. absurd (omega arith)

@@ -5,6 +5,7 @@ use Rattle.std.proofs.lemmas.List.Elements.{All-head, All-tail, All-cons}
 use Rattle.tick_time.specs.declared.rates.Rate.{Rate}
 use Rattle.tick_time.specs.Numerals.{IsNumeral, IsExp, frac, minus, absent, plain, raised, lowered}
 use Rattle.std.specs.Str.Parse.{AllDigits}
+use Rattle.edl_law.proofs.LineForms.{one_blank}
 use Rattle.tick_time.proofs.DigitBytes.{of_digits}
 use Rattle.text_lines.specs.First.{is_blank, AreBlanks}
 use Rattle.text_lines.specs.Lines.{fields_of, trimmed}
@@ -103,9 +104,6 @@ pub numeral_solid : (text : List ℕ) → IsNumeral text → solid text ≡ true
 numeral_solid text h = tall_solid text (numeral_tall text h)
 
 -- ---- a remark
-
-pub one_blank : AreBlanks (32 ∷ [])
-one_blank = All-cons (λ b. is_blank b ≡ true) 32 [] (blank_is 32) (λ k d h. absurd (omega arith))
 
 star_field : IsField (42 ∷ [])
 star_field = record { some = append_some [] 42 []; above = refl }

@@ -10,7 +10,7 @@ use Rattle.tick_time.specs.declared.spans.Span.{Span}
 use Rattle.tick_time.specs.declared.times.Time.{Time}
 use Rattle.tick_time.specs.Frames.{IsFrames, in_ticks}
 use Rattle.tick_time.specs.Rates.{frame}
-use Rattle.tick_time.proofs.SameValues.{same_time}
+use Rattle.tick_time.proofs.SameValues.{same_frames, span_built}
 use Rattle.tick_time.proofs.Wholes.{count-product}
 use Rattle.otio_model.specs.declared.markers.Marker.{Marker}
 use Rattle.otio_model.specs.declared.markers.Marker.TheVariants.{Known}
@@ -36,22 +36,6 @@ use Rattle.note_text.specs.declared.notes.Said.TheVariants.{Loc, Sop, Sat}
 use Rattle.note_text.specs.declared.notes.Note.{Note}
 
 -- ---- spans
-
-same_frames : (rate : Rate) (n : ℤ) (t u : Time) → IsFrames rate n t → IsFrames rate n u → t ≡ u
-same_frames rate n t u i j = same_time t u (i.ticks ∙ sym j.ticks) (i.kept ∙ sym j.kept)
-
-abbrev built_span : (start len : Time) → pos 0 ≤ℤ len.ticks → Span
-built_span start len f = record { start = start; len = len; forward = f }
-
-span_built : (a b c d : Time) (p : pos 0 ≤ℤ b.ticks) (q : pos 0 ≤ℤ d.ticks) → a ≡ c → b ≡ d
-    → built_span a b p ≡ built_span c d q
-span_built a b c d p q h k =
-    subst (λ (x : Time). built_span a b p ≡ built_span x d q) h
-    (subst (λ (y : Time). (f : pos 0 ≤ℤ y.ticks) → built_span a b p ≡ built_span a y f) k
-    (λ f. ap (built_span a b) (forward_is p f)) q)
-  where
-    forward_is : IsProp (pos 0 ≤ℤ b.ticks)
-    forward_is = hlevel props
 
 same_range : (rate : Rate) (start count : ℤ) (a b : Option Span) → HasSpan rate start count a → HasSpan rate start count b → a ≡ b
 same_range rate start count a b i j =

@@ -2,6 +2,7 @@
 use Rattle.std.proofs.Common.{◌≡◌, ◌≤◌, ◌+◌, ◌^◌, ◌==◌, ℕ, Bool, true, false, List, [], ◌∷◌, ◌++◌, None, All, IsUtf8, codes, length, map, unwrap_or, refl, sym, ap, subst, ◌∙◌, append_assoc, append-nil, arith}
 use Rattle.std.proofs.lemmas.List.Elements.{All-head, All-tail, All-cons}
 use Rattle.std.proofs.lemmas.Str.{is_utf8-from_IsUtf8}
+use Rattle.edl_law.proofs.RoundTrip.{titled, quiet, numbered, list_read}
 use Rattle.tick_time.specs.declared.rates.Rate.{Rate}
 use Rattle.edl_text.specs.Statements as said
 use Rattle.edl_text.specs.Statements.{Statement}
@@ -53,10 +54,6 @@ pub own_spelled : (rate : Rate) (drop : Bool) (index : ℕ) (notes : List Note) 
 own_spelled rate drop index [] h = h
 own_spelled rate drop index (note ∷ notes) h =
     own_by rate drop index note notes (note.event == index) refl (All-head (λ (n : Note). IsSpelled rate drop n.said) note notes h) (own_spelled rate drop index notes (All-tail (λ (n : Note). IsSpelled rate drop n.said) note notes h))
-
-pub quiet : (rate : Rate) (blocks : List Block) → events_of rate (noted said.Nothing blocks) ≡ events_of rate blocks
-quiet rate [] = refl
-quiet rate (block ∷ blocks) = refl
 
 -- the lines of notes, after those before: they say nothing
 pub record Quiet (rate : Rate) (drop : Bool) (past : List Statement) (notes : List Note) : Type 0 where
@@ -139,36 +136,6 @@ shown_noted rate drop layout notes index (event ∷ events) spelled is labels =
     (shown_lines (own_lines rate drop index notes) (noted_lines_from rate drop layout (index + 1) events notes) (shown_notes rate drop (own_notes index notes) (own_spelled rate drop index notes spelled))
     (shown_noted rate drop layout notes (index + 1) events spelled (All-tail (IsEvent (day_of rate)) event events is) (All-tail (IsLabelled rate drop) event events labels)))
 
--- what the line of a title says
-record Titled (rate : Rate) (lines : List (List ℕ)) : Type 0 where
-  pub now : List Statement
-  pub sound : AreSound rate [] lines now
-  blocks : blocks_in now ≡ []
-
-title_sound : (title : List ℕ) → IsUtf8 title → title_fault 1 title None ≡ None
-title_sound title utf8 = rw (is_utf8-from_IsUtf8 title utf8) refl
-
-titled : (rate : Rate) (text title : List ℕ) → IsUtf8 text → title ≡ cleaned text → Titled rate (headed (codes "TITLE: ") title)
-titled rate text [] utf8 e = record { now = []; sound = refl; blocks = refl }
-titled rate text (b ∷ title) utf8 e =
-    let kept : IsUtf8 (b ∷ title) = subst IsUtf8 (sym e) (cleaned_utf8 text utf8) in
-    record {
-      now = said.Title (b ∷ title) ∷ [];
-      sound = (
-        said.Title (b ∷ title),
-        record {
-          says = subst (λ l. Says (codes "TITLE: " ++ l) (said.Title l)) (sym e) (title_says (cleaned text) (λ none. append_some [] b title (e ∙ none)) (cleaned_tight text));
-          sound = title_sound (b ∷ title) kept;
-        },
-        refl,
-      );
-      blocks = refl;
-    }
-
-pub numbered : (wide : Bool) (n : ℕ) → n ≤ most_events (layout_of wide) → 1 + n ≤ 10 ^ (layout_of wide).number_width
-numbered true n h = omega (arith, h)
-numbered false n h = omega (arith, h)
-
 -- the walk over the lines of a list's events and their notes
 abbrev pub path_of : (list : EventList) (notes : List Note) (drop wide : Bool) (h : HasNotedText list notes drop wide) (start : List Statement) → mode_in start ≡ drop
     → Walk list.rate drop (layout_of wide) 0 start list.events notes
@@ -212,21 +179,8 @@ noted_reading list notes drop wide h =
       first = first;
       shown = shown;
       read = record { title = unwrap_or (title_in past) []; rate = rate; drop = unwrap_or (first_mode_in past) false; events = path.read };
-      reads = record {
-        small = h.small;
-        past = past;
-        sound = subst (λ l. AreSound rate [] l past) (sym (lines_written lines shown)) whole;
-        fine = subst AreFine (sym events) (read_fine rate (length start) list.events path.read path.matched path.rising h.even h.formed.apart);
-        says = record {
-          title = refl;
-          counted = refl;
-          drop = refl;
-          events = record {
-            same = record { moves = []; below = tt; is = sym events };
-            order = read_ordered rate (length start) list.events path.read path.matched path.rising h.formed.order;
-          };
-        };
-      };
+      reads = list_read list (noted_spelling list notes drop wide) (length start) past path.read h.small h.formed h.even
+          (subst (λ l. AreSound rate [] l past) (sym (lines_written lines shown)) whole) events path.matched path.rising;
       same = record { rate = refl; events = matched_same rate list.events path.read path.matched };
       events = refl;
       counted = refl;

@@ -2,6 +2,7 @@
 use Rattle.std.proofs.Common.{◌≡◌, ◌<◌, ◌≤◌, ◌+◌, ◌==◌, ◌⊎◌, inl, inr, ℕ, zero, suc, Bool, true, false, List, [], ◌∷◌, ◌++◌, Some, All, length, slice_get, refl, sym, ap, ap₂, subst, ◌∙◌, arith}
 use Rattle.std.proofs.lemmas.Bool.Decides.{nat_tests}
 use Rattle.std.proofs.lemmas.List.Elements.{All-head, All-tail, All-cons}
+use Rattle.edl_law.proofs.OrderLemmas.{matched_length}
 use Rattle.tick_time.specs.declared.rates.Rate.{Rate}
 use Rattle.edl_list.specs.declared.list.Event.{Event}
 use Rattle.edl_list.specs.declared.list.EventList.{EventList}
@@ -207,13 +208,6 @@ all_back : (reads : List Event) (index : ℕ) (notes : List Note) → AreInOrder
 all_back [] index [] o = refl
 all_back [] index (n ∷ notes) o = let low = o.0 in let high = o.1 in absurd (omega (arith, low, high))
 all_back (r ∷ reads) index notes o = first_back r reads index (all_back reads (index + 1)) notes o
-
--- as many events are read as there are
-pub matched_length : (rate : Rate) (xs ys : List Event) → AreMatched rate xs ys → length xs ≡ length ys
-matched_length rate [] [] h = refl
-matched_length rate [] (y ∷ ys) h = absurd h
-matched_length rate (x ∷ xs) [] h = absurd h
-matched_length rate (x ∷ xs) (y ∷ ys) h = ap suc (matched_length rate xs ys h.1)
 
 -- the notes that are heard are the notes
 pub notes_back : (list : EventList) (reads : List Event) (low : ℕ) (notes : List Note) → AreRising low reads → AreMatched list.rate list.events reads → AreInOrder 0 (length list.events) notes → All (IsOwn list) notes

@@ -20,7 +20,8 @@ use Rattle.note_text.specs.NotedSpelling.{noted_lines_from, noted_lines_in, note
 use Rattle.note_text.specs.declared.notes.Note.{Note}
 use Rattle.note_law.specs.Law.{IsOwn, IsClean, AreOwn, HasNotedText, HasNotesAgain}
 use Rattle.note_law.proofs.LoudLines.{AreLoud, Loud, loud_append, loud_heard, loud_title, loud_mode, plain}
-use Rattle.note_law.proofs.NotedTexts.{noted_reading, numbered, path_of}
+use Rattle.edl_law.proofs.RoundTrip.{numbered}
+use Rattle.note_law.proofs.NotedTexts.{noted_reading, path_of}
 use Rattle.note_law.proofs.NotedHeard.{AllClean, heard_by, walk_heard}
 use Rattle.note_law.proofs.NotesBack.{notes_back}
 

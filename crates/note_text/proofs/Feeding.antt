@@ -1,6 +1,7 @@
 -- A reader of notes that is fed.
 use Rattle.std.proofs.Common.{◌≡◌, ◌≤◌, ◌<◌, ◌+◌, ◌-◌, ◌^◌, ◌==◌, false, ℕ, List, [], ◌∷◌, ◌++◌, length, refl, sym, ap, subst, ◌∙◌, append-nil, length-append, arith}
 use Rattle.std.proofs.lemmas.List.Elements.{All-append}
+use Rattle.edl_text.proofs.Reading.{ended_here, last_here}
 use Rattle.limits.specs.Limits.{most_bytes}
 use Rattle.text_lines.specs.First.{HasNone}
 use Rattle.text_lines.specs.Lines.{lines_of, ended_lines, last_line, without_return}
@@ -46,13 +47,6 @@ heard_more rate bytes piece old new h clear same held =
       held = sym (last_more bytes piece ∙ ap last_line last ∙ last_none new.held.items all);
       unended = all;
     }
-
-ended_here : (bytes line : List ℕ) → line ≡ last_line bytes → HasNone 10 line → ended_lines (bytes ++ 10 ∷ []) ≡ ended_lines bytes ++ without_return line ∷ []
-ended_here bytes line e clear =
-    ended_more bytes (10 ∷ []) ∙ ap (λ l. ended_lines bytes ++ ended_lines (l ++ 10 ∷ [])) (sym e) ∙ ap (λ l. ended_lines bytes ++ l) (ended_at line [] clear ∙ ap (λ l. without_return line ∷ l) no_lines)
-
-last_here : (bytes line : List ℕ) → line ≡ last_line bytes → HasNone 10 line → last_line (bytes ++ 10 ∷ []) ≡ []
-last_here bytes line e clear = last_more bytes (10 ∷ []) ∙ ap (λ l. last_line (l ++ 10 ∷ [])) (sym e) ∙ last_at line [] clear ∙ no_last
 
 -- the end of a line
 pub line_ended : (rate : Rate) (bytes line : List ℕ) (old new : NoteReader) → HasHeard rate bytes old → line ≡ without_return old.held.items → Goes line old.hearing new.hearing

@@ -12,6 +12,7 @@ use Rattle.text_lines.specs.Lines.{fields_of, trimmed_front}
 use Rattle.text_lines.proofs.Trimming.{front_blanks, front_split, front_tight}
 use Rattle.edl_text.specs.Notes.{IsBehind}
 use Rattle.edl_text.proofs.NoteTexts.{behind_unique, behind_is, behind_not}
+use Rattle.limits.proofs.ListLemmas.{test-one_way}
 use Rattle.note_text.specs.Forms.{IsAfter, IsFirstWord, last, more, IsColor, IsLocator, AreNumerals, IsTriple, IsCorrection, IsSaturation, coloned, spaced, IsNote, IsNoteBehind}
 use Rattle.note_text.specs.StateForms.{HasColon, colon, bare}
 use Rattle.note_text.specs.declared.notes.Triple.{Triple}
@@ -21,9 +22,6 @@ use Rattle.note_text.proofs.WordLemmas.{after_is, after_unique}
 
 -- ---- first words
 
-clash : (b : Bool) → b ≡ true → b ≡ false → ⊥
-clash b p q = let e = sym p ∙ q in absurd (cc)
-
 no_blank_in : (xs : List ℕ) (b : ℕ) (ys : List ℕ) → HasNoBlank (xs ++ b ∷ ys) → is_blank b ≡ false
 no_blank_in [] b ys h = All-head (λ x. is_blank x ≡ false) b ys h
 no_blank_in (x ∷ xs) b ys h = no_blank_in xs b ys (All-tail (λ x. is_blank x ≡ false) x (xs ++ b ∷ ys) h)
@@ -31,8 +29,8 @@ no_blank_in (x ∷ xs) b ys h = no_blank_in xs b ys (All-tail (λ x. is_blank x 
 -- two words up to a first blank are the same
 words_same : (a b : List ℕ) (c d : ℕ) (x y : List ℕ) → HasNoBlank a → HasNoBlank b → is_blank c ≡ true → is_blank d ≡ true → a ++ c ∷ x ≡ b ++ d ∷ y → a ≡ b
 words_same [] [] c d x y p q is_c is_d e = refl
-words_same [] (h ∷ b) c d x y p q is_c is_d e = let same : c ≡ h = cc in absurd (clash (is_blank h) (ap is_blank (sym same) ∙ is_c) (All-head (λ x. is_blank x ≡ false) h b q))
-words_same (h ∷ a) [] c d x y p q is_c is_d e = let same : h ≡ d = cc in absurd (clash (is_blank h) (ap is_blank same ∙ is_d) (All-head (λ x. is_blank x ≡ false) h a p))
+words_same [] (h ∷ b) c d x y p q is_c is_d e = let same : c ≡ h = cc in absurd (test-one_way (is_blank h) (ap is_blank (sym same) ∙ is_c) (All-head (λ x. is_blank x ≡ false) h b q))
+words_same (h ∷ a) [] c d x y p q is_c is_d e = let same : h ≡ d = cc in absurd (test-one_way (is_blank h) (ap is_blank same ∙ is_d) (All-head (λ x. is_blank x ≡ false) h a p))
 words_same (h ∷ a) (k ∷ b) c d x y p q is_c is_d e =
     let first : h ≡ k = cc in
     let rest : a ++ c ∷ x ≡ b ++ d ∷ y = cc in
@@ -54,10 +52,10 @@ pub first_unique : (line a r b s : List ℕ) → IsFirstWord line a r → IsFirs
 first_unique line a r b s (last p e f) (last q g h) = (e ∙ sym g, f ∙ sym h)
 first_unique line a r b s (last p e f) (more q g) =
     let k = blanks_of b line s g.blanks g.some g.are_blanks g.is in
-    absurd (clash (is_blank k.first) k.is (no_blank_in b k.first (k.others ++ s) (subst HasNoBlank k.split p)))
+    absurd (test-one_way (is_blank k.first) k.is (no_blank_in b k.first (k.others ++ s) (subst HasNoBlank k.split p)))
 first_unique line a r b s (more p e) (last q g h) =
     let k = blanks_of a line r e.blanks e.some e.are_blanks e.is in
-    absurd (clash (is_blank k.first) k.is (no_blank_in a k.first (k.others ++ r) (subst HasNoBlank k.split q)))
+    absurd (test-one_way (is_blank k.first) k.is (no_blank_in a k.first (k.others ++ r) (subst HasNoBlank k.split q)))
 first_unique line a r b s (more p e) (more q g) =
     let k = blanks_of a line r e.blanks e.some e.are_blanks e.is in
     let l = blanks_of b line s g.blanks g.some g.are_blanks g.is in
@@ -116,8 +114,8 @@ close_in (x ∷ xs) ys h = close_in xs ys (All-tail (λ b. (b == 41) ≡ false) 
 
 parts_same : (a b x y : List ℕ) → HasNone 41 a → HasNone 41 b → a ++ 41 ∷ x ≡ b ++ 41 ∷ y → (a ≡ b) × (x ≡ y)
 parts_same [] [] x y p q e = let k : x ≡ y = cc in (refl, k)
-parts_same [] (h ∷ b) x y p q e = let k : h ≡ 41 = cc in absurd (clash (41 == 41) refl (ap (λ z. z == 41) (sym k) ∙ All-head (λ b. (b == 41) ≡ false) h b q))
-parts_same (h ∷ a) [] x y p q e = let k : h ≡ 41 = cc in absurd (clash (41 == 41) refl (ap (λ z. z == 41) (sym k) ∙ All-head (λ b. (b == 41) ≡ false) h a p))
+parts_same [] (h ∷ b) x y p q e = let k : h ≡ 41 = cc in absurd (test-one_way (41 == 41) refl (ap (λ z. z == 41) (sym k) ∙ All-head (λ b. (b == 41) ≡ false) h b q))
+parts_same (h ∷ a) [] x y p q e = let k : h ≡ 41 = cc in absurd (test-one_way (41 == 41) refl (ap (λ z. z == 41) (sym k) ∙ All-head (λ b. (b == 41) ≡ false) h a p))
 parts_same (h ∷ a) (k ∷ b) x y p q e =
     let first : h ≡ k = cc in
     let rest : a ++ 41 ∷ x ≡ b ++ 41 ∷ y = cc in
@@ -257,7 +255,7 @@ numeral_by true whole x back some h e = minus_colon x (whole ++ back) e
 numeral_by false whole x back some h e = whole_colon whole x back some h e
 
 -- no numeral begins with a colon
-colon_no_numeral : (x : List ℕ) → IsNumeral (58 ∷ x) → ⊥
+pub colon_no_numeral : (x : List ℕ) → IsNumeral (58 ∷ x) → ⊥
 colon_no_numeral x h = numeral_by h.0.neg h.0.whole x _ h.1.int.some (of_digits h.0.whole h.1.int.all) h.1.spelled
 
 -- what stands after a word and blanks

@@ -10,3 +10,5 @@ pub mod SortedNotes
 pub mod SourceFrames
 pub mod OwnerLemmas
 pub mod FirstShown
+pub mod KeyRuns
+pub mod NotedLists

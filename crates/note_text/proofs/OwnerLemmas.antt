@@ -15,65 +15,7 @@ use Rattle.note_text.specs.declared.notes.Said.{Said}
 use Rattle.note_text.specs.declared.notes.Note.{Note}
 use Rattle.note_text.specs.declared.notes.Heard.{Heard}
 use Rattle.note_text.specs.declared.reading.Owner.{Owner}
-use Rattle.note_text.proofs.SortedNotes.{tie}
-
-none_pass : (line : ℕ) (xs : List Owner) → ((i : ℕ) (d : Owner) → i < length xs → ((slice_index_or xs i d).line == line) ≡ false)
-    → filter (λ (o : Owner). o.line == line) xs ≡ []
-none_pass line [] h = refl
-none_pass line (x ∷ xs) h = rw (h 0 x (omega arith)) (none_pass line xs (λ i d k. h (suc i) d (omega (arith, k))))
-
-all_pass : (line : ℕ) (xs : List Owner) → ((i : ℕ) (d : Owner) → i < length xs → ((slice_index_or xs i d).line == line) ≡ true)
-    → filter (λ (o : Owner). o.line == line) xs ≡ xs
-all_pass line [] h = refl
-all_pass line (x ∷ xs) h = rw (h 0 x (omega arith)) (ap (λ l. x ∷ l) (all_pass line xs (λ i d k. h (suc i) d (omega (arith, k)))))
-
-below : (a b : ℕ) → nat_lt a b ≡ true → (a == b) ≡ false
-below a b e = grind (arith, nat_tests, e)
-
-level : (a b : ℕ) → nat_lt a b ≡ false → nat_le a b ≡ true → (a == b) ≡ true
-level a b e f = grind (arith, nat_tests, e, f)
-
-past : (a b : ℕ) → nat_le a b ≡ false → (a == b) ≡ false
-past a b e = grind (arith, nat_tests, e)
-
--- the owners of a line are those from the first that isn't below it to the last that isn't above it
-pub at_line : (line : ℕ) (xs rest : List Owner) (from to : ℕ) → from ≤ length xs → to ≤ length rest → rest ≡ drop from xs
-    → IsPartitionPoint (λ (o : Owner). nat_lt o.line line ≡ true) (λ o. nat_lt o.line line ≡ false) xs from
-    → IsPartitionPoint (λ (o : Owner). nat_le o.line line ≡ true) (λ o. nat_le o.line line ≡ false) rest to
-    → take to rest ≡ filter (λ (o : Owner). o.line == line) xs
-at_line line xs rest from to low high is first second =
-    let p : Owner → Bool = λ o. o.line == line in
-    let short = length-take-le from xs low in
-    let brief = length-take-le to rest high in
-    let left : length rest ≡ length xs - from = ap length is ∙ length-drop from xs in
-    let behind = length-drop to rest in
-    let front : filter p (take from xs) ≡ [] = none_pass line (take from xs) (λ i d k.
-    let w : i < from = omega (arith, k, short) in
-    subst (λ (o : Owner). (o.line == line) ≡ false) (sym (get_or-take from xs i d w)) (below _ line (first.0 i d (omega arith) w))) in
-    let at : (i : ℕ) (d : Owner) → slice_index_or rest i d ≡ slice_index_or xs (from + i) d = λ i d. ap (λ l. slice_index_or l i d) is ∙ get_or-drop from xs i d in
-    let middle : filter p (take to rest) ≡ take to rest = all_pass line (take to rest) (λ i d k.
-    let w : i < to = omega (arith, k, brief) in
-    let low2 : nat_lt (slice_index_or rest i d).line line ≡ false =
-    subst (λ (o : Owner). nat_lt o.line line ≡ false) (sym (at i d)) (first.1 (from + i) d (omega arith) (omega (arith, w, high, left, low))) in
-    subst (λ (o : Owner). (o.line == line) ≡ true) (sym (get_or-take to rest i d w)) (level _ line low2 (second.0 i d (omega arith) w))) in
-    let back : filter p (drop to rest) ≡ [] = none_pass line (drop to rest) (λ i d k.
-    subst (λ (o : Owner). (o.line == line) ≡ false) (sym (get_or-drop to rest i d)) (past _ line (second.1 (to + i) d (omega arith) (omega (arith, k, behind, high))))) in
-    let tail : filter p rest ≡ take to rest =
-    ap (filter p) (sym (take-append-drop to rest)) ∙ filter-append p (take to rest) (drop to rest)
-    ∙ ap (λ l. filter p (take to rest) ++ l) back ∙ append-nil (filter p (take to rest)) ∙ middle in
-    let whole : filter p xs ≡ filter p rest =
-    ap (filter p) (sym (take-append-drop from xs)) ∙ filter-append p (take from xs) (drop from xs)
-    ∙ ap (λ l. l ++ filter p (drop from xs)) front ∙ ap (filter p) (sym is) in
-    sym (whole ∙ tail)
-
--- a stable sort keeps the owners of each line
-pub line_sorted : (owners sorted : List Owner) → IsStableByKey (λ (o : Owner). o.line) nat_cmp owners sorted → (line : ℕ)
-    → filter (λ (o : Owner). o.line == line) sorted ≡ filter (λ (o : Owner). o.line == line) owners
-line_sorted owners sorted stable line =
-    let one : Owner = record { line = line; index = 0 } in
-    let agree : (xs : List Owner) → filter (ties (λ (a b : Owner). is_lt (nat_cmp a.line b.line)) one) xs ≡ filter (λ (o : Owner). o.line == line) xs =
-    filter_agree (ties (λ (a b : Owner). is_lt (nat_cmp a.line b.line)) one) (λ (o : Owner). o.line == line) (λ (o : Owner). tie line o.line) in
-    sym (agree sorted) ∙ stable one ∙ agree owners
+use Rattle.note_text.proofs.KeyRuns.{run-kept_by_sort}
 
 owners_push : (k : ℕ) (es : List Event) (e : Event) → owners_from k (es ++ e ∷ []) ≡ owners_from k es ++ owners_from (k + length es) (e ∷ [])
 owners_push k [] e = let z : k + 0 ≡ k = omega arith in ap (λ n. owners_from n (e ∷ [])) (sym z)
@@ -178,14 +120,11 @@ said_next rate es hs i h owners old new within is are put before =
     put ∙ ap (λ l. l ++ notes_given rate es h.said (filter (λ (o : Owner). o.line == h.line) owners)) before ∙ ap (λ l. notes_said rate es (take i hs) ++ l) same
     ∙ sym (ap (notes_said rate es) taken ∙ said_push rate es (take i hs) h)
 
-pub rising_on : (xs rest : List Owner) (from : ℕ) → rest ≡ drop from xs → IsNonDecreasingBy (λ (o : Owner). o.line) xs → IsNonDecreasingBy (λ (o : Owner). o.line) rest
-rising_on xs rest from is up = subst (IsNonDecreasingBy (λ (o : Owner). o.line)) (sym is) (IsNonDecreasingBy-drop (λ (o : Owner). o.line) from xs up)
-
 pub owners_are : (es : List Event) (owners sorted : List Owner) → owners ≡ owners_from 0 es → IsStableByKey (λ (o : Owner). o.line) nat_cmp owners sorted
     → IsNonDecreasingBy (λ (o : Owner). o.line) sorted → AreOwners es sorted
 owners_are es owners sorted is stable up = record {
   rising = up;
-  same = λ line. line_sorted owners sorted stable line ∙ ap (filter (λ (o : Owner). o.line == line)) is;
+  same = λ line. run-kept_by_sort (λ (o : Owner). o.line) owners sorted stable line ∙ ap (filter (λ (o : Owner). o.line == line)) is;
 }
 
 -- the same of the owner at a place

@@ -7,6 +7,7 @@ use Rattle.std.specs.Int.Signed.{quot_z, le_z, lt_z}
 use Rattle.std.proofs.lemmas.Int.{ints, to_z-of_z}
 use Rattle.std.proofs.lemmas.Nat.{mul-le}
 use Rattle.std.proofs.Math.Nat.{mul-div-le}
+use Rattle.limits.proofs.IntegerSums.{multiple-from_zero}
 use Rattle.tick_time.specs.declared.rates.Rate.{Rate}
 use Rattle.smpte_tc.specs.declared.modes.Mode.{Mode}
 use Rattle.smpte_tc.specs.Modes.{mode_of}
@@ -67,10 +68,6 @@ shown_low rate side k h s low high =
     let src = s.src_in in let from = src.low in
     omega (arith, ints, same, more, from)
 
-product_low : (z : ℤ) (n : ℕ) → pos 0 ≤ℤ z → pos 0 ≤ℤ (z *ℤ pos n)
-product_low (pos k) n h = omega (arith, ints)
-product_low (negsuc k) n h = absurd (omega (arith, ints, h))
-
 -- a product of frames that isn't negative makes a time exactly where it is small enough
 pub timed : {E : Type 0} (X : E → Type 0) (r : Result Time E) (z : ℤ) (n : ℕ) → pos 0 ≤ℤ z
     → IfOk r (λ time. time.ticks ≡ z *ℤ pos n)
@@ -86,7 +83,7 @@ timed X (Err fault) z n low ok err = by (int_le (z *ℤ pos n) (pos most_ticks))
     by false e = refl
     by true e =
         let h : (z *ℤ pos n) ≤ℤ pos most_ticks = grind (arith, ints, e) in
-        let l = product_low z n low in
+        let l = multiple-from_zero z n low in
         absurd (err.1 (record { low = omega (arith, ints, l); high = h }))
 
 -- the frame lies in a span

@@ -62,6 +62,10 @@ pub record AreNotes (bytes : List ℕ) (list : EventList) (notes : List Note) : 
 abbrev pub own_notes : ℕ → List Note → List Note
 own_notes index notes = filter (λ note. note.event == index) notes
 
+-- each event has the same notes among both
+abbrev pub HaveSameOwn : (a b : List Note) → Type 0
+HaveSameOwn a b = (index : ℕ) → own_notes index b ≡ own_notes index a
+
 -- what a note says can be written at a rate, with drop-frame or without: the frame of a locator is
 -- one of the day
 abbrev pub IsSaidBelowDay : Rate → Bool → Said → Type 0

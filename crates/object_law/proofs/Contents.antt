@@ -41,11 +41,11 @@ use Rattle.object_law.proofs.FoundMembers.{others_twice}
 use Rattle.object_law.proofs.HeldValues.{still_speed, no_children}
 use Rattle.std.proofs.lemmas.Bool.{false≢true}
 use Rattle.sequences.specs.Pairs.{value_of}
-use Rattle.schema_rows.specs.declared.old_names.Form.{Form}
-use Rattle.schema_rows.specs.declared.old_names.Row.TheVariants.{Object as ObjectRow, Objects, Media as MediaRow}
-use Rattle.schema_rows.specs.Names.{schema_in}
-use Rattle.schema_rows.specs.Upgrades.{upgraded_at, items_at, pairs_at, map_at}
-use Rattle.schema_rows.proofs.Levels.{upgraded_at-List, upgraded_at-Map}
+use Rattle.schema_up.specs.declared.old_names.Form.{Form}
+use Rattle.schema_up.specs.declared.old_names.Row.TheVariants.{Object as ObjectRow, Objects, Media as MediaRow}
+use Rattle.schema_up.specs.Names.{schema_in}
+use Rattle.schema_up.specs.Upgrades.{upgraded_at, items_at, pairs_at, map_at}
+use Rattle.schema_up.proofs.Levels.{upgraded_at-List, upgraded_at-Map}
 use Rattle.schema_rows.proofs.JsonParts.{list_once, map_once}
 use Rattle.object_law.proofs.UpgradedMembers.{Stays, RowsStay, are_flat, all_flat, flat_among, named_name, rows_stay}
 use Rattle.object_law.proofs.StillSpeeds.{all_still, all_break, not_null}

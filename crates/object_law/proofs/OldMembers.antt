@@ -9,16 +9,16 @@ use Rattle.json_value.specs.declared.Json.TheVariants as J
 use Rattle.json_value.specs.declared.Json.TheOpen.{Json-F}
 use Rattle.sequences.specs.Pairs.{value_of, put}
 use Rattle.schema_rows.specs.Rows.{Row as TableRow}
-use Rattle.schema_rows.specs.declared.old_names.Form.{Form}
-use Rattle.schema_rows.specs.declared.old_names.Form.TheVariants as F
-use Rattle.schema_rows.specs.declared.old_names.Row.{Row}
-use Rattle.schema_rows.specs.declared.old_names.Row.TheVariants.{Kept, Object, Objects, Media}
-use Rattle.schema_rows.specs.Names.{schema_in, schema_or_other, schema_named, string_in}
-use Rattle.schema_rows.specs.UpgradeRows.{row_of, where_holds}
-use Rattle.schema_rows.specs.Upgrades.{Pairs, upgraded, upgraded_at, pair_at, pairs_at, map_at, renewed, renewed_at, without, named_anew}
+use Rattle.schema_up.specs.declared.old_names.Form.{Form}
+use Rattle.schema_up.specs.declared.old_names.Form.TheVariants as F
+use Rattle.schema_up.specs.declared.old_names.Row.{Row}
+use Rattle.schema_up.specs.declared.old_names.Row.TheVariants.{Kept, Object, Objects, Media}
+use Rattle.schema_up.specs.Names.{schema_in, schema_or_other, schema_named, string_in}
+use Rattle.schema_up.specs.UpgradeRows.{row_of, where_holds}
+use Rattle.schema_up.specs.Upgrades.{Pairs, upgraded, upgraded_at, pair_at, pairs_at, map_at, renewed, renewed_at, without, named_anew}
 use Rattle.schema_rows.specs.Schemas.{schema_key}
 use Rattle.schema_rows.specs.Families.{others}
-use Rattle.schema_rows.proofs.Levels.{upgraded_at-Map, upgraded_at-Str, kept_same}
+use Rattle.schema_up.proofs.Levels.{upgraded_at-Map, upgraded_at-Str, kept_same}
 use Rattle.schema_write.specs.Written.{named_values}
 use Rattle.schema_write.proofs.Distinct.{fixed, Excludes}
 use Rattle.object_law.proofs.FoundMembers.{differs}

@@ -36,15 +36,15 @@ use Rattle.schema_rows.specs.Rows.{Row}
 use Rattle.schema_rows.specs.declared.schemas.Schema.{Schema}
 use Rattle.schema_rows.specs.declared.schemas.Schema.TheVariants as S
 use Rattle.schema_rows.specs.declared.schemas.TheConstants as C
-use Rattle.schema_rows.specs.declared.old_names.Form.{Form}
-use Rattle.schema_rows.specs.declared.old_names.Form.TheVariants as F
-use Rattle.schema_rows.specs.declared.old_names.Row.TheVariants.{Kept, Object as ObjectRow, Objects}
-use Rattle.schema_rows.specs.Names.{schema_in, schema_named}
-use Rattle.schema_rows.specs.UpgradeRows.{row_of}
-use Rattle.schema_rows.specs.Upgrades.{Pairs, upgraded, upgraded_at, items_at, pairs_at, renewed, without, named_anew, missing, medium_in, medium_of, media_of, second_marker, second_clip}
+use Rattle.schema_up.specs.declared.old_names.Form.{Form}
+use Rattle.schema_up.specs.declared.old_names.Form.TheVariants as F
+use Rattle.schema_up.specs.declared.old_names.Row.TheVariants.{Kept, Object as ObjectRow, Objects}
+use Rattle.schema_up.specs.Names.{schema_in, schema_named}
+use Rattle.schema_up.specs.UpgradeRows.{row_of}
+use Rattle.schema_up.specs.Upgrades.{Pairs, upgraded, upgraded_at, items_at, pairs_at, renewed, without, named_anew, missing, medium_in, medium_of, media_of, second_marker, second_clip}
 use Rattle.schema_rows.specs.Schemas.{schema_key, rows_of, text_of, name_of, version_of, named}
 use Rattle.schema_rows.specs.Families.{others, child, member, medium}
-use Rattle.schema_rows.proofs.Levels.{upgraded_at-Map, upgraded_at-Str, upgraded_at-List, kept_same}
+use Rattle.schema_up.proofs.Levels.{upgraded_at-Map, upgraded_at-Str, upgraded_at-List, kept_same}
 use Rattle.schema_write.specs.Written.{named_values, written, written_old, old_others}
 use Rattle.schema_write.specs.Objects.{span_json, offset_json, effects_json, mark_json, old_mark_json, marker_by, markers_by, marker_json, markers_json, medium_json, media_json, medium_pair, reference_json, clip_json, old_clip_json, newer, older, gap_in, transition_json, stack_by, track_by, children_in, item_in, timeline_in, collection_in, object_in, object_step, collection_step, old_json_of}
 use Rattle.schema_write.specs.OldForms.{is_default, is_one_default, has_one_key, has_member, has_range, clip_fault, markers_fault, old_fault_of, held_in, HasOldForm}
@@ -60,7 +60,7 @@ use Rattle.schema_write.specs.declared.old_faults.OldFault.TheVariants.{Keys, Me
 use Rattle.object_law.specs.Writable as Q
 use Rattle.object_law.specs.Writable.{AreMedia, AreEffects, IsItem, IsStack, IsTrack, AreItems, IsTimeline, IsObject, AreObjects}
 use Rattle.otio_model.specs.Misplaced.{side_by_side}
-use Rattle.schema_write.specs.OldWalk.{HasOldItem}
+use Rattle.schema_write.specs.OldWalk.{AreOld, into_item}
 use Rattle.schema_write.proofs.Trees.{children_are, collection_is}
 use Rattle.object_law.proofs.Leaves.{map_not_null}
 use Rattle.object_law.proofs.FoundMembers.{Holds, HoldsAll, row_stands, differs}
@@ -69,6 +69,10 @@ use Rattle.object_law.proofs.NamedSchemas.{schema_text, written_stands}
 use Rattle.object_law.proofs.Writables.{span_held, effects_held, markers_held, media_held, or_none, HasItems, among_items, among_roots, offset_held, gap_given, transition_given}
 use Rattle.object_law.proofs.OldMembers.{schema_first, Become, named_become, Stay, stay_same, pairs_append, object_becomes, Lacks, value_lacks, without_lacks, put_lacks, put_end, filter_lacks, lacks_by, others_stay, others_lack, where_not}
 use Rattle.object_law.proofs.OldClips.{transition_same, list_become, markers_free, gap_upgraded, clip_old}
+
+-- the item and all below it have a form in the older family
+abbrev HasOldItem : ItemOf Listed → Type 0
+HasOldItem x = AreOld (into_item x)
 
 -- items by places: nothing stands in the way of one of them
 abbrev AllOld : List (ItemOf Listed) → Type 0

@@ -5,7 +5,7 @@ use Rattle.std.specs.List.{before_first, after_first, position_or_len, list_all}
 use Rattle.std.specs.Char.{is_ascii_digit, digit_value}
 use Rattle.std.specs.Str.Parse.{AllDigits, digits_value}
 use Rattle.std.proofs.lemmas.Bool.Decides.{nat_tests}
-use Rattle.schema_rows.specs.Names.{is_point, version_in, schema_named, named}
+use Rattle.schema_up.specs.Names.{is_point, version_in, schema_named, named}
 use Rattle.schema_rows.specs.Schemas.{IsSchemaText}
 
 -- a name without points, a point and digits

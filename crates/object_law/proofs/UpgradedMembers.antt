@@ -12,15 +12,15 @@ use Rattle.schema_rows.specs.Rows as R
 use Rattle.schema_rows.specs.Rows.{Row, RowKind}
 use Rattle.schema_rows.specs.declared.schemas.Schema.{Schema}
 use Rattle.schema_rows.specs.declared.schemas.Schema.TheVariants as S
-use Rattle.schema_rows.specs.declared.old_names.Form.{Form}
-use Rattle.schema_rows.specs.declared.old_names.Form.TheVariants as F
-use Rattle.schema_rows.specs.declared.old_names.Row.{Row as Place}
-use Rattle.schema_rows.specs.declared.old_names.Row.TheVariants.{Kept, Object, Objects, Media}
-use Rattle.schema_rows.specs.Names.{schema_in, schema_or_other, schema_named, string_in, text_at, named as form_named}
-use Rattle.schema_rows.specs.UpgradeRows.{row_of}
-use Rattle.schema_rows.specs.Upgrades.{Pairs, upgraded, upgraded_at, pairs_at, map_at, renewed, second_clip, clip_kept, media_of, medium_of}
+use Rattle.schema_up.specs.declared.old_names.Form.{Form}
+use Rattle.schema_up.specs.declared.old_names.Form.TheVariants as F
+use Rattle.schema_up.specs.declared.old_names.Row.{Row as Place}
+use Rattle.schema_up.specs.declared.old_names.Row.TheVariants.{Kept, Object, Objects, Media}
+use Rattle.schema_up.specs.Names.{schema_in, schema_or_other, schema_named, string_in, text_at, named as form_named}
+use Rattle.schema_up.specs.UpgradeRows.{row_of}
+use Rattle.schema_up.specs.Upgrades.{Pairs, upgraded, upgraded_at, pairs_at, map_at, renewed, second_clip, clip_kept, media_of, medium_of}
 use Rattle.schema_rows.specs.Schemas.{schema_key, rows_of, name_of, named, IsObjectOf}
-use Rattle.schema_rows.proofs.Levels.{upgraded_at-Map, kept_same}
+use Rattle.schema_up.proofs.Levels.{upgraded_at-Map, kept_same}
 use Rattle.schema_rows.proofs.JsonParts.{map_once, str_once}
 use Rattle.object_law.specs.Writable.{IsUpgraded}
 use Rattle.object_law.proofs.SchemaForms.{form_is}

@@ -10,7 +10,7 @@ use Rattle.otio_model.specs.Patches.{target, IsFit, applied}
 use Rattle.otio_model.specs.Trees.{items_of}
 use Rattle.otio_model.specs.Misplaced.{side_by_side}
 use Rattle.schema_rows.specs.Stands.{Stands}
-use Rattle.schema_rows.specs.Upgrades.{upgraded}
+use Rattle.schema_up.specs.Upgrades.{upgraded}
 use Rattle.schema_write.specs.Objects.{json_of, old_json_of}
 use Rattle.schema_write.specs.OldForms.{HasOldForm}
 use Rattle.object_law.specs.Writable.{IsUpgraded, AreItems, IsTimeline, IsObject}

@@ -32,7 +32,7 @@ use Rattle.schema_rows.specs.Schemas.{rows_of, IsForeign}
 use Rattle.schema_rows.specs.Readings.{plain_schema}
 use Rattle.otio_model.specs.Misplaced.{side_by_side, is_negative}
 use Rattle.schema_rows.specs.Families.{others}
-use Rattle.schema_rows.specs.Upgrades.{upgraded}
+use Rattle.schema_up.specs.Upgrades.{upgraded}
 
 -- an upgrade leaves the value as it is: no old name or version is left in it
 abbrev pub IsUpgraded : Json → Type 0

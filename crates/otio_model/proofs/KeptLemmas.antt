@@ -34,7 +34,7 @@ added-append [] ns = omega arith
 added-append (None ∷ ms) ns = added-append ms ns
 added-append ((Some m) ∷ ms) ns = omega (arith, added-append ms ns)
 
-greatest-append : (ms ns : List (Option ℕ)) → greatest (ms ++ ns) ≡ max (greatest ms) (greatest ns)
+pub greatest-append : (ms ns : List (Option ℕ)) → greatest (ms ++ ns) ≡ max (greatest ms) (greatest ns)
 greatest-append [] ns = omega arith
 greatest-append (None ∷ ms) ns = greatest-append ms ns
 greatest-append ((Some m) ∷ ms) ns = omega (arith, greatest-append ms ns)
@@ -60,7 +60,7 @@ pub reach-append : (xs ys : List (ItemOf Listed))
 reach-append [] ys = omega arith
 reach-append (x ∷ xs) ys = omega (arith, reach-append xs ys)
 
-mapped-append : {A B : Type 0} (f : A → B) (xs ys : List A)
+pub mapped-append : {A B : Type 0} (f : A → B) (xs ys : List A)
     → map f (xs ++ ys) ≡ map f xs ++ map f ys
 mapped-append f [] ys = refl
 mapped-append f (x ∷ xs) ys = ap (λ l. f x ∷ l) (mapped-append f xs ys)

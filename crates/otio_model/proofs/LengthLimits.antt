@@ -23,15 +23,15 @@ use Rattle.otio_model.proofs.Known.{Known, forgotten}
 use Rattle.otio_model.proofs.Adding.{lengths-listed, longest_known, sum_known}
 
 -- the length of a source_range, else of another range
-abbrev len_of : Option Span → Option Range → ℕ
+abbrev pub len_of : Option Span → Option Range → ℕ
 len_of s o = or_zero (option_map (λ (r : Range). r.len) (option_or (option_map range_of s) o))
 
-clip_small : (s a : Option Span) → len_of s (option_map range_of a) ≤ most_ticks
+pub clip_small : (s a : Option Span) → len_of s (option_map range_of a) ≤ most_ticks
 clip_small None None = omega arith
 clip_small None (Some a) = span_small a
 clip_small (Some s) a = span_small s
 
-gap_small : (s : Option Span) → len_of s (Some (from_zero 0)) ≤ most_ticks
+pub gap_small : (s : Option Span) → len_of s (Some (from_zero 0)) ≤ most_ticks
 gap_small None = omega arith
 gap_small (Some s) = span_small s
 

@@ -1,15 +1,37 @@
 -- A patch that fits, and for which there is room.
-use Rattle.std.proofs.Common.{◌≡◌, ℕ, ◌+◌, ◌≤◌, List, Option, Some, None, Result, Ok, Err, ap, sym}
+use Rattle.std.proofs.Common.{◌≡◌, ℕ, ◌+◌, ◌*◌, ◌/◌, ◌≤◌, arith, List, Option, Some, None, Result, Ok, Err, ap, sym}
 use Rattle.std.proofs.Common.{◌∙◌, length, subst}
-use Rattle.std.specs.Prelude.{IsSomeAnd, IfSome, OnOk}
+use Rattle.std.specs.Prelude.{IsSomeAnd, IfSome, OnOk, vec_len}
+use Rattle.std.specs.Vec.{vec_capacity}
 use Rattle.std.specs.declared.alloc.AllocError.{AllocError}
 use Rattle.otio_model.specs.declared.patches.Patch.{Patch}
 use Rattle.otio_model.specs.declared.timelines.Timeline.{Timeline}
 use Rattle.otio_model.specs.declared.compositions.Listed.{Listed}
 use Rattle.otio_model.specs.Trees.{items_of}
 use Rattle.otio_model.specs.Edits.{list_at}
-use Rattle.otio_model.specs.Rooms.{Suits}
+use Rattle.otio_model.specs.Rooms.{Room, Suits}
+use Rattle.otio_model.specs.Spares.{room_of}
+use Rattle.otio_model.specs.declared.reserve.Spare.TheInside.{Inside}
 use Rattle.otio_model.specs.Patches.{Fits, IsRoomFor}
+
+-- the vectors of a spare have room for a replacement
+pub record HasRoom (s : Inside) (count long put : ℕ) : Type 0 where
+  pub mid : 2 * count + 384 + put ≤ vec_capacity s.mid
+  pub outer : long / 32 + 1 + vec_len s.fresh ≤ vec_capacity s.outer
+  pub fresh : 2 * count + 384 + put ≤ 32 * vec_len s.fresh
+  pub taken : count ≤ vec_capacity s.taken
+
+pub has_room : (s : Inside) (r : Room) (count long put : ℕ) → room_of s ≡ r → Suits count long put r
+    → HasRoom s count long put
+has_room s r count long put e h =
+    let same : (room_of s).room ≡ r.room = ap (λ (q : Room). q.room) e in
+    let handed : (room_of s).taken ≡ r.taken = ap (λ (q : Room). q.taken) e in
+    record {
+      mid = omega (arith, same, h.room);
+      outer = omega (arith, same, h.room);
+      fresh = omega (arith, same, h.room);
+      taken = omega (arith, handed, h.taken);
+    }
 
 both : (o : Option Listed) (P Q : Listed → Type 0) → IsSomeAnd o P → IfSome o Q
     → IsSomeAnd o (λ l. P l × Q l)

@@ -2,30 +2,28 @@
 use Rattle.std.proofs.Common.{◌≡◌, refl, ◌≤◌, Bool, true, false, cond, List, [], ◌∷◌, Option}
 use Rattle.std.proofs.Common.{Some, None, IfSome, ℤ, pos, ◌-ℤ◌, ◌*ℤ◌, ◌≤ℤ◌, arith}
 use Rattle.std.specs.Prelude.{int_le, unsigned_abs}
+use Rattle.std.proofs.lemmas.Bool.{and_parts}
 use Rattle.std.proofs.lemmas.Int.{ints, unsigned_abs-mul}
 use Rattle.std.proofs.lemmas.Nat.{mul-le}
+use Rattle.limits.proofs.IntegerTests.{int_le-true}
 use Rattle.tick_time.specs.Times.{IsSpeed, is_speed}
-use Rattle.tick_time.proofs.BoolLemmas.{both}
 use Rattle.otio_model.specs.declared.effect_types.Effect.{Effect}
 use Rattle.otio_model.specs.Speeds.{next_speed, combined, keeps_speed, kept_speed}
-
-at_most : (a b : ℤ) → int_le a b ≡ true → a ≤ℤ b
-at_most a b e = grind (arith, ints)
 
 -- a speed that passes the test is one
 pub speed_of_test : (speed : ℤ) → is_speed speed ≡ true → IsSpeed speed
 speed_of_test speed e =
-    let p = both (int_le (pos 0 -ℤ pos 1000000000) speed) (int_le speed (pos 1000000000)) e in
+    let p = and_parts (int_le (pos 0 -ℤ pos 1000000000) speed) (int_le speed (pos 1000000000)) e in
     record {
-      low = at_most (pos 0 -ℤ pos 1000000000) speed p.0;
-      high = at_most speed (pos 1000000000) p.1;
+      low = int_le-true (pos 0 -ℤ pos 1000000000) speed p.0;
+      high = int_le-true speed (pos 1000000000) p.1;
     }
 
 combined_speed : (speed : ℤ) (es : List Effect) → IsSpeed speed → keeps_speed speed es ≡ true
     → IsSpeed (combined speed es)
 combined_speed speed [] h e = h
 combined_speed speed (x ∷ xs) h e =
-    let p = both (is_speed (next_speed speed x)) (keeps_speed (next_speed speed x) xs) e in
+    let p = and_parts (is_speed (next_speed speed x)) (keeps_speed (next_speed speed x) xs) e in
     combined_speed (next_speed speed x) xs (speed_of_test (next_speed speed x) p.0) p.1
 
 where_kept : (b : Bool) (v : ℤ) → (b ≡ true → IsSpeed v) → IfSome (cond b (Some v) None) IsSpeed

@@ -1,23 +1,9 @@
 -- The speed that effects come to, in millionths.
-use Rattle.std.specs.Prelude.{◌%◌, ◌==◌, ℤ, pos, ◌+ℤ◌, ◌*ℤ◌, int_lt, int_le, unsigned_abs, Bool, true}
-use Rattle.std.specs.Prelude.{◌&&◌, ◌||◌, cond, List, [], ◌∷◌, Option, Some, None}
-use Rattle.std.specs.Int.{int_div_euclid, int_rem_euclid}
+use Rattle.std.specs.Prelude.{ℤ, pos, ◌*ℤ◌, Bool, true, ◌&&◌, cond, List, [], ◌∷◌, Option, Some, None}
 use Rattle.tick_time.specs.Times.{is_speed}
+pub use Rattle.tick_time.specs.Rounding.{from_millionths}
 use Rattle.otio_model.specs.declared.effect_types.Effect.{Effect}
 use Rattle.otio_model.specs.declared.effect_types.Effect.TheVariants.{Warp, Freeze, Plain, Kept}
-
--- the rest of a division by a million is less than half of it, or is half of it and the quotient is
--- even
-abbrev pub is_rounded_down : ℤ → ℤ → Bool
-is_rounded_down quotient rest =
-    int_lt rest (pos 500000) || (int_le rest (pos 500000) && (unsigned_abs quotient % 2 == 0))
-
--- so many millionths as a whole number, rounded half to even
-abbrev pub from_millionths : ℤ → ℤ
-from_millionths z =
-    cond (is_rounded_down (int_div_euclid z (pos 1000000)) (int_rem_euclid z (pos 1000000)))
-    (int_div_euclid z (pos 1000000))
-    (int_div_euclid z (pos 1000000) +ℤ pos 1)
 
 -- the speed after one more effect: a warp multiplies it, a still stops, all others leave it
 abbrev pub next_speed : ℤ → Effect → ℤ

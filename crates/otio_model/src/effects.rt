@@ -49,11 +49,22 @@ impl Effects {
     }
 
     /// The effects of `list`, in the same memory.
-    pub fn of(list: Sequence<Effect>) -> Effects
-        ensures { result ≡ list }
+    pub fn of(list: Vec<Effect>) -> Effects
+        ensures { result ≡ list.items }
     {
         let speed = speeds::kept_speed(list.as_slice());
-        Effects { list, speed }
+        Effects {
+            list: Sequence::of(list),
+            speed,
+        }
+    }
+
+    /// The effects, in the same memory.
+    pub fn into_vec(self) -> Vec<Effect>
+        ensures { result.items ≡ self }
+    {
+        let Effects { list, speed: _ } = self;
+        list.into_vec()
     }
 
     /// The effects, in order.

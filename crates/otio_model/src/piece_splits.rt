@@ -1,17 +1,21 @@
 //! Items into pieces, and out of them.
 
-ghost use Rattle.std.specs.Prelude.{◌≡◌, ◌+◌, ◌-◌, ◌*◌, ◌/◌, ◌<◌, ◌≤◌, ◌^◌, ◌++◌, [], IfOk, take};
+ghost use Rattle.std.specs.Prelude.{◌≡◌, ◌+◌, ◌-◌, ◌*◌, ◌<◌, ◌≤◌, ◌^◌, ◌++◌, [], IfOk, take};
 ghost use Rattle.std.specs.Prelude.{drop, reverse, vec_len, length};
 ghost use Rattle.std.specs.Vec.{vec_capacity};
 ghost use Rattle.otio_model.specs.Edits.{replaced};
 ghost use Rattle.otio_model.specs.Pieces.{all_items, AllFresh, AreMade, ArePieces, IsCut, IsEnd};
 ghost use Rattle.otio_model.specs.Pieces.{IsOpen, IsStart, IsWindow, part};
+ghost use Rattle.otio_model.specs.Rooms.{Suits};
 
 use crate::lists::{Item, Piece, kept_items};
 use crate::piece_numbers::AT_FRONT;
 use crate::piece_summary::NO_ITEMS;
+use crate::place_walk::Stretch;
+use crate::reserve::Spare;
 use crate::vec_moves;
 use std::alloc::{AllocError, Global};
+use std::mem;
 
 // Moves the items of some pieces into an empty vector; the pieces stay there, without items.
 fn pour(pieces: &mut Vec<Piece>, first: usize, end: usize, mid: &mut Vec<Item>)
@@ -153,51 +157,38 @@ fn window(pieces: &[Piece], at: usize, count: usize, put: usize) -> (usize, usiz
     (first, end, before)
 }
 
-/// Replaces items in pieces.
+/// Replaces items in pieces by those of a list, which then has the ones that stood there.
 pub(crate) fn replace_pieces(
     pieces: &mut Vec<Piece>,
-    at: usize,
-    count: usize,
-    put: &mut Vec<Item>,
-    taken: &mut Vec<Item>,
-    mid: &mut Vec<Item>,
-    outer: &mut Vec<Piece>,
-    made: &mut Vec<Piece>,
-    fresh: &mut Vec<Piece>,
+    stretch: Stretch,
+    list: &mut Vec<Item>,
+    spare: &mut Spare,
 )
-    requires there { at + count ≤ length (all_items pieces.old.items) }
+    requires there { stretch.at + stretch.count ≤ length (all_items pieces.old.items) }
     requires pieces { ArePieces pieces.old.items }
-    requires taken_empty { taken.old.items ≡ [] }
-    requires mid_empty { mid.old.items ≡ [] }
-    requires outer_empty { outer.old.items ≡ [] }
-    requires made_empty { made.old.items ≡ [] }
-    requires fresh { AllFresh fresh.old.items }
-    requires taken_room { count ≤ vec_capacity taken.old }
-    requires few { length (all_items pieces.old.items) + vec_len put.old < 2 ^ 64 }
-    requires mid_room { 2 * count + 384 + vec_len put.old ≤ vec_capacity mid.old }
-    requires outer_room { length (all_items pieces.old.items) / 32 + 1 + vec_len fresh.old
-        ≤ vec_capacity outer.old }
-    requires made_room { vec_len fresh.old ≤ vec_capacity made.old }
-    requires fresh_room { 2 * count + 384 + vec_len put.old ≤ 32 * vec_len fresh.old }
+    requires room { Suits stretch.count (length (all_items pieces.old.items)) (vec_len list.old)
+        spare.old }
     ensures items { all_items pieces.new.items
-        ≡ replaced at count put.old.items (all_items pieces.old.items) }
+        ≡ replaced stretch.at stretch.count list.old.items (all_items pieces.old.items) }
     ensures pieces { ArePieces pieces.new.items }
-    ensures taken { taken.new.items ≡ take count (drop at (all_items pieces.old.items)) }
-    ensures put { put.new.items ≡ [] }
-    ensures put_capacity { vec_capacity put.new ≡ vec_capacity put.old }
-    ensures mid { mid.new.items ≡ [] }
-    ensures outer { outer.new.items ≡ [] }
-    ensures made { made.new.items ≡ [] }
-    ensures fresh { AllFresh fresh.new.items }
-    ensures movable { vec_len fresh.new ≤ vec_capacity made.new }
+    ensures taken { list.new.items
+        ≡ take stretch.count (drop stretch.at (all_items pieces.old.items)) }
 {
-    let (first, end, before) = window(pieces.as_slice(), at, count, put.len());
-    pour(pieces, first, end, mid);
-    vec_moves::replace(mid, at - before, count, put, taken);
-    cut(mid, made, fresh);
-    vec_moves::with_room(pieces, made.len(), outer);
-    vec_moves::replace(pieces, first, end - first, made, outer);
-    outer.clear();
+    let Stretch { at, count } = stretch;
+    let (first, end, before) = window(pieces.as_slice(), at, count, list.len());
+    pour(pieces, first, end, &mut spare.mid);
+    vec_moves::replace(&mut spare.mid, at - before, count, list, &mut spare.taken);
+    cut(&mut spare.mid, &mut spare.made, &mut spare.fresh);
+    vec_moves::with_room(pieces, spare.made.len(), &mut spare.outer);
+    vec_moves::replace(
+        pieces,
+        first,
+        end - first,
+        &mut spare.made,
+        &mut spare.outer,
+    );
+    spare.outer.clear();
+    mem::swap(list, &mut spare.taken);
 }
 
 // So many empty pieces.

@@ -27,20 +27,13 @@ pub(crate) const NO_ITEMS: Kept = Kept {
     items: 0,
 };
 
-// The greater of two numbers.
-fn greater(one: u128, other: u128) -> u128
-    ensures { result ≡ max one other }
-{
-    if one < other { other } else { one }
-}
-
 // The lengths of two lists together.
 fn join_totals(one: Totals, other: Totals) -> Totals
     ensures { result ≡ joined_totals one other }
 {
     Totals {
         ticks: one.ticks.saturating_add(other.ticks),
-        longest: greater(one.longest, other.longest),
+        longest: one.longest.max(other.longest),
         known: one.known && other.known,
     }
 }
@@ -52,7 +45,7 @@ pub(crate) fn join(one: Kept, other: Kept) -> Kept
     Kept {
         lengths: join_totals(one.lengths, other.lengths),
         transitions: one.transitions.saturating_add(other.transitions),
-        reach: greater(one.reach, other.reach),
+        reach: one.reach.max(other.reach),
         items: one.items.saturating_add(other.items),
     }
 }
@@ -71,5 +64,5 @@ fn offset_ticks(offset: Option<Time>) -> u128
 pub(crate) fn offsets_ticks(in_offset: Option<Time>, out_offset: Option<Time>) -> u128
     ensures { result ≡ max (offset_reach in_offset) (offset_reach out_offset) }
 {
-    greater(offset_ticks(in_offset), offset_ticks(out_offset))
+    offset_ticks(in_offset).max(offset_ticks(out_offset))
 }

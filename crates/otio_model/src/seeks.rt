@@ -141,6 +141,7 @@ fn in_pieces<L: Ledger>(pieces: &[Piece], at: u128, steps: &mut Steps<L>) -> Opt
         return None;
     }
     let number = last_piece(pieces, at, steps);
+    steps.tick();
     let piece = read_piece(pieces, number);
     let start = piece.start;
     match in_piece(piece, at - start.ticks, steps) {

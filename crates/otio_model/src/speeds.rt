@@ -5,27 +5,7 @@ ghost use Rattle.tick_time.specs.Times.{IsSpeed, is_speed};
 ghost use Rattle.otio_model.specs.Speeds as speeds;
 
 use crate::effect_types::Effect;
-
-// Whether a division by a million with this quotient and this rest is rounded down, half to even.
-fn is_rounded_down(quotient: i128, rest: i128) -> bool
-    ensures { result ≡ speeds.is_rounded_down quotient rest }
-{
-    rest < 500_000 || (rest <= 500_000 && quotient.unsigned_abs() % 2 == 0)
-}
-
-// So many millionths as a whole number, rounded half to even.
-fn from_millionths(millionths: i128) -> i128
-    requires low { (pos 0 -ℤ pos 1000000000000000000) ≤ℤ millionths }
-    requires high { millionths ≤ℤ pos 1000000000000000000 }
-    ensures { result ≡ speeds.from_millionths millionths }
-{
-    let quotient = millionths.div_euclid(1_000_000);
-    if is_rounded_down(quotient, millionths.rem_euclid(1_000_000)) {
-        quotient
-    } else {
-        quotient + 1
-    }
-}
+use tick_time::from_millionths;
 
 // One speed times another, in millionths.
 #[tactic(auto, using(crate::proofs::SpeedLemmas::product_low, crate::proofs::SpeedLemmas::product_high))]

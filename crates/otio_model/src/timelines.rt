@@ -9,7 +9,7 @@ ghost use Rattle.otio_model.specs.Timelines.{bare};
 use crate::compositions::ItemOf;
 use crate::lists::{Item, Items, Stack};
 use crate::patches::Patch;
-use crate::place_walk::{children_at, replace_at};
+use crate::place_walk::{Stretch, children_at, replace_at};
 use crate::places::Place;
 use crate::reserve::Spare;
 use json_value::Members;
@@ -96,7 +96,7 @@ impl Timeline {
         ensures same { bare self.new ≡ bare self.old }
     {
         let Some(children) = children_at(&self.tracks.children, patch.place.as_slice()) else {
-            return Err(AllocError);
+            unreachable!()
         };
         let long = children.len();
         self.spare
@@ -122,8 +122,7 @@ impl Timeline {
         replace_at(
             &mut self.tracks.children,
             place.as_slice(),
-            at,
-            count,
+            Stretch { at, count },
             &mut list,
             &mut self.spare,
         );

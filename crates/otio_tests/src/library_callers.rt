@@ -23,7 +23,7 @@ ghost use Rattle.edl_frames.specs.Faults.{IsConformFault};
 ghost use Rattle.edl_frames.specs.Shown.{shown};
 
 use coord::sound;
-use dev_io::{MemOut, Out};
+use dev_io::{MemOut, Out, OutputFault};
 use edit_ops::plan_list;
 use edl_conform::{ConformFault, conform};
 use edl_law::{
@@ -33,7 +33,7 @@ use edl_list::EventList;
 use edl_text::{EdlFault, EdlReader};
 use media_list::MediaList;
 use otio_model::{Edit, EditFault, ItemOf, Place, Timeline};
-use show_prog::{RowFault, print_show, show};
+use show_prog::{print_show, show};
 use smpte_tc::rate_of;
 use std::alloc::{AllocError, Global};
 use std::mem::forget;
@@ -77,22 +77,22 @@ fn write_frame<W: Out>(
     child: usize,
     frame: i128,
     out: &mut W,
-) -> Result<(), RowFault>
+) -> Result<(), OutputFault>
     requires faultless { IsFaultless timeline.now }
     requires few { count timeline.now.tracks.children < 2 ^ 32 }
     requires there { child < length (items_of timeline.now.tracks.children) }
     ensures written { OnOk result
         (Tells (SendsAll (image_text (image (program timeline.now child frame))) result)
         (W.known out.old) (W.known out.new)) }
-    ensures memory { IfErr result (λ fault. fault ≡ RowFault.Memory →
+    ensures memory { IfErr result (λ fault. fault ≡ OutputFault.Memory →
         is_mix (program timeline.now child frame) ≡ true) }
 {
     match show(alloc, timeline, child, frame) {
         Ok(picture) => match print_show(&picture, out) {
             Ok(()) => Ok(()),
-            Err(_) => Err(RowFault::Sink),
+            Err(_) => Err(OutputFault::Sink),
         },
-        Err(_) => Err(RowFault::Memory),
+        Err(_) => Err(OutputFault::Memory),
     }
 }
 

@@ -16,8 +16,8 @@ struct Log {
     told: &'static str,
 }
 
-/// The rate, the columns and the rows of a log, what `media` sends of it, and what is told. The rows
-/// begin at line 6.
+/// The rate, the columns and the rows of a log, what `media` sends of it, and its message. The
+/// rows begin at line 6.
 struct Rows {
     rate: &'static str,
     columns: &'static str,

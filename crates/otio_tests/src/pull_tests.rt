@@ -167,7 +167,8 @@ fn put_covered(text: &mut String) -> Result<(), AllocError> {
     text.push_str("]}]}]}}")
 }
 
-// Two root gaps, of which neither has too many record frames, and of which the second is rounded up.
+// Two root gaps, of which neither has too many record frames, and of which the second is rounded
+// up.
 fn two_gaps(alloc: Global) -> Result<String, AllocError> {
     let mut text = String::new(alloc);
     put_two_gaps(&mut text)?;

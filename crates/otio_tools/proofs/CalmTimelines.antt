@@ -9,7 +9,7 @@ use Rattle.edl_list.specs.declared.list.EventList.{EventList}
 use Rattle.edl_list.specs.Formed.{IsWellFormed}
 use Rattle.media_rows.specs.Rows.{MediaRows}
 use Rattle.edl_frames.specs.Conformed.{IsTimelineOf}
-use Rattle.schema_rows.specs.Upgrades.{upgraded}
+use Rattle.schema_up.specs.Upgrades.{upgraded}
 use Rattle.source_files.specs.Formats.{IsOfTables, IsTimeline}
 use Rattle.edl_law.proofs.WritableTimelines.{timeline_writable}
 use Rattle.json_law.proofs.UpgradedTwice.{read_stays}

@@ -3,10 +3,11 @@ use Rattle.std.proofs.Common.{◌≡◌, ℕ, List, Some, None, refl, sym, subst
 use Rattle.std.specs.declared.option.Option.{Option}
 use Rattle.dev_io.specs.Known.{KnownFiles}
 use Rattle.dev_io.specs.Calls.{Tells}
+use Rattle.dev_io.specs.OutputCauses.{IsOutputCause}
 use Rattle.undo_log.specs.States.{IsKept, state_of}
 use Rattle.edit_script.specs.Keeping.{HoldsEdits}
-use Rattle.show_prog.specs.declared.frame_range.RowFault.{RowFault}
-use Rattle.show_prog.specs.declared.frame_range.RowFault.TheVariants.{Sink, Memory as NoMemory}
+use Rattle.dev_io.specs.declared.output_faults.OutputFault.{OutputFault}
+use Rattle.dev_io.specs.declared.output_faults.OutputFault.TheVariants.{Sink, Memory as NoMemory}
 use Rattle.command_words.specs.Asked.{Ask, OtherNames}
 use Rattle.command_words.specs.Drills.{AsksDrill}
 use Rattle.command_words.specs.Tasks.{IsTask}
@@ -19,7 +20,7 @@ use Rattle.drill.specs.declared.tally.Tally.{Tally}
 use Rattle.otio_tools.specs.Forms.{done}
 use Rattle.otio_tools.specs.Answer.{ByDrill, AnswersDrill}
 use Rattle.otio_tools.specs.Drilled.{EndsDrill, EndsDrills, IsDrilled, SendsTally}
-use Rattle.otio_tools.specs.Plan.{IsSendCause, WritesTo, message_unsent, status_unsent}
+use Rattle.otio_tools.specs.Plan.{WritesTo, message_unsent, status_unsent}
 use Rattle.otio_tools.specs.Run.{Streams, Ends, Sends, SendsNothing, Message, ReadsAll, KeepsStill, no_memory}
 use Rattle.otio_tools.specs.Worked.{LeavesDesk, WorksOn}
 use Rattle.otio_tools.specs.declared.Desk.{Desk}
@@ -140,8 +141,8 @@ no_drills words command name others target d result on_desk ask = λ seed count 
     absurd (never_drill words command name others seed count target aim ask w)
 
 -- how the tally was sent
-pub unsent_tally : (target : Option (List ℕ)) (tally : Tally) (d : Streams) (fault : RowFault)
-    (status : Status) → IsSendCause ⊥ d.out_before d.out_now fault
+pub unsent_tally : (target : Option (List ℕ)) (tally : Tally) (d : Streams) (fault : OutputFault)
+    (status : Status) → IsOutputCause ⊥ d.out_before d.out_now fault
     → Tells (WritesTo {T = Unit {0}} target (tally_text tally) (Err fault)) d.out_old d.out_new
     → status ≡ status_unsent fault → Message (message_unsent fault) d
     → SendsTally target tally d status

@@ -33,7 +33,7 @@ use Rattle.otio_tools.specs.Written.{timeline_text}
 use Rattle.otio_tools.specs.declared.Desk.{Desk}
 use Rattle.otio_tools.proofs.Formats.{bare_json}
 use Rattle.otio_tools.proofs.OneText.{same_json}
-use Rattle.otio_tools.proofs.PlanLemmas.{media_is, media_suits}
+use Rattle.otio_tools.proofs.PlanLemmas.{film_editable, media_is, media_suits}
 
 -- what is read as a script is one
 script_suits : (held : Content) → Suits kinds.Script held
@@ -66,15 +66,6 @@ edit_contents command name called (Some list) (held ∷ c ∷ x ∷ []) h =
       ap (λ y. held ∷ y ∷ x ∷ []) r.1 ∙ ap (λ y. held ∷ content.Commands r.0 ∷ y ∷ []) m.1,
     )
 edit_contents command name called (Some list) (held ∷ c ∷ x ∷ y ∷ rest) h = absurd h.1.1.1
-
-film_editable : (held : Content) → Suits kinds.Timeline held → IsEditable held
-film_editable (content.Film timeline) s = s
-film_editable (content.Commands commands) s = s
-film_editable (content.Noted noted said) s = s
-film_editable (content.Rows rows) s = s
-film_editable (content.Events list) s = absurd s
-film_editable (content.Value value) s = s
-film_editable (content.Root object) s = s
 
 list_editable : (rate : Rate) (held : Content) → Suits (kinds.List rate) held → IsEditable held
 list_editable rate (content.Events list) s = s

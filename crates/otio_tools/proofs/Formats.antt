@@ -1,5 +1,6 @@
 -- Bytes are one thing, or are refused for one reason, and never both.
 use Rattle.std.proofs.Common.{◌≡◌, ℕ, Option, List, Some, None, refl, sym, ap, subst, ◌∙◌, inl, inr}
+use Rattle.std.proofs.lemmas.Option.{same_Some}
 use Rattle.json_text.proofs.OneText.{text_once, fault_once as json_fault_once, fault_or_text}
 use Rattle.json_value.specs.declared.Json.{Json}
 use Rattle.tick_time.specs.declared.rates.Rate.{Rate}
@@ -11,7 +12,7 @@ use Rattle.otio_model.specs.declared.objects.Object.TheFolds.{fold-roll-Object}
 use Rattle.otio_model.specs.declared.objects.Collection.{Collection}
 use Rattle.otio_model.specs.declared.timelines.Timeline.{Timeline}
 use Rattle.otio_model.specs.Timelines.{bare}
-use Rattle.schema_rows.specs.Upgrades.{upgraded}
+use Rattle.schema_up.specs.Upgrades.{upgraded}
 use Rattle.schema_rows.specs.Stands.{Stands}
 use Rattle.schema_rows.specs.Faults.{IsFirstFault}
 use Rattle.schema_write.specs.Objects.{Style, newer, older, json_of, old_json_of, object_in, object_step, collection_step}
@@ -151,14 +152,11 @@ roots_once : (bytes : List ℕ) (a b : Object) → IsObject bytes a → IsObject
     → timeline_at (out-Object a) ≡ timeline_at (out-Object b)
 roots_once bytes a b p q = one_root (upgraded p.value) a b p.stands (stands_too bytes a b p q)
 
-some_once : {A : Type 0} {x y : A} → Some x ≡ Some y → x ≡ y
-some_once e = cc
-
 -- two timelines of the same bytes differ in spare memory at the most
 pub timeline_bare_once : (bytes : List ℕ) (t u : Timeline) → IsTimeline bytes t → IsTimeline bytes u
     → bare t ≡ bare u
 timeline_bare_once bytes t u p q =
-    some_once (ap timeline_at (sym p.root) ∙ roots_once bytes p.object q.object p.is q.is
+    same_Some _ _ (ap timeline_at (sym p.root) ∙ roots_once bytes p.object q.object p.is q.is
     ∙ ap timeline_at q.root)
 
 no_timeline : (layer : Object-F Object Collection) → IsNoTimeline layer → timeline_at layer ≡ None

@@ -1,6 +1,7 @@
 -- The names of logs.
 use Rattle.std.proofs.Common.{◌≡◌, ◌++◌, ◌||◌, ℕ, Bool, true, false, List, [], ◌∷◌, ◌⊎◌, IsTrue, ◌↔◌, refl, sym, ap, ◌∙◌, inl, inr, bytes_eq, codes}
 use Rattle.std.proofs.lemmas.Slice.Eq.{bytes_eq-Decides}
+use Rattle.std.proofs.lemmas.Bool.{or_left, or_right}
 use Rattle.command_words.specs.Names.{IsLogName}
 use Rattle.otio_tools.specs.Asked.{ends_with, is_log}
 use Rattle.otio_tools.proofs.SeveralFiles.{by_truth}
@@ -38,14 +39,6 @@ told_end end (b ∷ name) e =
 either_true : (a b : Bool) → (a || b) ≡ true → (a ≡ true) ⊎ (b ≡ true)
 either_true true b e = inl refl
 either_true false b e = inr e
-
-or_left : (a b : Bool) → a ≡ true → (a || b) ≡ true
-or_left true b e = refl
-or_left false b e = absurd (cc e)
-
-or_right : (a b : Bool) → b ≡ true → (a || b) ≡ true
-or_right true b e = refl
-or_right false b e = e
 
 log_is : (name : List ℕ) → IsLogName name → is_log name ≡ true
 log_is name (stem, inl e) =

@@ -16,7 +16,7 @@ use Rattle.edl_law.proofs.FormedReadings.{read_is_formed}
 use Rattle.otio_model.specs.declared.timelines.Timeline.{Timeline}
 use Rattle.otio_model.specs.Timelines.{bare}
 use Rattle.schema_write.specs.Objects.{json_of, old_json_of}
-use Rattle.schema_rows.specs.Upgrades.{upgraded}
+use Rattle.schema_up.specs.Upgrades.{upgraded}
 use Rattle.otio_model.specs.declared.objects.Object.{Object, Timeline as ObjectOfTimeline}
 use Rattle.object_law.proofs.OneOldFault.{SamePlaces, one_old_fault, no_old_fault, same_places, bare_places}
 use Rattle.source_files.specs.Faults.{family_fault_text}

@@ -58,7 +58,7 @@ use Rattle.otio_tools.specs.Tools.{AnswersCounted, Uncounted}
 use Rattle.otio_tools.specs.Answer.{AnswersHeld, AnswersUnread, Gone, Faulty, AnswersAsked, Unread, Judged}
 use Rattle.otio_tools.specs.Run.{FailsUnder}
 use Rattle.otio_tools.specs.Opened.{IsConformedTo}
-use Rattle.otio_tools.specs.Plan.{HasFormedList, HasNotedList, Suffices, IsRefusedAs, PlansHeld, IsStop, Plans, AreContents, IsCarriedBy, LeavesWork, media_content, text_planned}
+use Rattle.otio_tools.specs.Plan.{HasFormedList, HasNotedList, IsEditable, Suffices, IsRefusedAs, PlansHeld, IsStop, Plans, AreContents, IsCarriedBy, LeavesWork, media_content, text_planned}
 use Rattle.edl_list.specs.declared.list.EventList.{EventList}
 use Rattle.otio_model.specs.declared.timelines.Timeline.{Timeline}
 use Rattle.otio_tools.specs.Conformed.{media_in, AnswersConformed, Conformed, NotConformed}
@@ -130,6 +130,16 @@ pub stop_planned : (asked : Asked) (stop : SourceFault) (old new : Option KnownF
 stop_planned asked stop None new h = tt
 stop_planned asked stop (Some old) None h = absurd h
 stop_planned asked stop (Some old) (Some new) h = stop_in asked stop old new h
+
+-- a timeline can be edited
+pub film_editable : (held : Content) → Suits kinds.Timeline held → IsEditable held
+film_editable (content.Film timeline) s = s
+film_editable (content.Commands commands) s = s
+film_editable (content.Noted noted said) s = s
+film_editable (content.Rows rows) s = s
+film_editable (content.Events list) s = absurd s
+film_editable (content.Value value) s = s
+film_editable (content.Root object) s = s
 
 -- what a file that is read as a list holds is a well formed list
 suits_list : (rate : Rate) (held : Content) → Suits (kinds.List rate) held → HasFormedList held

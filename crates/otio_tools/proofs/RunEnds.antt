@@ -3,8 +3,9 @@ use Rattle.std.proofs.Common.{◌≡◌, ◌≢◌, ℕ, List, [], Some, None, R
 use Rattle.std.specs.declared.option.Option.{Option}
 use Rattle.dev_io.specs.Known.{KnownFiles, KnownOut}
 use Rattle.dev_io.specs.Calls.{Tells, Adds, AddsPrefix, SendsAll, Aims}
-use Rattle.show_prog.specs.declared.frame_range.RowFault.{RowFault}
-use Rattle.show_prog.specs.declared.frame_range.RowFault.TheVariants.{Sink, Memory as NoMemory}
+use Rattle.dev_io.specs.OutputCauses.{IsOutputCause}
+use Rattle.dev_io.specs.declared.output_faults.OutputFault.{OutputFault}
+use Rattle.dev_io.specs.declared.output_faults.OutputFault.TheVariants.{Sink, Memory as NoMemory}
 use Rattle.source_files.specs.Reading.{Held, RaisedAt, RaisedBy, EndsWith}
 use Rattle.source_files.specs.declared.read_faults.Refusal.TheVariants.{Broken, Memory as WantOfMemory}
 use Rattle.source_files.specs.declared.read_faults.ReadFault.{ReadFault}
@@ -18,7 +19,7 @@ use Rattle.otio_tools.specs.Asked.{Asked, Asks, ListsFrames, asked_for}
 use Rattle.otio_tools.specs.Forms.{Answer, done, absent, usage}
 use Rattle.otio_tools.specs.Answer.{NoCommand, OnFiles, AnswersAsked}
 use Rattle.otio_tools.specs.Run.{Streams, Ends, Gives, Sends, SendsNothing, Directs, Message, ReadsAll, AsksFrames, KeepsStill}
-use Rattle.otio_tools.specs.Plan.{Plans, IsStop, AreRows, IsFor, Carries, Complains, Writes, IsSendCause, WritesTo, text_planned, status_unsent, message_unsent}
+use Rattle.otio_tools.specs.Plan.{Plans, IsStop, AreRows, IsFor, Carries, Complains, Writes, WritesTo, text_planned, status_unsent, message_unsent}
 use Rattle.otio_tools.specs.declared.Status.{Status}
 use Rattle.otio_tools.specs.declared.Status.TheVariants.{Done, Usage, Refused, Input, Output, Memory}
 use Rattle.otio_tools.specs.declared.planning.Planned.{Planned}
@@ -267,7 +268,7 @@ never_usage target d (Ok planned) Memory c = λ u. cc
 never_usage target d (Err stop) status c = (fault_still [] stop.name.now d stop.fault status c).0
 
 -- what is written where the stream writes goes there
-pub written_here : (text : List ℕ) (result : Result (Unit {0}) RowFault) (old new : Option KnownOut)
+pub written_here : (text : List ℕ) (result : Result (Unit {0}) OutputFault) (old new : Option KnownOut)
     → Tells (SendsAll text result) old new → Tells (WritesTo None text result) old new
 written_here text result None new h = tt
 written_here text result (Some old) None h = absurd h
@@ -277,7 +278,7 @@ written_here text (Err NoMemory) (Some old) (Some new) h = h
 
 -- what is written after an aim goes to the file of that name
 pub written_there : (F : Type 0) (name text : List ℕ) (u : Unit {0})
-    (result : Result (Unit {0}) RowFault) (old mid new : Option KnownOut)
+    (result : Result (Unit {0}) OutputFault) (old mid new : Option KnownOut)
     → Tells (Aims {E = F} name (Ok u)) old mid
     → Tells (SendsAll text result) mid new → Tells (WritesTo (Some name) text result) old new
 written_there F name text u result None mid new a h = tt
@@ -299,8 +300,8 @@ unwritten F name text e (Some old) None a = absurd a
 unwritten F name text e (Some old) (Some new) a = inl a
 
 -- an output that isn't whole, and its message
-pub unsent : (target : Option (List ℕ)) (planned : Planned) (d : Streams) (fault : RowFault)
-    (status : Status) → IsSendCause (AreRows planned) d.out_before d.out_now fault
+pub unsent : (target : Option (List ℕ)) (planned : Planned) (d : Streams) (fault : OutputFault)
+    (status : Status) → IsOutputCause (AreRows planned) d.out_before d.out_now fault
     → Tells (WritesTo {T = Unit {0}} target (text_planned planned) (Err fault)) d.out_old d.out_new
     → status ≡ status_unsent fault → Message (message_unsent fault) d
     → Writes target planned d status

@@ -43,7 +43,7 @@ use Rattle.flat_stack.specs.declared.step_faults.ToolFault.{ToolFault}
 use Rattle.flat_stack.specs.declared.step_faults.ToolFault.TheVariants as tool
 use Rattle.otio_model.specs.declared.objects.Object.{Timeline as ObjectOfTimeline}
 use Rattle.command_words.specs.declared.tools.ToolAsked.{ToolAsked}
-use Rattle.otio_tools.proofs.PlanLemmas.{held_planned, media_suits, stop_planned}
+use Rattle.otio_tools.proofs.PlanLemmas.{film_editable, held_planned, media_suits, stop_planned}
 use Rattle.otio_tools.specs.declared.planning.Planned.{Planned}
 use Rattle.otio_tools.specs.declared.planning.Planned.TheVariants.{Events, Noted, Value, Root, OldRoot, Rows, Edited, Listed, Text, Media}
 
@@ -220,15 +220,6 @@ media_editable (Some name) [] s = absurd s
 media_editable (Some name) (c ∷ []) s =
     let r = media_suits (is_log name) c s.0 in (Some r.0, ap (λ x. x ∷ []) r.1)
 media_editable (Some name) (c ∷ d ∷ cs) s = absurd s.1
-
-film_editable : (held : Content) → Suits kinds.Timeline held → IsEditable held
-film_editable (content.Film timeline) s = s
-film_editable (content.Commands commands) s = absurd s
-film_editable (content.Noted noted said) s = absurd s
-film_editable (content.Rows rows) s = absurd s
-film_editable (content.Events list) s = absurd s
-film_editable (content.Value value) s = absurd s
-film_editable (content.Root object) s = absurd s
 
 by_name_editable : (kind : Kind) (list : Bool) (held : Content)
     → ((held : Content) → Suits kind held → IsEditable held)

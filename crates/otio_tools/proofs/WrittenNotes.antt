@@ -1,37 +1,23 @@
 -- The notes of a list that is written: the text depends on the notes of each event alone, and each
 -- note can be written.
-use Rattle.std.proofs.Common.{◌≡◌, ◌<◌, ◌==◌, ◌&&◌, int_le, int_lt, ℕ, ℤ, pos, negsuc, Bool, true, false, cond, ◌+◌, ◌++◌, List, [], ◌∷◌, Option, Some, None, Ok, length, map, refl, sym, ap, ap₂, subst, arith}
+use Rattle.std.proofs.Common.{◌≡◌, ◌==◌, ℕ, Bool, true, false, cond, ◌+◌, ◌++◌, List, [], ◌∷◌, map, refl, sym, ap, ap₂, subst, arith}
 use Rattle.std.specs.Prelude.{All}
 use Rattle.std.proofs.lemmas.List.Elements.{All-head, All-tail, All-cons, All-filter}
-use Rattle.std.proofs.lemmas.Int.{ints}
-use Rattle.std.proofs.lemmas.Option.{slice_get_within}
 use Rattle.tick_time.specs.declared.rates.Rate.{Rate}
-use Rattle.smpte_tc.specs.Answers.{WritesAt}
-use Rattle.smpte_tc.specs.Day.{counted_of}
-use Rattle.smpte_tc.specs.Modes.{mode_of}
-use Rattle.smpte_tc.specs.declared.modes.Mode.{Mode}
-use Rattle.smpte_tc.proofs.Labels.{labels_there}
-use Rattle.smpte_tc.proofs.WrittenLabels.{mode_fair}
 use Rattle.edl_list.specs.declared.layout.Layout.{Layout}
 use Rattle.edl_list.specs.declared.list.Event.{Event}
 use Rattle.edl_list.specs.declared.list.EventList.{EventList}
 use Rattle.edl_list.specs.Layouts.{layout_of}
-use Rattle.edl_list.specs.Labelled.{IsBelowDay}
 use Rattle.edl_text.specs.Rows.{event_lines}
 use Rattle.edl_text.specs.Spelling.{head_lines, text_of}
-use Rattle.note_text.specs.Belonging.{IsNoteOf, IsSaidBelowDay, is_day_frame, is_said_below_day, below_day, own_notes}
+use Rattle.note_text.specs.Belonging.{HaveSameOwn, IsNoteOf, below_day, own_notes}
 use Rattle.note_text.specs.Noted.{IsNoteFor}
 use Rattle.note_text.specs.NotedSpelling.{note_line, noted_lines_from, noted_spelling}
 use Rattle.note_text.specs.declared.notes.Note.{Note}
-use Rattle.note_text.specs.declared.notes.Said.{Said}
-use Rattle.note_text.specs.declared.notes.Said.TheVariants.{Loc, Sop, Sat}
-
--- each event has the same notes among both
-abbrev pub HaveSameOwn : (a b : List Note) → Type 0
-HaveSameOwn a b = (index : ℕ) → own_notes index a ≡ own_notes index b
+use Rattle.note_text.proofs.NotedLists.{notes_can}
 
 lines_once : (rate : Rate) (drop : Bool) (layout : Layout) (index : ℕ) (events : List Event)
-    (a b : List Note) → HaveSameOwn a b
+    (a b : List Note) → HaveSameOwn b a
     → noted_lines_from rate drop layout index events a
     ≡ noted_lines_from rate drop layout index events b
 lines_once rate drop layout index [] a b same = refl
@@ -41,7 +27,7 @@ lines_once rate drop layout index (event ∷ events) a b same =
     (lines_once rate drop layout (index + 1) events a b same)
 
 -- the text of a list depends on the notes of each of its events
-pub noted_once : (list : EventList) (a b : List Note) (drop wide : Bool) → HaveSameOwn a b
+pub noted_once : (list : EventList) (a b : List Note) (drop wide : Bool) → HaveSameOwn b a
     → noted_spelling list a drop wide ≡ noted_spelling list b drop wide
 noted_once list a b drop wide same =
     ap (λ lines. text_of (head_lines list drop ++ lines))
@@ -70,60 +56,15 @@ own_all Is (note ∷ notes) h =
     rest index false a = a
 
 -- notes in the order of their events are written where the others are
-pub sorted_all : (Is : Note → Type 0) (a b : List Note) → HaveSameOwn b a → All Is a → All Is b
+pub sorted_all : (Is : Note → Type 0) (a b : List Note) → HaveSameOwn a b → All Is a → All Is b
 sorted_all Is a b same h =
     own_all Is b (λ index. subst (All Is) (sym (same index))
     (All-filter (λ (note : Note). note.event == index) Is a h))
 
--- ---- notes below the day
-
-day_frame : (rate : Rate) (drop : Bool) (o : Option Mode) → mode_of rate drop ≡ o → (n : ℤ)
-    → is_day_frame o n ≡ true → IsBelowDay rate drop n
-day_frame rate drop None e n h = absurd (cc h)
-day_frame rate drop (Some mode) e (negsuc k) h =
-    let low : int_le (pos 0) (negsuc k) ≡ false = grind (arith, ints) in
-    absurd (cc (low, h))
-day_frame rate drop (Some mode) e (pos k) h =
-    let label = labels_there mode (mode_fair rate drop mode e) k (within k (length (counted_of
-    mode)) h) in
-    record {
-      label = label.0;
-      written = subst (λ o. WritesAt o (pos k) (Ok label.0)) (sym e) (k, refl, label.1);
-    }
-  where
-    within : (k n : ℕ) → (int_le (pos 0) (pos k) && int_lt (pos k) (pos n)) ≡ true → k < n
-    within k n h = grind (arith, ints, h)
-
-said_below : (rate : Rate) (drop : Bool) (said : Said) → is_said_below_day rate drop said ≡ true
-    → IsSaidBelowDay rate drop said
-said_below rate drop (Loc at color name) h = day_frame rate drop (mode_of rate drop) refl at h
-said_below rate drop (Sop slope offset power) h = tt
-said_below rate drop (Sat numeral) h = tt
-
-below_fit : (list : EventList) (drop : Bool) (notes : List Note) → All (IsNoteFor list) notes
-    → All (IsNoteOf list drop) (below_day list.rate drop notes)
-below_fit list drop [] h = λ k d l. absurd (omega (arith, l))
-below_fit list drop (note ∷ notes) h =
-    by (is_said_below_day list.rate drop note.said) refl
-    (All-head (IsNoteFor list) note notes h)
-    (below_fit list drop notes (All-tail (IsNoteFor list) note notes h))
-  where
-    by : (t : Bool) → is_said_below_day list.rate drop note.said ≡ t → IsNoteFor list note
-        → All (IsNoteOf list drop) (below_day list.rate drop notes)
-        → All (IsNoteOf list drop)
-        (cond t (note ∷ below_day list.rate drop notes) (below_day list.rate drop notes))
-    by true e i more =
-        All-cons (IsNoteOf list drop) note (below_day list.rate drop notes)
-        (record {
-          event = slice_get_within list.events note.event i.event i.there;
-          below = said_below list.rate drop note.said e;
-        }) more
-    by false e i more = more
-
 -- the notes of a list that are below the day, in the order of their events, can be written
 pub notes_fit : (list : EventList) (drop : Bool) (notes sorted : List Note)
-    → All (IsNoteFor list) notes → HaveSameOwn sorted (below_day list.rate drop notes)
+    → All (IsNoteFor list) notes → HaveSameOwn (below_day list.rate drop notes) sorted
     → All (IsNoteOf list drop) sorted
 notes_fit list drop notes sorted h same =
     sorted_all (IsNoteOf list drop) (below_day list.rate drop notes) sorted same
-    (below_fit list drop notes h)
+    (notes_can list drop notes h)

@@ -106,6 +106,15 @@ takes_several (Tool asked) = true
 takes_several (ListTool rate asked) = true
 takes_several command = false
 
+-- the command on one file reads a media list where one is named, and judges what it holds
+abbrev pub takes_media : Command → Bool
+takes_media (ListToObjects rate older notes) = true
+takes_media (TimelineToList drop wide notes) = true
+takes_media (ListFrames rate asked) = true
+takes_media (ListStat rate) = true
+takes_media (ListPull rate handles) = true
+takes_media command = false
+
 -- the inputs of a command: the file of that name, and those after it where it takes several
 abbrev pub inputs : Command → List ℕ → List (List ℕ) → List Source
 inputs command name more = input_named command name

@@ -12,6 +12,7 @@ pub mod Objects
 pub mod Edited
 pub mod Answer
 pub mod Run
+pub mod Reported
 pub mod Plan
 pub mod Several
 pub mod Texts

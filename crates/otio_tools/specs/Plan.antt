@@ -1,5 +1,5 @@
 -- What is planned before anything is sent, and how it is carried out.
-use Rattle.std.specs.Prelude.{◌≡◌, ◌<◌, ◌≤◌, ◌^◌, ℕ, Bool, List, [], ◌∷◌, Some, None, Result, Ok, Err, MatchResult, All}
+use Rattle.std.specs.Prelude.{◌≡◌, ◌<◌, ◌^◌, ℕ, Bool, List, [], ◌∷◌, Some, None, Result, Ok, Err, All}
 use Rattle.std.specs.declared.option.Option.{Option}
 use Rattle.std.specs.Global.{Vec}
 use Rattle.json_text.specs.Layout.{layout}
@@ -19,8 +19,8 @@ use Rattle.edit_script.specs.declared.faults.CommandFault.{CommandFault}
 use Rattle.edit_script.specs.declared.commands.Command as script
 use Rattle.source_files.specs.Formats.{IsOfTables, Suits, SuitsNotes}
 use Rattle.show_prog.specs.Rows.{listing_text}
-use Rattle.show_prog.specs.declared.frame_range.RowFault.{RowFault}
-use Rattle.show_prog.specs.declared.frame_range.RowFault.TheVariants.{Sink, Memory as NoMemory}
+use Rattle.dev_io.specs.declared.output_faults.OutputFault.{OutputFault}
+use Rattle.dev_io.specs.declared.output_faults.OutputFault.TheVariants.{Sink, Memory as NoMemory}
 use Rattle.source_files.specs.Reasons.{reason_text}
 use Rattle.source_files.specs.Order.{FirstIsNot}
 use Rattle.source_files.specs.Reading.{Held, Source, IsRead, AreRead, IsRefused, EndsWith}
@@ -34,7 +34,6 @@ use Rattle.source_files.specs.declared.read_faults.SourceFault.{SourceFault}
 use Rattle.command_words.specs.declared.requests.Command.{Command}
 use Rattle.command_words.specs.declared.requests.Command.TheVariants.{Edit, ListEdit}
 use Rattle.dev_io.specs.Known.{KnownFiles, KnownOut}
-use Rattle.dev_io.specs.Causes.{Rose}
 use Rattle.media_rows.specs.Rows.{MediaRows}
 use Rattle.media_text.specs.Texts.{media_text}
 use Rattle.edl_frames.specs.Carried.{not_carried, IsListOf}
@@ -293,23 +292,11 @@ Writes target planned d status.Memory =
     AreRows planned × Sends (DirectsFront target (text_planned planned)) d × Message no_memory d
 
 -- the same of what was sent alone
-abbrev pub WritesTo : {T : Type 0} → Option (List ℕ) → List ℕ → Result T RowFault → KnownOut
+abbrev pub WritesTo : {T : Type 0} → Option (List ℕ) → List ℕ → Result T OutputFault → KnownOut
     → KnownOut → Type 0
 WritesTo target text (Ok _) old new = Directs target text old new
 WritesTo target text (Err Sink) old new = DirectsPrefix target text old new
 WritesTo target text (Err NoMemory) old new = DirectsFront target text old new
-
--- why sending stopped: the stream failed, or memory ran out, which may be under this condition
--- alone
-abbrev pub IsSendCause : Type 0 → ℕ → ℕ → RowFault → Type 0
-IsSendCause may before now Sink = Rose before now
-IsSendCause may before now NoMemory = may
-
--- the count of the stream never falls
-pub record HasSendCause {T : Type 0} (may : Type 0) (before now : ℕ)
-    (result : Result T RowFault) : Type 0 where
-  pub later : before ≤ now
-  pub failed : MatchResult result (λ _. Unit {0}) (IsSendCause may before now)
 
 -- how a run ends that sends nothing
 abbrev pub status_of : ReadFault → Status
@@ -338,10 +325,10 @@ Carries target (Ok planned) d result = Writes target planned d result
 Carries target (Err stop) d result = Complains stop.name.now stop.fault d result
 
 -- how a run ends whose output isn't whole, and what is told
-abbrev pub status_unsent : RowFault → Status
+abbrev pub status_unsent : OutputFault → Status
 status_unsent Sink = status.Output
 status_unsent NoMemory = status.Memory
 
-abbrev pub message_unsent : RowFault → List ℕ
+abbrev pub message_unsent : OutputFault → List ℕ
 message_unsent Sink = output_failed
 message_unsent NoMemory = no_memory

@@ -28,11 +28,15 @@ pub data AnswersCounted (name : List ℕ) (target : Option (List ℕ)) (timeline
   Counted : IsFaultless timeline → answer ≡ done target (listings_text timeline counts_alone)
       → AnswersCounted name target timeline answer
 
+-- the name of the input of an index, else of the first
+abbrev pub name_at : List (List ℕ) → ℕ → List ℕ
+name_at names index = get_or names index (get_or names 0 [])
+
 -- the name of the input that a fault is told of: the one that it stands in, else the first
 abbrev pub name_told : List (List ℕ) → ToolFault → List ℕ
-name_told names (tool.At input fault) = get_or names input []
-name_told names tool.Items = get_or names 0 []
-name_told names (tool.Unsound fault) = get_or names 0 []
+name_told names (tool.At input fault) = name_at names input
+name_told names tool.Items = name_at names 0
+name_told names (tool.Unsound fault) = name_at names 0
 name_told names tool.Memory = []
 
 -- timelines that aren't joined or worked on

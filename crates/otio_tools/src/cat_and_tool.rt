@@ -6,11 +6,11 @@ ghost use Rattle.flat_stack.specs.Ready.{IsReady};
 ghost use Rattle.std.specs.Option.{option_copied};
 ghost use Rattle.dev_io.specs.Calls.{Tells};
 ghost use Rattle.source_files.specs.Reasons.{reason_text};
-ghost use Rattle.source_files.specs.Order.{EachIs, FirstIsNot};
+ghost use Rattle.source_files.specs.Order.{EachIs, FirstIsNot, IsAmong};
 ghost use Rattle.source_files.specs.Formats.{Suits};
-ghost use Rattle.source_files.specs.Reading.{IsRefused, RaisedAt, source_of};
+ghost use Rattle.source_files.specs.Reading.{RaisedAt, names_of, source_of};
 ghost use Rattle.command_words.specs.Asked.{other_names};
-ghost use Rattle.otio_tools.specs.Asked.{IsScripted, asked_for, input_named, is_list as is_list_text, kind_named, media_source};
+ghost use Rattle.otio_tools.specs.Asked.{IsScripted, asked_for, files_of, input_named, is_list as is_list_text, kind_named, media_source};
 ghost use Rattle.otio_tools.specs.Asked as asking;
 ghost use Rattle.otio_tools.specs.Opened.{IsOpenedInput};
 ghost use Rattle.otio_tools.specs.Tools.{AnswersJoined, AnswersTool, name_told, tool_fault_text, tool_text};
@@ -20,7 +20,7 @@ ghost use Rattle.otio_tools.specs.Plan.{AreRows, Fits, IsDesk, IsEditable, Plans
 ghost use Rattle.otio_tools.specs.Texts.{text_at};
 
 use crate::edit_command::opened_timeline;
-use crate::planning::{Planned, list_kind, media_kind};
+use crate::planning::{Planned, kind_asked, media_kind};
 use command_words::{Command, Others, ToolAsked, is_list_name};
 use dev_io::Files;
 use flat_stack::{ToolFault, concatenated, tooled};
@@ -53,6 +53,8 @@ pub fn plan_several<'a, F: Files>(
     ensures fits { IfOk result (λ planned. Fits planned) }
     ensures kind { IfOk result (λ planned. AreRows planned → ⊥) }
     ensures desk { IfOk result (λ planned. IsDesk planned → ⊥) }
+    ensures named { IfErr result (λ stop.
+        IsAmong (names_of (files_of command name.now (other_names others.entry))) stop.name.now) }
     ensures cause { RaisedAt result (F.faults files.old) (F.faults files.new) }
 {
     let media = others.media;
@@ -127,26 +129,7 @@ fn kind_by_name(command: Command, name: &str) -> Kind
                 Kind::Timeline
             }
         }
-        Command::ListToList { rate, notes, .. } => list_kind(rate, notes),
-        Command::ListToObjects {
-            rate,
-            older: _,
-            notes,
-        } => list_kind(rate, notes),
-        Command::TimelineToList { .. } => Kind::Timeline,
-        Command::ToObjects { older: _ } => Kind::Object,
-        Command::ToJson => Kind::Json,
-        Command::Frames(_) => Kind::Timeline,
-        Command::ListFrames { rate, frames: _ } => Kind::List(rate),
-        Command::Edit => Kind::Timeline,
-        Command::ListEdit { rate } => Kind::List(rate),
-        Command::Stat => Kind::Timeline,
-        Command::ListStat { rate } => Kind::List(rate),
-        Command::Pull { handles: _ } => Kind::Timeline,
-        Command::ListPull { rate, handles: _ } => Kind::List(rate),
-        Command::Cat => Kind::Timeline,
-        Command::Tool(_) => Kind::Timeline,
-        Command::LogToMedia => Kind::Log,
+        _ => kind_asked(command),
     }
 }
 
@@ -175,6 +158,7 @@ fn judged_several<'a>(
     ensures fits { IfOk result (λ planned. Fits planned) }
     ensures kind { IfOk result (λ planned. AreRows planned → ⊥) }
     ensures desk { IfOk result (λ planned. IsDesk planned → ⊥) }
+    ensures named { IfErr result (λ stop. IsAmong (names_now names.now) stop.name.now) }
     ensures calm { (n : ℕ) → RaisedAt result n n }
 {
     let (inputs, media) = parted_inputs(names.len(), contents);
@@ -268,12 +252,14 @@ fn worked<'a>(
     requires several { asking.takes_several command ≡ true }
     requires ready { All IsReady timelines.items }
     requires some { timelines.items ≢ [] }
+    requires named { names.now ≢ [] }
     requires joining { HasJoining command (length timelines.items) }
     ensures owed { PlansAs (λ target answer.
         AnswersTimelines command (names_now names.now) target timelines.items answer) result }
     ensures fits { IfOk result (λ planned. Fits planned) }
     ensures kind { IfOk result (λ planned. AreRows planned → ⊥) }
     ensures desk { IfOk result (λ planned. IsDesk planned → ⊥) }
+    ensures named { IfErr result (λ stop. IsAmong (names_now names.now) stop.name.now) }
     ensures calm { (n : ℕ) → RaisedAt result n n }
 {
     match command {
@@ -294,11 +280,13 @@ fn joined<'a>(
 ) -> Result<Planned, SourceFault<'a>>
     requires ready { All IsReady timelines.items }
     requires some { timelines.items ≢ [] }
+    requires named { names.now ≢ [] }
     ensures owed { PlansAs (λ target answer.
         AnswersJoined (names_now names.now) target timelines.items answer) result }
     ensures fits { IfOk result (λ planned. Fits planned) }
     ensures kind { IfOk result (λ planned. AreRows planned → ⊥) }
     ensures desk { IfOk result (λ planned. IsDesk planned → ⊥) }
+    ensures named { IfErr result (λ stop. IsAmong (names_now names.now) stop.name.now) }
     ensures calm { (n : ℕ) → RaisedAt result n n }
 {
     let ended = concatenated(alloc, timelines.as_slice());
@@ -318,12 +306,14 @@ fn tool_done<'a>(
 ) -> Result<Planned, SourceFault<'a>>
     requires ready { All IsReady timelines.items }
     requires some { timelines.items ≢ [] }
+    requires named { names.now ≢ [] }
     requires joining { FitsJoining asked (length timelines.items) }
     ensures owed { PlansAs (λ target answer.
         AnswersTool asked (names_now names.now) target timelines.items answer) result }
     ensures fits { IfOk result (λ planned. Fits planned) }
     ensures kind { IfOk result (λ planned. AreRows planned → ⊥) }
     ensures desk { IfOk result (λ planned. IsDesk planned → ⊥) }
+    ensures named { IfErr result (λ stop. IsAmong (names_now names.now) stop.name.now) }
     ensures calm { (n : ℕ) → RaisedAt result n n }
 {
     match tooled(alloc, asked, timelines) {
@@ -370,6 +360,7 @@ fn listings_asked(asked: ToolAsked) -> Listings
 fn stop_of<'a>(names: &[&'a str], fault: ToolFault) -> SourceFault<'a>
     ensures name { (fault ≢ ToolFault.Memory) →
         result.name.now ≡ name_told (names_now names.now) fault }
+    ensures among { names.now ≢ [] → IsAmong (names_now names.now) result.name.now }
     ensures fault { IsRefusedAt (λ why. (fault ≢ ToolFault.Memory)
         × (why ≡ tool_fault_text fault)) result.fault }
 {
@@ -382,8 +373,9 @@ fn stop_of<'a>(names: &[&'a str], fault: ToolFault) -> SourceFault<'a>
 
 // The name of the input that a fault is told of.
 fn name_of<'a>(names: &[&'a str], fault: &ToolFault) -> &'a str
-    ensures { (fault.now ≢ ToolFault.Memory) →
+    ensures name { (fault.now ≢ ToolFault.Memory) →
         result.now ≡ name_told (names_now names.now) fault.now }
+    ensures among { names.now ≢ [] → IsAmong (names_now names.now) result.now }
 {
     match fault {
         ToolFault::At { input, fault: _ } => name_at(names, *input),
@@ -391,11 +383,21 @@ fn name_of<'a>(names: &[&'a str], fault: &ToolFault) -> &'a str
     }
 }
 
-// The name at an index.
+// The name of the input of an index, else of the first.
 fn name_at<'a>(names: &[&'a str], index: usize) -> &'a str
-    ensures { result.now ≡ get_or (names_now names.now) index [] }
+    ensures { result.now ≡ tools.name_at (names_now names.now) index }
 {
     match names.get(index) {
+        Some(&name) => name,
+        None => first_name(names),
+    }
+}
+
+// The name of the first input, and an empty one where there is none.
+fn first_name<'a>(names: &[&'a str]) -> &'a str
+    ensures { result.now ≡ get_or (names_now names.now) 0 [] }
+{
+    match names.get(0) {
         Some(&name) => name,
         None => "",
     }

@@ -1,6 +1,7 @@
 // The top call.
 ghost use Rattle.std.specs.Prelude.{◌≡◌, ◌≢◌, ◌⊎◌, ◌<◌, ◌^◌, ℕ, List, None, length, map, string_bytes, suc, IfOk, IfSome};
 ghost use Rattle.dev_io.specs.Calls.{Tells, SendsAll, IsFresh};
+ghost use Rattle.dev_io.specs.OutputCauses.{HasOutputCause};
 ghost use Rattle.edl_text.specs.Spelling.{spelling};
 ghost use Rattle.note_text.specs.NotedSpelling.{noted_spelling};
 ghost use Rattle.json_text.specs.Layout.{layout};
@@ -17,8 +18,9 @@ ghost use Rattle.otio_tools.specs.Worked.{AskNoWork, LeavesDesk};
 ghost use Rattle.otio_tools.specs.Drilled.{EndsDrills};
 ghost use Rattle.otio_tools.specs.Texts.{text_at};
 ghost use Rattle.otio_tools.specs.Kept.{KeepsShown};
+ghost use Rattle.otio_tools.specs.Reported.{Reports};
 ghost use Rattle.otio_tools.specs.Run.{Completes, Ends, Says, KeepsStill, no_memory, streams};
-ghost use Rattle.otio_tools.specs.Plan.{AreRows, CanBeShown, Carries, Complains, Fits, HasSendCause, CanBeNoted, IsWritableIn, desk_after, desk_planned, Writes, WritesTo, text_planned, message_about, message_unsent, status_of, status_unsent};
+ghost use Rattle.otio_tools.specs.Plan.{AreRows, CanBeShown, Carries, Fits, CanBeNoted, IsWritableIn, desk_after, desk_planned, Writes, WritesTo, text_planned, message_about, message_unsent, status_of, status_unsent};
 ghost use Rattle.source_files.specs.declared.read_faults.ReadFault.TheVariants.{Refused as RefusedFor};
 
 use crate::drill_command::serve_drill;
@@ -26,7 +28,7 @@ use crate::messages::{say, say_of, say_why};
 use crate::planning::{Planned, plan};
 use crate::{Desk, Status};
 use command_words::{Request, Task, WordsFault, request_of};
-use dev_io::{Files, Out, write_all};
+use dev_io::{Files, Out, OutputFault, write_all};
 use edl_list::EventList;
 use edl_text::write_list;
 use json_text::write_json;
@@ -36,7 +38,7 @@ use media_text::write_media;
 use note_text::{Notes, write_noted};
 use otio_model::{Object, Timeline};
 use schema_write::{write_object, write_old_object, write_timeline};
-use show_prog::{Listing, Listings, RowFault, write_listings, write_rows};
+use show_prog::{Listing, Listings, write_listings, write_rows};
 use source_files::{ReadFault, Refusal, SourceFault};
 use std::alloc::Global;
 use std::mem;
@@ -99,10 +101,10 @@ const USAGE: &[u8] = b"otio: usage
 /// takes them out of all tracks, `--trim A,B` keeps the record frames from A up to B, and
 /// `--flatten KIND` makes one track of those of a kind, next to them with
 /// `--keep-flattened-tracks`. Then it sends the listings that `--list-tracks`, `--list-clips`,
-/// `--list-media` and `--stats` ask for, in this order, else the timeline. `stat FILE` sends the listing of `--stats` of one
-/// timeline. Refused are the first input that isn't a sound timeline or isn't conformed, and then
-/// the first step that can't be done: told of the input that it fails in, where several are
-/// joined, else of the first.
+/// `--list-media` and `--stats` ask for, in this order, else the timeline. `stat FILE` sends the
+/// listing of `--stats` of one timeline. Refused are the first input that isn't a sound timeline or
+/// isn't conformed, and then the first step that can't be done: told of the input that it fails in,
+/// where several are joined, else of the first.
 ///
 /// `drill SEED COUNT` reads no file: it makes a timeline of forty clips by drawing numbers from the
 /// seed, draws and tries as many edits of it, makes its list and conforms that, undoes all edits,
@@ -172,6 +174,13 @@ pub fn run<F: Files, W: Out, E: Out>(
         IfSome (F.known files.old)
         (Completes said (F.faults files.old) (F.faults files.new) sent result) }
 
+    // Over all devices: the message is that of the status. Under `Refused` and `Input` it names a
+    // file that the arguments ask for; `read failed` is reported only where a call of the files
+    // failed.
+    ensures reported { let said = map (λ w. string_bytes w) words.now.items in
+        let sent = streams W.faults W.known E.faults E.known out.old out.new err.old err.new in
+        Reports said (F.faults files.old) (F.faults files.new) sent result }
+
     // Over all files: usage for other words alone, which get usage or no memory; nothing sent but
     // under Done, under Output, which has its cause, and where memory runs out over frames; under
     // every status but Input no call of the files failed.
@@ -226,6 +235,11 @@ fn serve<F: Files, W: Out, E: Out>(
         (text_at request.entry.target) →
         let sent = streams W.faults W.known E.faults E.known out.old out.new err.old err.new in
         KeepsStill words sent result }
+    ensures reported { (words : List (List ℕ)) →
+        Ask words request.entry.command request.entry.name.now (other_names request.entry.others)
+        (text_at request.entry.target) →
+        let sent = streams W.faults W.known E.faults E.known out.old out.new err.old err.new in
+        Reports words (F.faults files.old) (F.faults files.new) sent result }
     ensures asked { result ≢ Status.Usage }
     ensures calm { result ≢ Status.Input → F.faults files.new ≡ F.faults files.old }
 {
@@ -289,17 +303,17 @@ fn send<W: Out, E: Out>(
 }
 
 /// Sends the message of an output that isn't whole.
-pub(crate) fn complain_of_output<E: Out>(fault: RowFault, err: &mut E) -> Status
+pub(crate) fn complain_of_output<E: Out>(fault: OutputFault, err: &mut E) -> Status
     ensures status { result ≡ status_unsent fault }
     ensures message { Says (E.faults err.old) (E.faults err.new) (E.known err.old) (E.known err.new)
         (message_unsent fault) }
 {
     match fault {
-        RowFault::Sink => {
+        OutputFault::Sink => {
             say(err, &[b"otio: output failed\n".as_slice()]);
             Status::Output
         }
-        RowFault::Memory => complain_of_memory(err),
+        OutputFault::Memory => complain_of_memory(err),
     }
 }
 
@@ -309,28 +323,28 @@ fn write_to<W: Out>(
     target: Option<&str>,
     planned: &Planned,
     out: &mut W,
-) -> Result<(), RowFault>
+) -> Result<(), OutputFault>
     requires fits { Fits planned.now }
     requires fresh { IsFresh (W.known out.old) }
     ensures told { Tells (WritesTo (text_at target.entry) (text_planned planned.now) result)
         (W.known out.old) (W.known out.new) }
-    ensures cause { HasSendCause (AreRows planned.now) (W.faults out.old)
+    ensures cause { HasOutputCause (AreRows planned.now) (W.faults out.old)
         (W.faults out.new) result }
 {
     match target {
         None => write_planned(alloc, planned, out),
         Some(name) => match out.aim(name) {
             Ok(()) => write_planned(alloc, planned, out),
-            Err(_) => Err(RowFault::Sink),
+            Err(_) => Err(OutputFault::Sink),
         },
     }
 }
 
-fn write_planned<W: Out>(alloc: Global, planned: &Planned, out: &mut W) -> Result<(), RowFault>
+fn write_planned<W: Out>(alloc: Global, planned: &Planned, out: &mut W) -> Result<(), OutputFault>
     requires { Fits planned.now }
     ensures told { Tells (SendsAll (text_planned planned.now) result) (W.known out.old)
         (W.known out.new) }
-    ensures cause { HasSendCause (AreRows planned.now) (W.faults out.old)
+    ensures cause { HasOutputCause (AreRows planned.now) (W.faults out.old)
         (W.faults out.new) result }
 {
     match planned {
@@ -358,15 +372,15 @@ fn write_events<W: Out>(
     drop: bool,
     wide: bool,
     out: &mut W,
-) -> Result<(), RowFault>
+) -> Result<(), OutputFault>
     requires { IsWritableIn list.now drop wide }
     ensures told { Tells (SendsAll (spelling list.now drop wide) result) (W.known out.old)
         (W.known out.new) }
-    ensures cause { HasSendCause ⊥ (W.faults out.old) (W.faults out.new) result }
+    ensures cause { HasOutputCause ⊥ (W.faults out.old) (W.faults out.new) result }
 {
     match write_list(list, drop, wide, out) {
         Ok(()) => Ok(()),
-        Err(_) => Err(RowFault::Sink),
+        Err(_) => Err(OutputFault::Sink),
     }
 }
 
@@ -377,62 +391,62 @@ fn write_noted_events<W: Out>(
     drop: bool,
     wide: bool,
     out: &mut W,
-) -> Result<(), RowFault>
+) -> Result<(), OutputFault>
     requires { CanBeNoted list.now notes.now drop wide }
     ensures told { Tells (SendsAll (noted_spelling list.now notes.now drop wide) result)
         (W.known out.old) (W.known out.new) }
-    ensures cause { HasSendCause ⊥ (W.faults out.old) (W.faults out.new) result }
+    ensures cause { HasOutputCause ⊥ (W.faults out.old) (W.faults out.new) result }
 {
     match write_noted(list, notes, drop, wide, out) {
         Ok(()) => Ok(()),
-        Err(_) => Err(RowFault::Sink),
+        Err(_) => Err(OutputFault::Sink),
     }
 }
 
 // Sends a value.
-fn write_value<W: Out>(value: &Json, out: &mut W) -> Result<(), RowFault>
+fn write_value<W: Out>(value: &Json, out: &mut W) -> Result<(), OutputFault>
     ensures told { Tells (SendsAll (layout value.now) result) (W.known out.old) (W.known out.new) }
-    ensures cause { HasSendCause ⊥ (W.faults out.old) (W.faults out.new) result }
+    ensures cause { HasOutputCause ⊥ (W.faults out.old) (W.faults out.new) result }
 {
     match write_json(value, out) {
         Ok(()) => Ok(()),
-        Err(_) => Err(RowFault::Sink),
+        Err(_) => Err(OutputFault::Sink),
     }
 }
 
 // Sends an object.
-fn write_root<W: Out>(object: &Object, out: &mut W) -> Result<(), RowFault>
+fn write_root<W: Out>(object: &Object, out: &mut W) -> Result<(), OutputFault>
     ensures told { Tells (SendsAll (layout (object_json object.now)) result) (W.known out.old)
         (W.known out.new) }
-    ensures cause { HasSendCause ⊥ (W.faults out.old) (W.faults out.new) result }
+    ensures cause { HasOutputCause ⊥ (W.faults out.old) (W.faults out.new) result }
 {
     match write_object(object, out) {
         Ok(()) => Ok(()),
-        Err(_) => Err(RowFault::Sink),
+        Err(_) => Err(OutputFault::Sink),
     }
 }
 
 // Sends an object in the older family.
-fn write_old_root<W: Out>(object: &Object, out: &mut W) -> Result<(), RowFault>
+fn write_old_root<W: Out>(object: &Object, out: &mut W) -> Result<(), OutputFault>
     ensures told { Tells (SendsAll (layout (old_object_json object.now)) result) (W.known out.old)
         (W.known out.new) }
-    ensures cause { HasSendCause ⊥ (W.faults out.old) (W.faults out.new) result }
+    ensures cause { HasOutputCause ⊥ (W.faults out.old) (W.faults out.new) result }
 {
     match write_old_object(object, out) {
         Ok(()) => Ok(()),
-        Err(_) => Err(RowFault::Sink),
+        Err(_) => Err(OutputFault::Sink),
     }
 }
 
 // Sends a timeline.
-fn write_edited<W: Out>(timeline: &Timeline, out: &mut W) -> Result<(), RowFault>
+fn write_edited<W: Out>(timeline: &Timeline, out: &mut W) -> Result<(), OutputFault>
     ensures told { Tells (SendsAll (timeline_text timeline.now) result) (W.known out.old)
         (W.known out.new) }
-    ensures cause { HasSendCause ⊥ (W.faults out.old) (W.faults out.new) result }
+    ensures cause { HasOutputCause ⊥ (W.faults out.old) (W.faults out.new) result }
 {
     match write_timeline(timeline, out) {
         Ok(()) => Ok(()),
-        Err(_) => Err(RowFault::Sink),
+        Err(_) => Err(OutputFault::Sink),
     }
 }
 
@@ -442,52 +456,52 @@ fn write_frames<W: Out>(
     timeline: &Timeline,
     listing: &Listing,
     out: &mut W,
-) -> Result<(), RowFault>
+) -> Result<(), OutputFault>
     requires { CanBeShown timeline.now }
     ensures told { Tells (SendsAll (listing_text timeline.now listing.now) result) (W.known out.old)
         (W.known out.new) }
-    ensures cause { HasSendCause (Unit {0}) (W.faults out.old) (W.faults out.new) result }
+    ensures cause { HasOutputCause (Unit {0}) (W.faults out.old) (W.faults out.new) result }
 {
-    match write_rows(alloc, timeline, listing, out) {
-        Ok(()) => Ok(()),
-        Err(RowFault::Sink) => Err(RowFault::Sink),
-        Err(RowFault::Memory) => Err(RowFault::Memory),
-    }
+    write_rows(alloc, timeline, listing, out)
 }
 
 // Sends listings.
-fn write_listed<W: Out>(timeline: &Timeline, asked: Listings, out: &mut W) -> Result<(), RowFault>
+fn write_listed<W: Out>(
+    timeline: &Timeline,
+    asked: Listings,
+    out: &mut W,
+) -> Result<(), OutputFault>
     requires { count_below timeline.now.tracks.children < 2 ^ 32 }
     ensures told { Tells (SendsAll (listings_text timeline.now asked) result) (W.known out.old)
         (W.known out.new) }
-    ensures cause { HasSendCause ⊥ (W.faults out.old) (W.faults out.new) result }
+    ensures cause { HasOutputCause ⊥ (W.faults out.old) (W.faults out.new) result }
 {
     match write_listings(timeline, asked, out) {
         Ok(()) => Ok(()),
-        Err(_) => Err(RowFault::Sink),
+        Err(_) => Err(OutputFault::Sink),
     }
 }
 
 // Sends a text.
-fn write_text<W: Out>(text: &[u8], out: &mut W) -> Result<(), RowFault>
+fn write_text<W: Out>(text: &[u8], out: &mut W) -> Result<(), OutputFault>
     ensures told { Tells (SendsAll text.now result) (W.known out.old) (W.known out.new) }
-    ensures cause { HasSendCause ⊥ (W.faults out.old) (W.faults out.new) result }
+    ensures cause { HasOutputCause ⊥ (W.faults out.old) (W.faults out.new) result }
 {
     match write_all(out, text) {
         Ok(()) => Ok(()),
-        Err(_) => Err(RowFault::Sink),
+        Err(_) => Err(OutputFault::Sink),
     }
 }
 
 // Sends a media list.
-fn write_rows_of<W: Out>(list: &MediaList, out: &mut W) -> Result<(), RowFault>
+fn write_rows_of<W: Out>(list: &MediaList, out: &mut W) -> Result<(), OutputFault>
     ensures told { Tells (SendsAll (media_text list.now) result) (W.known out.old)
         (W.known out.new) }
-    ensures cause { HasSendCause ⊥ (W.faults out.old) (W.faults out.new) result }
+    ensures cause { HasOutputCause ⊥ (W.faults out.old) (W.faults out.new) result }
 {
     match write_media(list, out) {
         Ok(()) => Ok(()),
-        Err(_) => Err(RowFault::Sink),
+        Err(_) => Err(OutputFault::Sink),
     }
 }
 

@@ -3,16 +3,16 @@ ghost use Rattle.std.specs.Prelude.{◌≡◌, None};
 ghost use Rattle.dev_io.specs.Calls.{Tells, SendsAll, IsFresh};
 ghost use Rattle.drill.specs.Lines.{tally_text};
 ghost use Rattle.otio_tools.specs.Drilled.{EndsDrill, SendsTally};
-ghost use Rattle.otio_tools.specs.Plan.{HasSendCause, WritesTo};
+ghost use Rattle.dev_io.specs.OutputCauses.{HasOutputCause};
+ghost use Rattle.otio_tools.specs.Plan.{WritesTo};
 ghost use Rattle.otio_tools.specs.Run.{streams};
 ghost use Rattle.otio_tools.specs.Texts.{text_at};
 
 use crate::command::{complain_of_memory, complain_of_output};
 use crate::{Desk, Status};
 use command_words::DrillAsked;
-use dev_io::Out;
+use dev_io::{Out, OutputFault};
 use drill::{Drilled, Tally, drill, write_tally};
-use show_prog::RowFault;
 use std::alloc::Global;
 use std::mem;
 
@@ -64,28 +64,32 @@ fn send_tally<W: Out, E: Out>(
 }
 
 // Sends what a drill tells to the target.
-fn write_tally_to<W: Out>(target: Option<&str>, tally: Tally, out: &mut W) -> Result<(), RowFault>
+fn write_tally_to<W: Out>(
+    target: Option<&str>,
+    tally: Tally,
+    out: &mut W,
+) -> Result<(), OutputFault>
     requires fresh { IsFresh (W.known out.old) }
     ensures told { Tells (WritesTo (text_at target.entry) (tally_text tally) result)
         (W.known out.old) (W.known out.new) }
-    ensures cause { HasSendCause ⊥ (W.faults out.old) (W.faults out.new) result }
+    ensures cause { HasOutputCause ⊥ (W.faults out.old) (W.faults out.new) result }
 {
     match target {
         None => write_told(tally, out),
         Some(name) => match out.aim(name) {
             Ok(()) => write_told(tally, out),
-            Err(_) => Err(RowFault::Sink),
+            Err(_) => Err(OutputFault::Sink),
         },
     }
 }
 
 // Sends what a drill tells where the stream writes.
-fn write_told<W: Out>(tally: Tally, out: &mut W) -> Result<(), RowFault>
+fn write_told<W: Out>(tally: Tally, out: &mut W) -> Result<(), OutputFault>
     ensures told { Tells (SendsAll (tally_text tally) result) (W.known out.old) (W.known out.new) }
-    ensures cause { HasSendCause ⊥ (W.faults out.old) (W.faults out.new) result }
+    ensures cause { HasOutputCause ⊥ (W.faults out.old) (W.faults out.new) result }
 {
     match write_tally(tally, out) {
         Ok(()) => Ok(()),
-        Err(_) => Err(RowFault::Sink),
+        Err(_) => Err(OutputFault::Sink),
     }
 }

@@ -50,11 +50,7 @@ pub fn opened_timeline(
             Ok(timeline) => sound_timeline(alloc, timeline),
             Err(refusal) => Err(refusal),
         },
-        Content::Value(_) => unreachable!(),
-        Content::Root(_) => unreachable!(),
-        Content::Noted(_, _) => unreachable!(),
-        Content::Rows(_) => unreachable!(),
-        Content::Commands(_) => unreachable!(),
+        _ => unreachable!(),
     }
 }
 

@@ -1,5 +1,5 @@
 // Texts of lists.
-ghost use Rattle.std.specs.Prelude.{All, IsUtf8, IfSome};
+ghost use Rattle.std.specs.Prelude.{All, IsUtf8};
 ghost use Rattle.edl_law.specs.Law.{HasName, HasNames};
 ghost use Rattle.note_law.specs.Law.{HasText};
 ghost use Rattle.otio_tools.specs.Carried.{HasTexts};

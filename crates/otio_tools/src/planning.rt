@@ -1,25 +1,26 @@
 // What is to be sent for a command, or why there is nothing.
-ghost use Rattle.std.specs.Prelude.{◌≡◌, ◌≢◌, ◌++◌, ℕ, List, Option, [], ◌∷◌, IfOk, IfErr, false, length, suc};
+ghost use Rattle.std.specs.Prelude.{◌≡◌, ◌≢◌, ◌++◌, ℕ, List, Option, Some, [], ◌∷◌, IfOk, IfErr, false, length, suc};
 ghost use Rattle.std.specs.Global.{Vec as AnyVec};
 ghost use Rattle.std.specs.Option.{option_copied};
 ghost use Rattle.command_words.specs.declared.requests.Command.{Command as AnyCommand};
 ghost use Rattle.command_words.specs.declared.requests.Command.TheVariants.{ListToList as ListAgain, ListToObjects as ListAsObjects};
 ghost use Rattle.tick_time.specs.declared.rates.Rate.{Rate as AnyRate};
 ghost use Rattle.dev_io.specs.Calls.{Tells};
-ghost use Rattle.source_files.specs.Order.{EachIs};
+ghost use Rattle.source_files.specs.Order.{EachIs, IsAmong};
 ghost use Rattle.source_files.specs.Formats.{Suits};
-ghost use Rattle.source_files.specs.Reading.{RaisedAt, HaveRead, HasStopped, Source as Input};
+ghost use Rattle.source_files.specs.Reading.{RaisedAt, HaveRead, HasStopped, names_of, Source as Input};
 ghost use Rattle.edit_script.specs.declared.commands.Command.{Command as Line};
 ghost use Rattle.source_files.specs.declared.file_kinds.Content.{Content as AnyContent};
 ghost use Rattle.source_files.specs.declared.file_kinds.Content.TheVariants.{Value, Root, Film, Events as ListOf, Noted as NotedOf, Rows, Commands};
 ghost use Rattle.source_files.specs.declared.file_kinds.Kind.TheVariants.{Json as AsJson, Object as AsObject, Timeline as AsTimeline, Log as AsLog};
 ghost use Rattle.command_words.specs.Asked.{other_names};
-ghost use Rattle.otio_tools.specs.Asked.{EditsTimeline, IsScripted, asked_alone, asked_for, edit_files, files_alone, is_log as is_log_text, kind_of, media_kind as media_kind_of, one_file};
+ghost use Rattle.otio_tools.specs.Asked.{EditsTimeline, IsScripted, asked_alone, asked_for, edit_files, files_alone, files_of, is_log as is_log_text, kind_of, media_kind as media_kind_of, one_file};
 ghost use Rattle.otio_tools.specs.Asked as asking;
 ghost use Rattle.otio_tools.specs.Several.{HasJoining};
 ghost use Rattle.otio_tools.specs.Pulled.{HasFewHandles};
 ghost use Rattle.otio_tools.specs.Answer.{AnswersHeld};
 ghost use Rattle.otio_tools.specs.Plan.{Plans, PlansHeld, Suffices, AreContents, AreEditContents, AreEditParts, AreRows, Fits, HasFormedList, HasNotedList, IsDesk, IsDeskFor, IsEditable, IsFor, LeavesWork, media_content};
+ghost use Rattle.otio_tools.specs.Reported.{IsToldOf};
 ghost use Rattle.otio_tools.specs.Texts.{text_at};
 
 use crate::Desk;
@@ -106,6 +107,8 @@ pub fn plan<'a, F: Files>(
     ensures fits { IfOk result (λ planned. Fits planned) }
     ensures kind { IfOk result (λ planned. IsFor command planned) }
     ensures desk { IfOk result (λ planned. IsDeskFor command planned) }
+    ensures named { IfErr result (λ stop.
+        IsAmong (names_of (files_of command name.now (other_names others.entry))) stop.name.now) }
     ensures cause { RaisedAt result (F.faults files.old) (F.faults files.new) }
 {
     if takes_several(command) {
@@ -122,13 +125,7 @@ fn takes_several(command: Command) -> bool
     match command {
         Command::Cat | Command::ListCat { .. } => true,
         Command::Tool(_) | Command::ListTool { .. } => true,
-        Command::ListToList { .. } | Command::ListToObjects { .. } => false,
-        Command::TimelineToList { .. } | Command::ToObjects { .. } | Command::ToJson => false,
-        Command::Frames(_) | Command::ListFrames { .. } => false,
-        Command::Edit | Command::ListEdit { .. } => false,
-        Command::Stat | Command::ListStat { .. } => false,
-        Command::Pull { .. } | Command::ListPull { .. } => false,
-        Command::LogToMedia => false,
+        _ => false,
     }
 }
 
@@ -149,6 +146,8 @@ fn plan_alone<'a, F: Files>(
     ensures fits { IfOk result (λ planned. Fits planned) }
     ensures kind { IfOk result (λ planned. IsFor command planned) }
     ensures desk { IfOk result (λ planned. IsDeskFor command planned) }
+    ensures named { let rest = other_names others.entry in IfErr result (λ stop.
+        IsAmong (names_of (files_alone command name.now rest.script rest.media)) stop.name.now) }
     ensures cause { RaisedAt result (F.faults files.old) (F.faults files.new) }
 {
     let Others { script, media, .. } = others;
@@ -176,6 +175,9 @@ fn contents_of<'a, F: Files>(
         (F.known files.old) (F.known files.new)) }
     ensures suits { IfOk result (λ contents. EachIs (λ source content. Suits source.kind content)
         (files_alone command name.now (text_at script.entry) (text_at media.entry)) contents.items) }
+    ensures named { IfErr result (λ stop. IsAmong (names_of
+        (files_alone command name.now (text_at script.entry) (text_at media.entry)))
+        stop.name.now) }
     ensures cause { RaisedAt result (F.faults files.old) (F.faults files.new) }
 {
     let file = Source {
@@ -212,33 +214,20 @@ fn contents_of<'a, F: Files>(
     }
 }
 
-// What a command reads its file as.
-fn kind_asked(command: Command) -> Kind
+/// What a command reads its file as.
+pub(crate) fn kind_asked(command: Command) -> Kind
     ensures { result ≡ kind_of command }
 {
     match command {
         Command::ListToList { rate, notes, .. } => list_kind(rate, notes),
-        Command::ListToObjects {
-            rate,
-            older: _,
-            notes,
-        } => list_kind(rate, notes),
-        Command::TimelineToList { .. } => Kind::Timeline,
-        Command::ToObjects { older: _ } => Kind::Object,
+        Command::ListToObjects { rate, notes, .. } => list_kind(rate, notes),
+        Command::ListFrames { rate, .. } | Command::ListEdit { rate } => Kind::List(rate),
+        Command::ListStat { rate } | Command::ListPull { rate, .. } => Kind::List(rate),
+        Command::ListCat { rate } | Command::ListTool { rate, .. } => Kind::List(rate),
+        Command::ToObjects { .. } => Kind::Object,
         Command::ToJson => Kind::Json,
-        Command::Frames(_) => Kind::Timeline,
-        Command::ListFrames { rate, frames: _ } => Kind::List(rate),
-        Command::Edit => Kind::Timeline,
-        Command::ListEdit { rate } => Kind::List(rate),
-        Command::Stat => Kind::Timeline,
-        Command::ListStat { rate } => Kind::List(rate),
-        Command::Pull { handles: _ } => Kind::Timeline,
-        Command::ListPull { rate, handles: _ } => Kind::List(rate),
-        Command::Cat => Kind::Timeline,
-        Command::ListCat { rate } => Kind::List(rate),
-        Command::Tool(_) => Kind::Timeline,
-        Command::ListTool { rate, tool: _ } => Kind::List(rate),
         Command::LogToMedia => Kind::Log,
+        _ => Kind::Timeline,
     }
 }
 
@@ -286,6 +275,8 @@ fn planned_for<'a>(
     ensures fits { IfOk result (λ planned. Fits planned) }
     ensures kind { IfOk result (λ planned. IsFor command planned) }
     ensures desk { IfOk result (λ planned. IsDeskFor command planned) }
+    ensures named { IfErr result (λ stop.
+        IsToldOf name.now (text_at script.entry) stop.name.now) }
     ensures calm { (n : ℕ) → RaisedAt result n n }
 {
     match script {
@@ -313,6 +304,7 @@ fn judged<'a>(
     ensures fits { IfOk result (λ planned. Fits planned) }
     ensures kind { IfOk result (λ planned. IsFor command planned) }
     ensures desk { IfOk result (λ planned. IsDesk planned → ⊥) }
+    ensures named { IfErr result (λ stop. stop.name.now ≡ name.now) }
     ensures calm { (n : ℕ) → RaisedAt result n n }
 {
     let (content, media) = parted(contents);
@@ -342,6 +334,8 @@ fn edit_planned<'a>(
     ensures work { IfOk result (LeavesWork command contents.items) }
     ensures fits { IfOk result (λ planned. Fits planned) }
     ensures kind { IfOk result (λ planned. AreRows planned → ⊥) }
+    ensures named { IfErr result (λ stop.
+        IsToldOf name.now (Some script.now) stop.name.now) }
     ensures calm { (n : ℕ) → RaisedAt result n n }
 {
     let (content, commands, media) = edit_parts(contents);
@@ -369,6 +363,8 @@ fn edited<'a>(
         IfOk result (LeavesWork command contents) }
     ensures fits { IfOk result (λ planned. Fits planned) }
     ensures kind { IfOk result (λ planned. AreRows planned → ⊥) }
+    ensures named { IfErr result (λ stop.
+        IsToldOf name.now (Some script.now) stop.name.now) }
     ensures calm { (n : ℕ) → RaisedAt result n n }
 {
     match opened_timeline(alloc, content, media) {
@@ -486,61 +482,57 @@ fn judge(
     ensures desk { IfOk result (λ planned. IsDesk planned → ⊥) }
 {
     match command {
-        Command::ListToList {
-            rate: _,
-            drop,
-            wide,
-            notes,
-        } => {
-            mem::forget(media);
-            list_again(content, notes, drop, wide)
+        Command::ListToObjects { older, notes, .. } => {
+            list_to_objects(alloc, content, notes, media, older)
         }
-        Command::ListToObjects {
-            rate: _,
-            older,
-            notes,
-        } => list_to_objects(alloc, content, notes, media, older),
         Command::TimelineToList { drop, wide, notes } => {
             let ways = ListWays { drop, wide, notes };
             timeline_to_list(alloc, timeline_in(content), media, ways)
         }
-        Command::ToObjects { older } => {
-            mem::forget(media);
-            object_to_write(alloc, object_in(content), older)
-        }
-        Command::ToJson => {
-            mem::forget(media);
-            Ok(Planned::Value(value_in(content)))
-        }
-        Command::Frames(asked) => {
-            mem::forget(media);
-            frames_to_write(alloc, timeline_in(content), asked)
-        }
-        Command::ListFrames { rate: _, frames } => {
+        Command::ListFrames { frames, .. } => {
             conformed_frames_to_write(alloc, list_in(content), media, frames)
-        }
-        Command::Stat => {
-            mem::forget(media);
-            counts_to_write(alloc, timeline_in(content))
         }
         Command::ListStat { rate: _ } => {
             conformed_counts_to_write(alloc, list_in(content), media)
         }
-        Command::Pull { handles } => {
-            mem::forget(media);
-            pull_to_write(alloc, timeline_in(content), handles)
-        }
-        Command::ListPull { rate: _, handles } => {
+        Command::ListPull { handles, .. } => {
             conformed_pull_to_write(alloc, list_in(content), media, handles)
         }
-        Command::LogToMedia => {
+        _ => {
             mem::forget(media);
-            Ok(Planned::Media(rows_in(content)))
+            judge_alone(alloc, command, content)
         }
-        Command::Edit => unreachable!(),
-        Command::ListEdit { rate: _ } => unreachable!(),
-        Command::Cat | Command::ListCat { .. } => unreachable!(),
-        Command::Tool(_) | Command::ListTool { .. } => unreachable!(),
+    }
+}
+
+// What a command that reads no media list is to send for what its file holds.
+fn judge_alone(alloc: Global, command: Command, content: Content) -> Result<Planned, Refusal>
+    requires suits { Suits (kind_of command) content }
+    requires other { EditsTimeline command → ⊥ }
+    requires alone { asking.takes_several command ≡ false }
+    requires unlisted { asking.takes_media command ≡ false }
+    requires handles { HasFewHandles command }
+    ensures owed { (file : Input) (files : List Input) (more : List AnyContent) →
+        Suffices (λ target answer. AnswersHeld command (file ∷ files) target (content ∷ more)
+        answer) file.name result }
+    ensures fits { IfOk result (λ planned. Fits planned) }
+    ensures kind { IfOk result (λ planned. IsFor command planned) }
+    ensures desk { IfOk result (λ planned. IsDesk planned → ⊥) }
+{
+    match command {
+        Command::ListToList {
+            drop,
+            wide,
+            notes,
+            ..
+        } => list_again(content, notes, drop, wide),
+        Command::ToObjects { older } => object_to_write(alloc, object_in(content), older),
+        Command::ToJson => Ok(Planned::Value(value_in(content))),
+        Command::Frames(asked) => frames_to_write(alloc, timeline_in(content), asked),
+        Command::Stat => counts_to_write(alloc, timeline_in(content)),
+        Command::Pull { handles } => pull_to_write(alloc, timeline_in(content), handles),
+        Command::LogToMedia => Ok(Planned::Media(rows_in(content))),
+        _ => unreachable!(),
     }
 }
 
@@ -594,12 +586,7 @@ fn list_in(content: Content) -> EventList
 {
     match content {
         Content::Events(list) => list,
-        Content::Value(_) => unreachable!(),
-        Content::Root(_) => unreachable!(),
-        Content::Film(_) => unreachable!(),
-        Content::Noted(_, _) => unreachable!(),
-        Content::Rows(_) => unreachable!(),
-        Content::Commands(_) => unreachable!(),
+        _ => unreachable!(),
     }
 }
 
@@ -610,12 +597,7 @@ fn noted_in(content: Content) -> (EventList, Notes)
 {
     match content {
         Content::Noted(list, notes) => (list, notes),
-        Content::Events(_) => unreachable!(),
-        Content::Value(_) => unreachable!(),
-        Content::Root(_) => unreachable!(),
-        Content::Film(_) => unreachable!(),
-        Content::Rows(_) => unreachable!(),
-        Content::Commands(_) => unreachable!(),
+        _ => unreachable!(),
     }
 }
 
@@ -626,12 +608,7 @@ fn value_in(content: Content) -> Json
 {
     match content {
         Content::Value(value) => value,
-        Content::Root(_) => unreachable!(),
-        Content::Film(_) => unreachable!(),
-        Content::Events(_) => unreachable!(),
-        Content::Noted(_, _) => unreachable!(),
-        Content::Rows(_) => unreachable!(),
-        Content::Commands(_) => unreachable!(),
+        _ => unreachable!(),
     }
 }
 
@@ -642,12 +619,7 @@ fn object_in(content: Content) -> Object
 {
     match content {
         Content::Root(object) => object,
-        Content::Value(_) => unreachable!(),
-        Content::Film(_) => unreachable!(),
-        Content::Events(_) => unreachable!(),
-        Content::Noted(_, _) => unreachable!(),
-        Content::Rows(_) => unreachable!(),
-        Content::Commands(_) => unreachable!(),
+        _ => unreachable!(),
     }
 }
 
@@ -658,12 +630,7 @@ fn timeline_in(content: Content) -> Timeline
 {
     match content {
         Content::Film(timeline) => timeline,
-        Content::Value(_) => unreachable!(),
-        Content::Root(_) => unreachable!(),
-        Content::Events(_) => unreachable!(),
-        Content::Noted(_, _) => unreachable!(),
-        Content::Rows(_) => unreachable!(),
-        Content::Commands(_) => unreachable!(),
+        _ => unreachable!(),
     }
 }
 
@@ -674,11 +641,6 @@ fn rows_in(content: Content) -> MediaList
 {
     match content {
         Content::Rows(list) => list,
-        Content::Value(_) => unreachable!(),
-        Content::Root(_) => unreachable!(),
-        Content::Film(_) => unreachable!(),
-        Content::Events(_) => unreachable!(),
-        Content::Noted(_, _) => unreachable!(),
-        Content::Commands(_) => unreachable!(),
+        _ => unreachable!(),
     }
 }

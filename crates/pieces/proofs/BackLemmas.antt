@@ -2,25 +2,23 @@
 use Rattle.std.proofs.Common.{◌≡◌, refl, sym, subst, ap, ◌∙◌, ℕ, ◌≤◌, ℤ, pos, ◌-ℤ◌, ◌≤ℤ◌, ◌<ℤ◌, true, false, List, [], ◌∷◌, ◌++◌, Some, drop, length, arith}
 use Rattle.std.specs.Prelude.{int_lt, int_le, option_map}
 use Rattle.std.proofs.lemmas.Int.{ints}
+use Rattle.std.proofs.lemmas.List.{append-nil as none_more}
 use Rattle.tick_time.specs.declared.rates.Rate.{Rate}
 use Rattle.otio_model.specs.declared.compositions.ItemOf.{ItemOf}
 use Rattle.otio_model.specs.declared.compositions.Listed.{Listed}
 use Rattle.edits.specs.Children.{Child, Old, ticks, made, all_made, with_first}
 use Rattle.edits.specs.Cuts.{back, right_piece, olds}
-use Rattle.edits.specs.Children.{is_far, has_far}
 use Rattle.pieces.proofs.Tests.{lt_yes, lt_no, le_yes, le_no}
 use Rattle.coord.proofs.Members.{none_left}
 use Rattle.pieces.proofs.Grown.{one_more, same_map}
-use Rattle.pieces.proofs.SameTimes.{or_left, or_right}
 
 -- so much is made, and the back of what is left is to be made
 pub record Backed (rate : Rate) (l : List (ItemOf Listed)) (t : ℤ) (made rest : List (ItemOf Listed)) (left : ℤ) : Type 0 where
   pub is : all_made rate (back l t) ≡ option_map (λ m. made ++ m) (all_made rate (back rest left))
-  pub far : has_far (back rest left) ≡ true → has_far (back l t) ≡ true
   pub low : pos 0 ≤ℤ left
 
 pub back_first : (rate : Rate) (l rest : List (ItemOf Listed)) (t : ℤ) → rest ≡ l → pos 0 ≤ℤ t → Backed rate l t [] rest t
-back_first rate l rest t e h = subst (λ r. Backed rate l t [] r t) (sym e) (record { is = same_map (all_made rate (back l t)); far = λ f. f; low = h })
+back_first rate l rest t e h = subst (λ r. Backed rate l t [] r t) (sym e) (record { is = same_map (all_made rate (back l t)); low = h })
 
 -- nothing is left to be skipped
 back_all : (l : List (ItemOf Listed)) (t : ℤ) → t ≤ℤ pos 0 → back l t ≡ olds l
@@ -32,7 +30,6 @@ step_is : (rate : Rate) (l rest more done new : List (ItemOf Listed)) (t left le
     → Backed rate l t new more less
 step_is rate l rest more done new t left less c y f e m n low = record {
   is = f.is ∙ ap (λ q. option_map (λ m. done ++ m) (all_made rate q)) e ∙ ap (λ o. option_map (λ m. done ++ m) (with_first o (all_made rate (back more less)))) m ∙ one_more done y (all_made rate (back more less)) ∙ ap (λ q. option_map (λ m. q ++ m) (all_made rate (back more less))) (sym n);
-  far = λ g. f.far (ap has_far e ∙ or_right (is_far c) _ g);
   low = low;
 }
 
@@ -68,7 +65,6 @@ back_skipped rate l rest more done t left less x f e h k z =
     let a = skip_is rest more left less x e h k z in
     record {
       is = f.is ∙ ap (λ q. option_map (λ m. done ++ m) (all_made rate q)) a;
-      far = λ g. f.far (ap has_far a ∙ g);
       low = omega (arith, ints, z, k);
     }
 
@@ -80,15 +76,5 @@ pub skip_kept : (rate : Rate) (l rest more done new : List (ItemOf Listed)) (t l
     → Backed rate l t new more less
 skip_kept rate l rest more done new t left less x f e h k z n = subst (λ d. Backed rate l t d more less) (sym n) (back_skipped rate l rest more done t left less x f e h k z)
 
-none_more : (r : List (ItemOf Listed)) → r ++ [] ≡ r
-none_more [] = refl
-none_more (x ∷ r) = ap (λ q. x ∷ q) (none_more r)
-
 pub back_end : (rate : Rate) (l done : List (ItemOf Listed)) (i : ℕ) (t s left : ℤ) → Backed rate l t done (drop i l) left → s ≡ t → length l ≤ i → all_made rate (back l s) ≡ Some done
 back_end rate l done i t s left f e n = ap (λ z. all_made rate (back l z)) e ∙ f.is ∙ ap (λ r. option_map (λ m. done ++ m) (all_made rate (back r left))) (none_left l i n) ∙ ap Some (none_more done)
-
--- a piece that is out of range
-pub back_far : (rate : Rate) (l rest more done : List (ItemOf Listed)) (t s left cut : ℤ) (x : ItemOf Listed) → Backed rate l t done rest left → s ≡ t → rest ≡ x ∷ more → pos 0 <ℤ left → left <ℤ ticks x → cut ≡ left → is_far (right_piece x cut) ≡ true
-    → has_far (back l s) ≡ true
-back_far rate l rest more done t s left cut x f e g h k same b =
-    ap (λ z. has_far (back l z)) e ∙ f.far (ap has_far (cut_is rest more left (pos 0) x g h k refl) ∙ or_left _ _ (subst (λ c. is_far (right_piece x c) ≡ true) same b))

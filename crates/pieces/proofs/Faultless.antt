@@ -1,22 +1,20 @@
 -- What is known of an item that has no fault.
-use Rattle.std.proofs.Common.{◌≡◌, refl, subst, ap, ◌∙◌, ℕ, ◌≤◌, ℤ, pos, ◌+ℤ◌, ◌-ℤ◌, ◌*ℤ◌, ◌≤ℤ◌, Bool, true, false, cond, Option, Some, None, arith}
-use Rattle.std.specs.Prelude.{nat_lt, ◌&&◌, ◌||◌, not}
+use Rattle.std.proofs.Common.{◌≡◌, refl, ap, ◌∙◌, ℕ, ◌≤◌, ℤ, pos, ◌+ℤ◌, ◌-ℤ◌, ◌*ℤ◌, ◌≤ℤ◌, Bool, true, false, cond, Option, Some, None, arith}
 use Rattle.std.proofs.lemmas.Int.{ints}
+use Rattle.std.proofs.lemmas.Bool.{and_parts as and_both, or_parts as or_both, not-false as not_no, ltb-false as nat_no}
 use Rattle.otio_model.specs.declared.compositions.ItemOf.{ItemOf}
 use Rattle.otio_model.specs.declared.compositions.ItemOf.TheVariants.{Clip, Gap, Transition, Stack, Track}
 use Rattle.otio_model.specs.declared.compositions.Listed.{Listed}
 use Rattle.otio_model.specs.Lengths.{length_of}
 use Rattle.otio_model.specs.Lengths.{trimmed_start}
 use Rattle.otio_model.specs.Lengths.{or_zero}
-use Rattle.tick_time.specs.declared.rates.Rate.{Rate}
 use Rattle.coord.specs.Speeds.{effects_of, speed_of, media_at}
 use Rattle.otio_model.specs.Speeds.{keeps_speed}
 use Rattle.coord.specs.declared.faults.ItemFault.{ItemFault}
 use Rattle.coord.specs.declared.faults.ItemFault.TheVariants.{NoLength, Speed, Long}
 use Rattle.coord.specs.Soundness.{fault_of, ranged_fault, is_long, media_end, most_end}
-use Rattle.edits.specs.Children.{ticks, made, Ranged}
-use Rattle.edits.specs.Cuts.{left_piece, right_piece}
-use Rattle.edits.specs.Children.{is_far}
+use Rattle.edits.specs.Children.{ticks, Ranged}
+use Rattle.edits.specs.Cuts.{right_piece}
 use Rattle.coord.proofs.ShortItems.{trimmed_near}
 use Rattle.pieces.specs.Short.{IsShort, IsCuttable}
 use Rattle.pieces.proofs.Grown.{ticks_are}
@@ -35,23 +33,6 @@ pub record IsShortOf (x : ItemOf Listed) (n : ℕ) : Type 0 where
   pub low : n ≤ 705600000000000000000000
   pub ends_low : (pos 0 -ℤ most_end) ≤ℤ media_end x n
   pub ends_high : media_end x n ≤ℤ most_end
-
-nat_no : (a b : ℕ) → nat_lt a b ≡ false → b ≤ a
-nat_no a b e = grind arith
-
-or_both : (a b : Bool) → (a || b) ≡ false → (a ≡ false) × (b ≡ false)
-or_both false false e = (refl, refl)
-or_both false true e = absurd (cc e)
-or_both true b e = absurd (cc e)
-
-not_no : (a : Bool) → not a ≡ false → a ≡ true
-not_no true e = refl
-not_no false e = absurd (cc e)
-
-and_both : (a b : Bool) → (a && b) ≡ true → (a ≡ true) × (b ≡ true)
-and_both true true e = (refl, refl)
-and_both true false e = absurd (cc e)
-and_both false b e = absurd (cc e)
 
 not_long : (x : ItemOf Listed) (n : ℕ) → is_long x n ≡ false → IsShortOf x n
 not_long x n e =
@@ -94,23 +75,9 @@ faultless_short x e = let h = (faultless x e).low in let t = ticks_are x in omeg
 pub faultless_is_short : (x : ItemOf Listed) → IsCuttable x → IsShort x
 faultless_is_short x h = record { few = h.few; short = faultless_short x h.sound }
 
--- the pieces are those of the numbers that were reckoned
-pub left_made : (r : Rate) (x y : ItemOf Listed) (s t : ℤ) → s ≡ trimmed_start x → made r (Ranged x s t) ≡ Some y → made r (left_piece x t) ≡ Some y
-left_made r x y s t e h = subst (λ z. made r (Ranged x z t) ≡ Some y) e h
-
-pub left_far : (x : ItemOf Listed) (s t : ℤ) → s ≡ trimmed_start x → is_far (Ranged x s t) ≡ true → is_far (left_piece x t) ≡ true
-left_far x s t e h = subst (λ z. is_far (Ranged x z t) ≡ true) e h
-
+-- the right piece is the one of the numbers that were computed
 pub right_is : (x : ItemOf Listed) (s m p t n k : ℤ) → m ≡ media_at s p t → s ≡ trimmed_start x → p ≡ speed_of x → n ≡ ticks x → k ≡ n -ℤ t → Ranged x m k ≡ right_piece x t
 right_is x s m p t n k e f g h i =
     let a : m ≡ media_at (trimmed_start x) (speed_of x) t = e ∙ ap (λ z. media_at z p t) f ∙ ap (λ z. media_at (trimmed_start x) z t) g in
     let b : k ≡ ticks x -ℤ t = i ∙ ap (λ z. z -ℤ t) h in
     ap (λ z. Ranged x z k) a ∙ ap (λ z. Ranged x (media_at (trimmed_start x) (speed_of x) t) z) b
-
-pub right_made : (r : Rate) (x y : ItemOf Listed) (s m p t n k : ℤ) → m ≡ media_at s p t → s ≡ trimmed_start x → p ≡ speed_of x → n ≡ ticks x → k ≡ n -ℤ t → made r (Ranged x m k) ≡ Some y
-    → made r (right_piece x t) ≡ Some y
-right_made r x y s m p t n k e f g h i j = subst (λ c. made r c ≡ Some y) (right_is x s m p t n k e f g h i) j
-
-pub right_far : (x : ItemOf Listed) (s m p t n k : ℤ) → m ≡ media_at s p t → s ≡ trimmed_start x → p ≡ speed_of x → n ≡ ticks x → k ≡ n -ℤ t → is_far (Ranged x m k) ≡ true
-    → is_far (right_piece x t) ≡ true
-right_far x s m p t n k e f g h i j = subst (λ c. is_far c ≡ true) (right_is x s m p t n k e f g h i) j

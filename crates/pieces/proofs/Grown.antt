@@ -1,5 +1,5 @@
 -- Fronts of lists, made one child after another.
-use Rattle.std.proofs.Common.{◌≡◌, refl, sym, subst, ap, ◌∙◌, ℕ, ◌+◌, ◌≤◌, ℤ, pos, ◌-ℤ◌, ◌≤ℤ◌, ◌<ℤ◌, true, false, List, [], ◌∷◌, ◌++◌, Option, Some, None, drop, length, arith, append_assoc}
+use Rattle.std.proofs.Common.{◌≡◌, refl, sym, subst, ap, ◌∙◌, ℕ, ◌≤◌, ℤ, pos, ◌-ℤ◌, ◌≤ℤ◌, ◌<ℤ◌, true, false, List, [], ◌∷◌, ◌++◌, Option, Some, None, drop, length, arith, append_assoc}
 use Rattle.std.specs.Prelude.{int_lt, int_le, option_map}
 use Rattle.std.proofs.lemmas.Int.{ints}
 use Rattle.tick_time.specs.declared.rates.Rate.{Rate}
@@ -108,14 +108,6 @@ pub gap_as : (rate : Rate) (l done new : List (ItemOf Listed)) (i : ℕ) (t s le
     → all_made rate (front l s) ≡ Some new
 gap_as rate l done new i t s left gap y f e n h k m o =
     ap (λ z. all_made rate (front l z)) e ∙ front_gap rate l done i t left y f n h (subst (λ z. made rate (new_gap z) ≡ Some y) m k) ∙ ap Some (sym o)
-
-pub cut_far : (rate : Rate) (l rest more done : List (ItemOf Listed)) (t s left cut : ℤ) (x : ItemOf Listed) → Fronted rate l t done rest left → s ≡ t → rest ≡ x ∷ more → pos 0 <ℤ left → left <ℤ ticks x → cut ≡ left → is_far (left_piece x cut) ≡ true
-    → has_far (front l s) ≡ true
-cut_far rate l rest more done t s left cut x f e g h k m b =
-    let p : int_lt (pos 0) left ≡ true = lt_yes (pos 0) left h in
-    let q : int_le (ticks x) left ≡ false = le_no (ticks x) left k in
-    let cut : front (x ∷ more) left ≡ left_piece x left ∷ [] = rw (p, q) refl in
-    ap (λ z. has_far (front l z)) e ∙ f.far (ap has_far (ap (λ r. front r left) g ∙ cut) ∙ or_left _ _ (subst (λ z. is_far (left_piece x z) ≡ true) m b))
 
 pub gap_far : (rate : Rate) (l done : List (ItemOf Listed)) (i : ℕ) (t s left gap : ℤ) → Fronted rate l t done (drop i l) left → s ≡ t → length l ≤ i → pos 0 <ℤ left → gap ≡ left → is_far (new_gap gap) ≡ true
     → has_far (front l s) ≡ true

@@ -1,4 +1,5 @@
 pub mod Tests
+pub mod Results
 pub mod SameTimes
 pub mod Grown
 pub mod Inner

@@ -1,25 +1,26 @@
 -- Cuts of items without a fault, up to a million seconds, are in range.
-use Rattle.std.proofs.Common.{◌≡◌, refl, sym, ◌∙◌, ℕ, zero, suc, ℤ, pos, negsuc}
-use Rattle.std.proofs.Common.{◌+ℤ◌, ◌-ℤ◌, ◌*ℤ◌, ◌≤ℤ◌, ◌<ℤ◌, Bool, true, false, List, [], ◌∷◌}
+use Rattle.std.proofs.Common.{◌≡◌, refl, sym, subst, ap₂, ◌∙◌, ℕ, suc, ℤ, pos, negsuc}
+use Rattle.std.proofs.Common.{◌+ℤ◌, ◌-ℤ◌, ◌*ℤ◌, ◌≤ℤ◌, ◌<ℤ◌, true, false, List, [], ◌∷◌}
 use Rattle.std.proofs.Common.{None, arith, mul-le-mul_right, ◌⊎◌, inl, inr, ◌≤◌}
 use Rattle.std.specs.Int.{int_div_euclid, int_rem_euclid}
 use Rattle.std.proofs.lemmas.Int.{by_lt_z, ints}
+use Rattle.std.proofs.lemmas.Bool.{both_ways}
+use Rattle.limits.specs.Limits.{most_ticks}
 use Rattle.otio_model.specs.declared.compositions.ItemOf.{ItemOf}
 use Rattle.otio_model.specs.declared.compositions.Listed.{Listed}
 use Rattle.otio_model.specs.Lengths.{length_of, or_zero, trimmed_start}
 use Rattle.coord.specs.Soundness.{fault_of}
 use Rattle.coord.specs.Speeds.{media_at, speed_of}
-use Rattle.edits.specs.Children.{Ranged, has_far, is_far, plain_gap, ticks}
-use Rattle.edits.specs.Cuts.{back, front, left_piece, olds, right_piece}
+use Rattle.edits.specs.Children.{Ranged, has_far, is_far, new_gap, plain_gap, ticks}
+use Rattle.edits.specs.Cuts.{front, left_piece}
 use Rattle.edits.specs.Finest.{in_range}
 use Rattle.coord.proofs.ShortItems.{trimmed_near}
-use Rattle.pieces.specs.Short.{AreCuttable, IsCuttable}
-use Rattle.pieces.proofs.Faultless.{faultless, faultless_short}
+use Rattle.pieces.proofs.Faultless.{faultless}
 use Rattle.pieces.proofs.Grown.{ticks_are}
 use Rattle.pieces.proofs.Tests.{le_no, le_yes, lt_no, lt_yes}
 
 abbrev most : ℤ
-most = pos 705600000000000000000000
+most = pos most_ticks
 
 in_yes : (z : ℤ) → (pos 0 -ℤ most) ≤ℤ z → z ≤ℤ most → in_range z ≡ true
 in_yes z l h = grind (arith, ints)
@@ -66,9 +67,9 @@ less_far t n (negsuc k) h =
     let m = mul-le-mul_right (suc k) h in inr (omega (arith, ints, m), omega (arith, ints))
 
 -- what is between a start in range and an end in range is in range
-record IsInside (z : ℤ) : Type 0 where
-  low : (pos 0 -ℤ most) ≤ℤ z
-  high : z ≤ℤ most
+pub record IsInside (z : ℤ) : Type 0 where
+  pub low : (pos 0 -ℤ most) ≤ℤ z
+  pub high : z ≤ℤ most
 
 inside : (s z w q : ℤ) → IsInside s → IsFloor z q → IsBetween z w
     → (pos 0 -ℤ (most *ℤ pos 1000000)) ≤ℤ ((s *ℤ pos 1000000) +ℤ w)
@@ -85,7 +86,7 @@ inside s z w q i f (inr b) l h =
 start_inside : (x : ItemOf Listed) → IsInside (trimmed_start x)
 start_inside x = record { low = (trimmed_near x).low; high = (trimmed_near x).high }
 
-media_inside : (x : ItemOf Listed) (t : ℤ) → fault_of x ≡ None → pos 0 ≤ℤ t → t ≤ℤ ticks x
+pub media_inside : (x : ItemOf Listed) (t : ℤ) → fault_of x ≡ None → pos 0 ≤ℤ t → t ≤ℤ ticks x
     → IsInside (media_at (trimmed_start x) (speed_of x) t)
 media_inside x (pos t) e a b =
     let s = faultless x e in
@@ -96,6 +97,11 @@ media_inside x (pos t) e a b =
     s.ends_low s.ends_high
 media_inside x (negsuc t) e a b = absurd (omega (arith, ints, a))
 
+pub media_near : (x : ItemOf Listed) (t m s p : ℤ) → fault_of x ≡ None → pos 0 ≤ℤ t
+    → t ≤ℤ ticks x → m ≡ media_at s p t → s ≡ trimmed_start x → p ≡ speed_of x → IsInside m
+media_near x t m s p e a b f g h =
+    subst IsInside (sym (f ∙ ap₂ (λ u v. media_at u v t) g h)) (media_inside x t e a b)
+
 -- ---- pieces
 
 pub left_near : (x : ItemOf Listed) (t : ℤ) → pos 0 ≤ℤ t → t ≤ℤ most
@@ -103,22 +109,7 @@ pub left_near : (x : ItemOf Listed) (t : ℤ) → pos 0 ≤ℤ t → t ≤ℤ mo
 left_near x t a b =
     let s = start_inside x in near_item x (trimmed_start x) t s.low s.high a b
 
-pub right_near : (x : ItemOf Listed) (t : ℤ) → fault_of x ≡ None → pos 0 ≤ℤ t → t ≤ℤ ticks x
-    → is_far (right_piece x t) ≡ false
-right_near x t e a b =
-    let m = media_inside x t e a b in
-    let h = faultless_short x e in
-    near_item x (media_at (trimmed_start x) (speed_of x) t) (ticks x -ℤ t) m.low m.high
-    (omega (arith, ints, b)) (omega (arith, ints, h, a))
-
 -- ---- lists
-
-others : (x : ItemOf Listed) (l : List (ItemOf Listed)) → AreCuttable (x ∷ l) → AreCuttable l
-others x l k i y e = k (suc i) y e
-
-olds_near : (l : List (ItemOf Listed)) → has_far (olds l) ≡ false
-olds_near [] = refl
-olds_near (x ∷ l) = olds_near l
 
 pub front_near : (l : List (ItemOf Listed)) (t : ℤ) → pos 0 ≤ℤ t → t ≤ℤ most
     → has_far (front l t) ≡ false
@@ -134,36 +125,15 @@ front_near (x ∷ l) t a b = by_lt_z (pos 0) t
     rw (e, f) (front_near l (t -ℤ ticks x) (omega (arith, ints, k)) (omega (arith, ints, b)))))
     (λ h. let e = lt_no (pos 0) t h in rw e refl)
 
-pub back_near : (l : List (ItemOf Listed)) (t : ℤ) → AreCuttable l → has_far (back l t) ≡ false
-back_near [] t k = refl
-back_near (x ∷ l) t k = by_lt_z (pos 0) t
-    (λ h. let e = lt_yes (pos 0) t h in by_lt_z t (ticks x)
-    (λ j. let f = le_no (ticks x) t j in
-    let own = k zero x refl in
-    let g = right_near x t own.sound (omega (arith, ints, h)) (omega (arith, ints, j)) in
-    rw (e, f, g) (olds_near l))
-    (λ j. let f = le_yes (ticks x) t j in
-    rw (e, f) (back_near l (t -ℤ ticks x) (others x l k))))
-    (λ h. let e = lt_no (pos 0) t h in rw e (olds_near l))
-
--- ---- so no fault of range comes
-
-never : (b : Bool) → b ≡ false → b ≡ true → ⊥
-never b e f = cc (sym e ∙ f)
-
-pub cut_left : (x : ItemOf Listed) (t : ℤ) → IsCuttable x → pos 0 ≤ℤ t → t ≤ℤ ticks x
-    → is_far (left_piece x t) ≡ true → ⊥
-cut_left x t k a b =
-    let h = faultless_short x k.sound in
-    never (is_far (left_piece x t)) (left_near x t a (omega (arith, ints, h, b)))
-
-pub cut_right : (x : ItemOf Listed) (t : ℤ) → IsCuttable x → pos 0 ≤ℤ t → t ≤ℤ ticks x
-    → is_far (right_piece x t) ≡ true → ⊥
-cut_right x t k a b = never (is_far (right_piece x t)) (right_near x t k.sound a b)
-
+-- so no fault of range comes
 pub cut_front : (l : List (ItemOf Listed)) (t : ℤ) → pos 0 ≤ℤ t → t ≤ℤ most
     → has_far (front l t) ≡ true → ⊥
-cut_front l t a b = never (has_far (front l t)) (front_near l t a b)
+cut_front l t a b = both_ways (has_far (front l t)) (front_near l t a b)
 
-pub cut_back : (l : List (ItemOf Listed)) (t : ℤ) → AreCuttable l → has_far (back l t) ≡ true → ⊥
-cut_back l t k = never (has_far (back l t)) (back_near l t k)
+pub gap_within : (t : ℤ) → pos 0 ≤ℤ t → t ≤ℤ most → is_far (new_gap t) ≡ true → ⊥
+gap_within t a b = both_ways (is_far (new_gap t))
+    (near_item plain_gap (pos 0) t (omega (arith, ints)) (omega (arith, ints)) a b)
+
+pub item_within : (x : ItemOf Listed) (s n : ℤ) → (pos 0 -ℤ most) ≤ℤ s → s ≤ℤ most → pos 0 ≤ℤ n
+    → n ≤ℤ most → is_far (Ranged x s n) ≡ true → ⊥
+item_within x s n a b c d = both_ways (is_far (Ranged x s n)) (near_item x s n a b c d)

@@ -1,9 +1,11 @@
 -- The times that code makes are those of the definitions.
-use Rattle.std.proofs.Common.{◌≡◌, refl, ◌≤ℤ◌, ◌-ℤ◌, ◌%◌, ◌==◌, ℕ, ℤ, pos, Bool, true, false, ◌||◌, Option, Some, unsigned_abs, sym, ◌∙◌, ap, ap₂, subst, arith}
+use Rattle.std.proofs.Common.{◌≡◌, refl, ◌≤ℤ◌, ◌-ℤ◌, ◌%◌, ◌==◌, ℕ, ℤ, pos, Bool, true, false, Option, Some, unsigned_abs, sym, ◌∙◌, ap, ap₂, subst, arith}
 use Rattle.std.specs.Prelude.{int_le, not, option_map}
 use Rattle.std.proofs.lemmas.Int.{ints}
 use Rattle.std.proofs.lemmas.Bool.{eqb-true}
 use Rattle.std.proofs.Props.{props}
+pub use Rattle.std.proofs.lemmas.Bool.{or_left, or_right}
+pub use Rattle.tick_time.proofs.SameValues.{same_span}
 use Rattle.tick_time.specs.Rates.{unit}
 use Rattle.tick_time.specs.Times.{IsInRange}
 use Rattle.limits.specs.Limits.{most_ticks}
@@ -30,9 +32,6 @@ span_built : (a b c d : Time) (p : pos 0 ≤ℤ b.ticks) (q : pos 0 ≤ℤ d.tic
 span_built a b c d p q h k =
     subst (λ (x : Time). built_span a b p ≡ built_span x d q) h
     (subst (λ (y : Time). (f : pos 0 ≤ℤ y.ticks) → built_span a b p ≡ built_span a y f) k (λ f. ap (built_span a b) (Forward-prop b p f)) q)
-
-pub same_span : (s t : Span) → s.start ≡ t.start → s.len ≡ t.len → s ≡ t
-same_span s t h k = span_built s.start s.len t.start t.len s.forward t.forward h k
 
 -- ---- times that are near
 
@@ -74,14 +73,6 @@ span_from a b s e f = ap₂ span_of e f ∙ span_from_by s (int_le (pos 0) s.len
 -- an item with a range of near times is made
 pub made_from : (r : Rate) (x y : ItemOf Listed) (s : Span) (start len : ℤ) → IsNear start (start_rate r x) s.start → IsNear len (length_rate r x) s.len → y ≡ with_range s x → made r (Ranged x start len) ≡ Some y
 made_from r x y s start len a b e = ap (option_map (λ w. with_range w x)) (span_from (near start (start_rate r x)) (near len (length_rate r x)) s (near_from start _ s.start a) (near_from len _ s.len b)) ∙ ap Some (sym e)
-
--- a time out of range
-pub or_left : (a b : Bool) → a ≡ true → (a || b) ≡ true
-or_left a b e = subst (λ c. (c || b) ≡ true) (sym e) refl
-
-pub or_right : (a b : Bool) → b ≡ true → (a || b) ≡ true
-or_right true b e = refl
-or_right false b e = e
 
 far_is : (z : ℤ) → (IsInRange z → ⊥) → not (in_range z) ≡ true
 far_is z h = by (in_range z) refl

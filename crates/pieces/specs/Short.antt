@@ -7,12 +7,16 @@ use Rattle.otio_model.specs.Counts.{count_of}
 use Rattle.coord.specs.Soundness.{fault_of}
 use Rattle.edits.specs.Children.{ticks}
 
+-- each item of a list has fewer than 2^32 items
+abbrev pub AreFew : List (ItemOf Listed) → Type 0
+AreFew l = (i : ℕ) (x : ItemOf Listed) → slice_get l i ≡ Some x → count_of x < 2 ^ 32
+
 -- an item of fewer than 2^32 items that is at most a million seconds long
 pub record IsShort (x : ItemOf Listed) : Type 0 where
   pub few : count_of x < 2 ^ 32
   pub short : ticks x ≤ℤ pos most_ticks
 
--- each of a list is one
+-- each item of a list is short
 abbrev pub AreShort : List (ItemOf Listed) → Type 0
 AreShort l = (i : ℕ) (x : ItemOf Listed) → slice_get l i ≡ Some x → IsShort x
 

@@ -11,7 +11,7 @@ use crate::cutting::{CutFault, is_whole_at};
 use crate::item_lengths::{member, sound_ticks};
 use crate::list_backs::back_items;
 use crate::list_fronts::front_items;
-use crate::new_ranges::RangedFault;
+use crate::new_ranges::out_of_memory;
 use otio_model::Item;
 use std::alloc::Global;
 use tick_time::Rate;
@@ -56,8 +56,10 @@ pub fn front(alloc: Global, list: &[Item], ticks: i128, rate: Rate) -> Result<Ve
     }
     match front_items(alloc, list, ticks, rate) {
         Ok(front) => Ok(front),
-        Err(RangedFault::Range) => unreachable!(),
-        Err(RangedFault::Memory) => Err(CutFault::Memory),
+        Err(fault) => {
+            out_of_memory(fault);
+            Err(CutFault::Memory)
+        }
     }
 }
 
@@ -80,7 +82,6 @@ pub fn back(alloc: Global, list: &[Item], ticks: i128, rate: Rate) -> Result<Vec
     }
     match back_items(alloc, list, ticks, rate) {
         Ok(back) => Ok(back),
-        Err(RangedFault::Range) => unreachable!(),
-        Err(RangedFault::Memory) => Err(CutFault::Memory),
+        Err(_) => Err(CutFault::Memory),
     }
 }

@@ -3,18 +3,16 @@
 ghost use Rattle.limits.specs.Limits.{most_ticks};
 ghost use Rattle.std.specs.Prelude.{◌≡◌, ◌≢◌, ◌<◌, ◌≤◌, ◌%◌, ◌==◌, IfErr, IfOk, Some};
 ghost use Rattle.std.specs.Prelude.{true, false, pos, unsigned_abs, ◌≤ℤ◌, ◌<ℤ◌, ◌-ℤ◌, ◌*ℤ◌};
-ghost use Rattle.std.specs.Int.{int_div_euclid};
 ghost use Rattle.coord.specs.Speeds as speeds;
 ghost use Rattle.edits.specs.Children as children;
 ghost use Rattle.edits.specs.Cuts as cuts;
-ghost use Rattle.edits.specs.Children.{is_far};
 ghost use Rattle.pieces.specs.Short.{IsCuttable};
 
 use crate::item_lengths::{start_ticks, ticks_of};
-use crate::new_ranges::{RangedFault, ranged};
-use coord::{media_ticks, speed};
+use crate::new_ranges::ranged_within;
+use coord::{media_offset, media_ticks, speed};
 use otio_model::Item;
-use std::alloc::Global;
+use std::alloc::{AllocError, Global};
 use tick_time::Rate;
 
 /// Why an item, or a list, isn't cut.
@@ -48,17 +46,6 @@ pub fn is_whole_at(item: &Item, ticks: i128) -> bool
     is_whole(ticks, speed(item))
 }
 
-// So many millionths of a tick as whole ticks, rounded down.
-fn floor_ticks(millionths: i128) -> i128
-    requires least { (pos 0 -ℤ pos 1000000000000000000000000000000000) ≤ℤ millionths }
-    requires most { millionths ≤ℤ pos 1000000000000000000000000000000000 }
-    ensures value { result ≡ int_div_euclid millionths (pos 1000000) }
-    ensures low { (pos 0 -ℤ pos 1000000000000000000000000001) ≤ℤ result }
-    ensures high { result ≤ℤ pos 1000000000000000000000000000 }
-{
-    millionths.div_euclid(1_000_000)
-}
-
 // The instant of the media that is reached in so many ticks from a start.
 fn media_at(start: i128, speed: i64, ticks: i128) -> i128
     requires start_low { (pos 0 -ℤ pos most_ticks) ≤ℤ start }
@@ -69,42 +56,41 @@ fn media_at(start: i128, speed: i64, ticks: i128) -> i128
     requires speed_high { speed ≤ℤ pos 1000000000 }
     ensures { result ≡ speeds.media_at start speed ticks }
 {
-    start + floor_ticks(media_ticks(ticks, speed))
+    start + media_offset(ticks, speed)
 }
 
-/// What stands of an item before a cut at so many ticks from its start.
+/// What stands of an item before a cut at so many ticks from its start. An error comes where memory
+/// runs out.
 pub(crate) fn left_piece(
     alloc: Global,
     item: &Item,
     ticks: i128,
     rate: Rate,
-) -> Result<Item, RangedFault>
-    requires { pos 0 ≤ℤ ticks }
-    ensures made { IfOk result
+) -> Result<Item, AllocError>
+    requires low { pos 0 ≤ℤ ticks }
+    requires high { ticks ≤ℤ pos most_ticks }
+    ensures { IfOk result
         (λ piece. children.made rate (cuts.left_piece item.now ticks) ≡ Some piece) }
-    ensures far { IfErr result
-        (λ fault. fault ≡ RangedFault.Range → is_far (cuts.left_piece item.now ticks) ≡ true) }
 {
-    ranged(alloc, item, start_ticks(item), ticks, rate)
+    ranged_within(alloc, item, start_ticks(item), ticks, rate)
 }
 
-/// What stands of an item behind a cut at so many ticks from its start.
+/// What stands of an item after a cut at so many ticks from its start. An error comes where memory
+/// runs out.
 pub(crate) fn right_piece(
     alloc: Global,
     item: &Item,
     ticks: i128,
     rate: Rate,
-) -> Result<Item, RangedFault>
+) -> Result<Item, AllocError>
     requires faultless { IsCuttable item.now }
     requires low { pos 0 ≤ℤ ticks }
     requires high { ticks ≤ℤ children.ticks item.now }
-    ensures made { IfOk result
+    ensures { IfOk result
         (λ piece. children.made rate (cuts.right_piece item.now ticks) ≡ Some piece) }
-    ensures far { IfErr result
-        (λ fault. fault ≡ RangedFault.Range → is_far (cuts.right_piece item.now ticks) ≡ true) }
 {
     let length = ticks_of(item);
-    ranged(
+    ranged_within(
         alloc,
         item,
         media_at(start_ticks(item), speed(item), ticks),
@@ -135,13 +121,11 @@ pub fn cut(alloc: Global, item: &Item, ticks: i128, rate: Rate) -> Result<(Item,
     }
     let left = match left_piece(alloc, item, ticks, rate) {
         Ok(left) => left,
-        Err(RangedFault::Range) => unreachable!(),
-        Err(RangedFault::Memory) => return Err(CutFault::Memory),
+        Err(_) => return Err(CutFault::Memory),
     };
     match right_piece(alloc, item, ticks, rate) {
         Ok(right) => Ok((left, right)),
-        Err(RangedFault::Range) => unreachable!(),
-        Err(RangedFault::Memory) => {
+        Err(_) => {
             drop(left);
             Err(CutFault::Memory)
         }

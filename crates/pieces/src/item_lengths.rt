@@ -17,10 +17,7 @@ pub fn member(list: &[Item], index: usize) -> &Item
     requires { index < length list.now }
     ensures { slice_get list.now index ≡ Some result.now }
 {
-    match list.get(index) {
-        Some(item) => item,
-        None => unreachable!(),
-    }
+    &list[index]
 }
 
 /// How long an item is, in ticks, 0 where it has no length.

@@ -1,5 +1,6 @@
 //! Fronts of lists.
 
+ghost use Rattle.limits.specs.Limits.{most_ticks};
 ghost use Rattle.std.specs.Prelude.{◌≡◌, ◌<◌, ◌≤◌, IfErr, IfOk, OnOk, Some, true, []};
 ghost use Rattle.std.specs.Prelude.{◌∷◌, ◌++◌, length, pos, ◌≤ℤ◌};
 ghost use Rattle.edits.specs.Children as children;
@@ -12,18 +13,18 @@ use crate::item_lengths::{member, ticks_of};
 use crate::new_ranges::RangedFault;
 use otio_model::{Effects, Gap, Item, ItemOf, copy_item};
 use sequences::{NamedValues, Sequence, Text};
-use std::alloc::Global;
+use std::alloc::{AllocError, Global};
 use tick_time::{Rate, Span, Time};
 
 /// A new gap of so many ticks, which starts at 0, at a rate. [`RangedFault::Range`] comes only
-/// where it would be longer than a million seconds, and [`RangedFault::Memory`] where memory runs
-/// out.
+/// where it would be longer than a million seconds.
 #[tactic(auto, using(crate::proofs::SameTimes::far_start, crate::proofs::SameTimes::far_length))]
 pub fn new_gap(alloc: Global, ticks: i128, rate: Rate) -> Result<Item, RangedFault>
     requires { pos 0 ≤ℤ ticks }
     ensures made { IfOk result (λ gap. children.made rate (children.new_gap ticks) ≡ Some gap) }
     ensures far { IfErr result
         (λ fault. fault ≡ RangedFault.Range → is_far (children.new_gap ticks) ≡ true) }
+    ensures range { IfErr result (λ fault. fault ≡ RangedFault.Range) }
 {
     let start = match Time::near(0, rate) {
         Ok(time) => time,
@@ -51,27 +52,25 @@ fn gap_of(alloc: Global, range: Span) -> Item
     })
 }
 
-/// An equal item.
-pub(crate) fn copied(alloc: Global, item: &Item) -> Result<Item, RangedFault>
-    ensures { IfOk result (λ copy. copy ≡ item.now) }
+/// A gap as [`new_gap`] makes it, of a length that lies within a million seconds.
+pub fn short_gap(alloc: Global, ticks: i128, rate: Rate) -> Item
+    requires low { pos 0 ≤ℤ ticks }
+    requires high { ticks ≤ℤ pos most_ticks }
+    ensures { children.made rate (children.new_gap ticks) ≡ Some result }
 {
-    match copy_item(alloc, item) {
-        Ok(copy) => Ok(copy),
-        Err(_) => Err(RangedFault::Memory),
+    match new_gap(alloc, ticks, rate) {
+        Ok(gap) => gap,
+        Err(_) => unreachable!(),
     }
 }
 
-/// One item more at the end of a list.
-pub(crate) fn add(list: &mut Vec<Item>, item: Item) -> Result<(), RangedFault>
-    ensures { OnOk result (list.new.items ≡ list.old.items ++ item ∷ []) }
+/// A copy of an item more at the end of a list. An error comes where memory runs out.
+pub fn add_copy(alloc: Global, list: &mut Vec<Item>, item: &Item) -> Result<(), AllocError>
+    ensures { OnOk result (list.new.items ≡ list.old.items ++ item.now ∷ []) }
 {
-    match list.push(item) {
-        Ok(()) => Ok(()),
-        Err(refused) => {
-            drop(refused);
-            Err(RangedFault::Memory)
-        }
-    }
+    let copy = copy_item(alloc, item)?;
+    list.push(copy)?;
+    Ok(())
 }
 
 // One item more at the end of a list, which ends there.
@@ -117,30 +116,20 @@ pub fn front_items(
         let length = ticks_of(item);
         if left < length {
             return match left_piece(alloc, item, left, rate) {
-                Ok(piece) => match with_last(done, piece) {
-                    Ok(all) => Ok(all),
-                    Err(_) => Err(RangedFault::Memory),
-                },
-                Err(fault) => Err(fault),
+                Ok(piece) => with_last(done, piece),
+                Err(_) => Err(RangedFault::Memory),
             };
         }
-        match copied(alloc, item) {
-            Ok(copy) => match add(&mut done, copy) {
-                Ok(()) => {}
-                Err(_) => return Err(RangedFault::Memory),
-            },
+        match add_copy(alloc, &mut done, item) {
+            Ok(()) => left -= length,
             Err(_) => return Err(RangedFault::Memory),
         }
-        left -= length;
     }
     if left <= 0 {
         return Ok(done);
     }
     match new_gap(alloc, left, rate) {
-        Ok(gap) => match with_last(done, gap) {
-            Ok(all) => Ok(all),
-            Err(_) => Err(RangedFault::Memory),
-        },
+        Ok(gap) => with_last(done, gap),
         Err(fault) => Err(fault),
     }
 }

@@ -1,11 +1,12 @@
 //! Items with another range.
 
-ghost use Rattle.std.specs.Prelude.{◌≡◌, IfErr, IfOk, Some, pos, ◌≤ℤ◌, true};
+ghost use Rattle.limits.specs.Limits.{most_ticks};
+ghost use Rattle.std.specs.Prelude.{◌≡◌, ◌≢◌, IfErr, IfOk, Some, pos, ◌≤ℤ◌, ◌-ℤ◌, true};
 ghost use Rattle.edits.specs.Children as children;
 ghost use Rattle.edits.specs.Children.{is_far};
 
 use otio_model::{Clip, Item, ItemOf, copy_item};
-use std::alloc::Global;
+use std::alloc::{AllocError, Global};
 use tick_time::{Rate, Span, Time};
 
 /// Why an item isn't made.
@@ -115,5 +116,35 @@ pub fn ranged(
     match copy_item(alloc, item) {
         Ok(copy) => Ok(with_range(copy, Span { start, len })),
         Err(_) => Err(RangedFault::Memory),
+    }
+}
+
+/// What is left of the faults where no new time is out of range: memory ran out.
+pub(crate) fn out_of_memory(fault: RangedFault) -> AllocError
+    requires { fault ≢ RangedFault.Range }
+{
+    let _ = fault;
+    AllocError
+}
+
+/// A copy of an item with this start and this length, as [`ranged`] makes it, where both lie within
+/// a million seconds. An error comes where memory runs out.
+pub fn ranged_within(
+    alloc: Global,
+    item: &Item,
+    start: i128,
+    len: i128,
+    rate: Rate,
+) -> Result<Item, AllocError>
+    requires start_low { (pos 0 -ℤ pos most_ticks) ≤ℤ start }
+    requires start_high { start ≤ℤ pos most_ticks }
+    requires low { pos 0 ≤ℤ len }
+    requires high { len ≤ℤ pos most_ticks }
+    ensures { IfOk result
+        (λ made. children.made rate (children.Ranged item.now start len) ≡ Some made) }
+{
+    match ranged(alloc, item, start, len, rate) {
+        Ok(made) => Ok(made),
+        Err(fault) => Err(out_of_memory(fault)),
     }
 }

@@ -1,15 +1,17 @@
 //! Lists without the transitions that meet a zone.
 
 ghost use Rattle.limits.specs.Limits.{most_ticks};
-ghost use Rattle.std.specs.Prelude.{◌≡◌, ◌<◌, ◌≤◌, ◌^◌, IfOk, length};
+ghost use Rattle.std.specs.Prelude.{◌≡◌, IfOk};
 ghost use Rattle.std.specs.Prelude.{pos, ◌≤ℤ◌, ◌-ℤ◌, ◌&&◌, int_lt, int_le};
 ghost use Rattle.coord.specs.Sights as sights;
 ghost use Rattle.edits.specs.Splices as looked;
 ghost use Rattle.edits.specs.Cuts as cuts;
-ghost use Rattle.pieces.specs.Short.{AreShort};
+ghost use Rattle.edits.specs.Edges.{added};
+ghost use Rattle.pieces.specs.Short.{AreFew};
 
-use crate::item_lengths::{member, ticks_of};
-use otio_model::{Item, ItemOf, copy_item, offset_ticks};
+use crate::item_lengths::member;
+use crate::list_fronts::add_copy;
+use otio_model::{Item, ItemOf, offset_ticks};
 use std::alloc::{AllocError, Global};
 
 // Whether an overlap that begins so long before its cut begins before an end of a zone.
@@ -24,7 +26,7 @@ fn begins_before(before: i128, at: i128, to: i128) -> bool
     at - before < to
 }
 
-// Whether an overlap that ends so long after its cut ends behind the start of a zone.
+// Whether an overlap that ends so long after its cut ends after the start of a zone.
 #[tactic(auto, using(crate::proofs::StripLemmas::meets))]
 fn ends_behind(after: i128, at: i128, from: i128) -> bool
     requires after_low { (pos 0 -ℤ pos most_ticks) ≤ℤ after }
@@ -77,10 +79,11 @@ pub fn is_stripped(item: &Item, at: i128, from: i128, to: i128) -> bool
 
 /// A copy of a list without the transitions that a zone strips: those whose overlap has an instant
 /// of it, or whose cut lies in it, both ends included. The zone goes from `a` to `b`, in ticks from
-/// the start of the list. An error comes where memory runs out.
+/// the start of the list, whose items are together at most 10^38 ticks long: so are any that are
+/// fewer than 10^14 with all items in them. An error comes where memory runs out.
 pub fn strip(alloc: Global, list: &[Item], a: i128, b: i128) -> Result<Vec<Item>, AllocError>
-    requires few { length list.now < 2 ^ 32 }
-    requires short { AreShort list.now }
+    requires few { AreFew list.now }
+    requires long { added list.now ≤ℤ pos 100000000000000000000000000000000000000 }
     ensures { IfOk result (λ kept. kept.items ≡ cuts.strip list.now a b) }
 {
     let mut kept = Vec::new(alloc);
@@ -88,9 +91,8 @@ pub fn strip(alloc: Global, list: &[Item], a: i128, b: i128) -> Result<Vec<Item>
     'items: for index in 0..list.len() {
         let item = member(list, index);
         if !is_stripped(item, at, a, b) {
-            let copy = copy_item(alloc, item)?;
-            kept.push(copy)?;
-            at += ticks_of(item);
+            add_copy(alloc, &mut kept, item)?;
+            at += item.length_or_zero();
         }
     }
     Ok(kept)

@@ -17,19 +17,20 @@ use Rattle.show_prog.proofs.SpotLemmas.{spots_are}
 use Rattle.pull_list.specs.Found.{Collects, HasClip, IsShown, IsTaken, Takes, TakesFrame, clips_in, clips_of_item}
 use Rattle.pull_list.specs.Labels.{HasNumber, IsNumber}
 use Rattle.pull_list.specs.Runs.{Adds, Each, Has, IsRun}
-use Rattle.pull_list.specs.Used.{Group, IsSeen}
+use Rattle.pull_list.specs.Used.{ClipGroup, IsSeen}
 use Rattle.pull_list.specs.Wanted.{IsOf}
 use Rattle.pull_list.specs.declared.runs.Run.{Run}
+use Rattle.show_prog.proofs.ShowLemmas.{blank_is}
 
 -- ---- one frame
 
-pub on_ok_taken : (r : Result (Unit {0}) AllocError) (groups : List Group) (g : Group) (v : ℤ)
+pub on_ok_taken : (r : Result (Unit {0}) AllocError) (groups : List ClipGroup) (g : ClipGroup) (v : ℤ)
     (old new : List Run) (k : ℕ) → IsNumber groups g k → OnOk r (Adds old new k v)
     → OnOk r (TakesFrame groups g v old new)
 on_ok_taken (Ok u) groups g v old new k is adds = inl (record { number = k; is = is; adds = adds })
 on_ok_taken (Err e) groups g v old new k is adds = tt
 
-takes_known : (groups : List Group) (g : Group) (m : ℤ) (old new : List Run)
+takes_known : (groups : List ClipGroup) (g : ClipGroup) (m : ℤ) (old new : List Run)
     → IsTaken groups g (frame_number m g.rate) old new → Each IsRun old
     → Takes groups old new (Frame g.key m g.rate)
 takes_known groups g m old new taken runs = record {
@@ -55,7 +56,7 @@ takes_known groups g m old new taken runs = record {
         let same : h.group ≡ g = λ i. record { key = key i; rate = rate i } in
         inr (taken.is.only k (subst (λ x. slice_get groups k ≡ Some x) same h.at), sym h.seen.2)
 
-takes_unknown : (groups : List Group) (g : Group) (m : ℤ) (old new : List Run)
+takes_unknown : (groups : List ClipGroup) (g : ClipGroup) (m : ℤ) (old new : List Run)
     → (HasNumber groups g → ⊥) → new ≡ old → Each IsRun old
     → Takes groups old new (Frame g.key m g.rate)
 takes_unknown groups g m old new none e runs = subst (λ x. Takes groups old x (Frame g.key m g.rate)) (sym e)
@@ -72,13 +73,13 @@ takes_unknown groups g m old new none e runs = subst (λ x. Takes groups old x (
         let same : h.group ≡ g = λ i. record { key = key i; rate = rate i } in
         absurd (none (k, subst (λ x. slice_get groups k ≡ Some x) same h.at))
 
-takes_frame : (groups : List Group) (g : Group) (m : ℤ) (old new : List Run)
+takes_frame : (groups : List ClipGroup) (g : ClipGroup) (m : ℤ) (old new : List Run)
     → TakesFrame groups g (frame_number m g.rate) old new → Each IsRun old
     → Takes groups old new (Frame g.key m g.rate)
 takes_frame groups g m old new (inl taken) runs = takes_known groups g m old new taken runs
 takes_frame groups g m old new (inr none) runs = takes_unknown groups g m old new none.0 none.1 runs
 
-pub collects_frame : (groups : List Group) (g : Group) (clip : ClipRow) (m v : ℤ) (old new : List Run)
+pub collects_frame : (groups : List ClipGroup) (g : ClipGroup) (clip : ClipRow) (m v : ℤ) (old new : List Run)
     → TakesFrame groups g v old new → v ≡ frame_number m g.rate → IsOf g clip → Each IsRun old
     → Collects groups (clip ∷ []) old new true (Frame g.key m g.rate)
 collects_frame groups g clip m v old new taken e is runs = record {
@@ -93,7 +94,7 @@ collects_frame groups g clip m v old new taken e is runs = record {
 
 -- ---- nothing
 
-pub collects_blank : (groups : List Group) (clips : List ClipRow) (old : List Run) (s : Show)
+pub collects_blank : (groups : List ClipGroup) (clips : List ClipRow) (old : List Run) (s : Show)
     → s ≡ Blank → Each IsRun old → Collects groups clips old old false s
 collects_blank groups clips old s e runs = subst (Collects groups clips old old false) (sym e) (record {
   takes = record {
@@ -111,7 +112,7 @@ collects_blank groups clips old s e runs = subst (Collects groups clips old old 
 
 -- ---- the same shown, among more clips
 
-pub collects_as : (groups : List Group) (clips more : List ClipRow) (old new : List Run) (any : Bool)
+pub collects_as : (groups : List ClipGroup) (clips more : List ClipRow) (old new : List Run) (any : Bool)
     (s t : Show) → Collects groups clips old new any s → s ≡ t
     → ((c : ClipRow) → Contains clips c → Contains more c) → Collects groups more old new any t
 collects_as groups clips more old new any s t c e f = subst (Collects groups more old new any) e (record {
@@ -126,17 +127,17 @@ same_clips xs c h = h
 
 -- ---- a mix
 
-seen_some : (g : Group) (v : ℤ) (s : Show) → IsSeen g v s → is_blank s ≡ false
+seen_some : (g : ClipGroup) (v : ℤ) (s : Show) → IsSeen g v s → is_blank s ≡ false
 seen_some g v Blank h = absurd h
 seen_some g v (Frame k m r) h = refl
 seen_some g v (Mix k a b w) h = refl
 
-seen_mixed : (t : Bool) (g : Group) (v : ℤ) (kind : List ℕ) (a b : Show) (w : Weight)
+seen_mixed : (t : Bool) (g : ClipGroup) (v : ℤ) (kind : List ℕ) (a b : Show) (w : Weight)
     → IsSeen g v (cond t Blank (Mix kind a b w)) → IsSeen g v a ⊎ IsSeen g v b
 seen_mixed true g v kind a b w h = absurd h
 seen_mixed false g v kind a b w h = h
 
-mixed_seen : (t : Bool) (g : Group) (v : ℤ) (kind : List ℕ) (a b : Show) (w : Weight)
+mixed_seen : (t : Bool) (g : ClipGroup) (v : ℤ) (kind : List ℕ) (a b : Show) (w : Weight)
     → (t ≡ true → ⊥) → IsSeen g v a ⊎ IsSeen g v b → IsSeen g v (cond t Blank (Mix kind a b w))
 mixed_seen true g v kind a b w some h = absurd (some refl)
 mixed_seen false g v kind a b w some h = h
@@ -154,7 +155,7 @@ told_mixed true false kind a b w = refl
 told_mixed false true kind a b w = refl
 told_mixed false false kind a b w = refl
 
-pub collects_mixed : (groups : List Group) (clips : List ClipRow) (old mid new : List Run)
+pub collects_mixed : (groups : List ClipGroup) (clips : List ClipRow) (old mid new : List Run)
     (p q any : Bool) (kind : List ℕ) (a b : Show) (part whole : ℤ) → Collects groups clips old mid p a
     → Collects groups clips mid new q b → any ≡ (p || q)
     → Collects groups clips old new any (mixed kind a b part whole)
@@ -175,15 +176,15 @@ collects_mixed groups clips old mid new p q any kind a b part whole c d e = reco
     w : Weight
     w = weight (unsigned_abs part) (unsigned_abs whole)
 
-    by : (g : Group) (v : ℤ) → IsSeen g v a ⊎ IsSeen g v b → HasClip clips g
+    by : (g : ClipGroup) (v : ℤ) → IsSeen g v a ⊎ IsSeen g v b → HasClip clips g
     by g v (inl h) = c.among g v h
     by g v (inr h) = d.among g v h
 
-    some : (g : Group) (v : ℤ) → IsSeen g v a ⊎ IsSeen g v b → (is_blank a && is_blank b) ≡ true → ⊥
+    some : (g : ClipGroup) (v : ℤ) → IsSeen g v a ⊎ IsSeen g v b → (is_blank a && is_blank b) ≡ true → ⊥
     some g v (inl h) t = both_blank (is_blank a) (is_blank b) t (inl (seen_some g v a h))
     some g v (inr h) t = both_blank (is_blank a) (is_blank b) t (inr (seen_some g v b h))
 
-    shown : (k : ℕ) (v : ℤ) (g : Group) → slice_get groups k ≡ Some g → IsSeen g v a ⊎ IsSeen g v b
+    shown : (k : ℕ) (v : ℤ) (g : ClipGroup) → slice_get groups k ≡ Some g → IsSeen g v a ⊎ IsSeen g v b
         → IsShown groups (mixed kind a b part whole) k v
     shown k v g at h = record {
       group = g;
@@ -212,7 +213,7 @@ collects_mixed groups clips old mid new p q any kind a b part whole c d e = reco
 
 -- ---- what shows nothing, and then what shows something
 
-pub collects_after : (groups : List Group) (clips : List ClipRow) (old mid new : List Run)
+pub collects_after : (groups : List ClipGroup) (clips : List ClipRow) (old mid new : List Run)
     (any : Bool) (a b : Show) → Collects groups clips old mid false a
     → Collects groups clips mid new any b → Collects groups clips old new any b
 collects_after groups clips old mid new any a b c d = record {
@@ -244,7 +245,7 @@ collects_after groups clips old mid new any a b c d = record {
     back k v (inr h) = inr h
 
 -- where nothing was collected, nothing is shown
-pub told_blank : (groups : List Group) (clips : List ClipRow) (old new : List Run) (s : Show)
+pub told_blank : (groups : List ClipGroup) (clips : List ClipRow) (old new : List Run) (s : Show)
     → Collects groups clips old new false s → is_blank s ≡ true
 told_blank groups clips old new s c = by (is_blank s) c.told
   where
@@ -252,7 +253,7 @@ told_blank groups clips old new s c = by (is_blank s) c.told
     by true e = refl
     by false e = absurd (cc e)
 
-pub told_some : (groups : List Group) (clips : List ClipRow) (old new : List Run) (s : Show)
+pub told_some : (groups : List ClipGroup) (clips : List ClipRow) (old new : List Run) (s : Show)
     → Collects groups clips old new true s → is_blank s ≡ false
 told_some groups clips old new s c = by (is_blank s) c.told
   where
@@ -309,20 +310,15 @@ clip_below l j x e c h =
 
 -- ---- results
 
-pub ok_as : (r : Result Bool AllocError) (groups : List Group) (clips more : List ClipRow)
+pub ok_as : (r : Result Bool AllocError) (groups : List ClipGroup) (clips more : List ClipRow)
     (old new : List Run) (s t : Show) → IfOk r (λ any. Collects groups clips old new any s) → s ≡ t
     → ((c : ClipRow) → Contains clips c → Contains more c)
     → IfOk r (λ any. Collects groups more old new any t)
 ok_as (Ok any) groups clips more old new s t c e f = collects_as groups clips more old new any s t c e f
 ok_as (Err x) groups clips more old new s t c e f = tt
 
-blank_is : (s : Show) → is_blank s ≡ true → s ≡ Blank
-blank_is Blank e = refl
-blank_is (Frame k m r) e = absurd (cc e)
-blank_is (Mix k a b w) e = absurd (cc e)
-
 -- one child further down that shows nothing
-pub collects_none : (groups mids : List Group) (clips below : List ClipRow) (old mid new : List Run)
+pub collects_none : (groups mids : List ClipGroup) (clips below : List ClipRow) (old mid new : List Run)
     (s : Show) → Collects groups clips old mid false Blank → mids ≡ groups
     → Collects mids below mid new false s → ((c : ClipRow) → Contains below c → Contains clips c)
     → Collects groups clips old new false Blank
@@ -333,7 +329,7 @@ collects_none groups mids clips below old mid new s c e d f =
     (blank_is s (told_blank mids below mid new s d)) f)
 
 -- one that shows something
-pub collects_some : (groups mids : List Group) (clips below : List ClipRow) (old mid new : List Run)
+pub collects_some : (groups mids : List ClipGroup) (clips below : List ClipRow) (old mid new : List Run)
     (s t : Show) → Collects groups clips old mid false Blank → mids ≡ groups
     → Collects mids below mid new true s → s ≡ t
     → ((c : ClipRow) → Contains below c → Contains clips c)
@@ -353,7 +349,7 @@ pub or_right : (p q : Bool) → p ≡ false → q ≡ (p || q)
 or_right true q e = absurd (cc e)
 or_right false q e = refl
 
-pub mixed_by : (groups mids : List Group) (clips : List ClipRow) (old mid new : List Run)
+pub mixed_by : (groups mids : List ClipGroup) (clips : List ClipRow) (old mid new : List Run)
     (p q any : Bool) (kind : List ℕ) (one other : ℤ → Show) (x y from to part whole : ℤ)
     → x ≡ from → y ≡ to → Collects groups clips old mid p (one x) → mids ≡ groups
     → Collects mids clips mid new q (other y) → any ≡ (p || q)
@@ -365,7 +361,7 @@ mixed_by groups mids clips old mid new p q any kind one other x y from to part w
     (subst (λ k. Collects k clips mid new q (other y)) g d)) h
 
 -- what a clip that isn't disabled shows
-pub framed_is : (c : ClipRow) (kind : List ℕ) (m : ℤ) (g : Group) → c.enabled ≡ true → IsOf g c
+pub framed_is : (c : ClipRow) (kind : List ℕ) (m : ℤ) (g : ClipGroup) → c.enabled ≡ true → IsOf g c
     → Frame g.key m g.rate
     ≡ cond c.enabled (framed (exact kind) (key_of c) m (media_rate c)) Blank
 framed_is c kind m g e is = rw (e, is.0, is.1) refl

@@ -3,13 +3,13 @@ use Rattle.std.proofs.Common.{◌≡◌, refl, sym, ap, subst, ℕ, ◌+◌, ◌
 use Rattle.pull_list.specs.Pulled.{Stretch, stretch_of, stretches_of}
 use Rattle.pull_list.specs.Runs.{Each, IsRun, IsWithin, further}
 use Rattle.pull_list.specs.Stretches.{AreStretches, IsKnown, IsStretchOf}
-use Rattle.pull_list.specs.Used.{Group}
+use Rattle.pull_list.specs.Used.{ClipGroup}
 use Rattle.pull_list.specs.declared.runs.Run.{Run}
 use Rattle.pull_list.specs.declared.spans.PullSpan.{PullSpan}
 use Rattle.std.proofs.lemmas.List.{drop_more}
 
 -- these were given, and the rest are still to come
-pub record IsGiving (groups : List Group) (runs : List Run) (spans : List PullSpan) (rest : List Run)
+pub record IsGiving (groups : List ClipGroup) (runs : List Run) (spans : List PullSpan) (rest : List Run)
     : Type 0 where
   pub goes : (more : List Stretch) → AreStretches groups rest more
       → AreStretches groups runs (stretches_of spans ++ more)
@@ -17,7 +17,7 @@ pub record IsGiving (groups : List Group) (runs : List Run) (spans : List PullSp
   pub known : Each (IsKnown groups) rest
   pub within : Each (IsWithin further) rest
 
-pub giving_starts : (groups : List Group) (runs : List Run) (spans : List PullSpan) → spans ≡ []
+pub giving_starts : (groups : List ClipGroup) (runs : List Run) (spans : List PullSpan) → spans ≡ []
     → Each IsRun runs → Each (IsKnown groups) runs → Each (IsWithin further) runs
     → IsGiving groups runs spans runs
 giving_starts groups runs spans e are known within =
@@ -37,7 +37,7 @@ no_more : (ss : List Stretch) → ss ++ [] ≡ ss
 no_more [] = refl
 no_more (s ∷ ss) = ap (λ l. s ∷ l) (no_more ss)
 
-giving_next : (groups : List Group) (runs : List Run) (spans : List PullSpan) (rest : List Run)
+giving_next : (groups : List ClipGroup) (runs : List Run) (spans : List PullSpan) (rest : List Run)
     (r : Run) (s : PullSpan) → IsGiving groups runs spans (r ∷ rest)
     → IsStretchOf groups r (stretch_of s) → IsGiving groups runs (spans ++ s ∷ []) rest
 giving_next groups runs spans rest r s g is = record {
@@ -48,7 +48,7 @@ giving_next groups runs spans rest r s g is = record {
   within = g.within.1;
 }
 
-pub giving_at : (groups : List Group) (runs : List Run) (spans more : List PullSpan) (i : ℕ)
+pub giving_at : (groups : List ClipGroup) (runs : List Run) (spans more : List PullSpan) (i : ℕ)
     (d : Run) (s : PullSpan) → i < length runs → IsGiving groups runs spans (drop i runs)
     → IsStretchOf groups (get_or runs i d) (stretch_of s) → more ≡ spans ++ s ∷ []
     → IsGiving groups runs more (drop (i + 1) runs)
@@ -57,22 +57,22 @@ giving_at groups runs spans more i d s lt g is e =
     (giving_next groups runs spans (drop (i + 1) runs) (get_or runs i d) s
     (subst (IsGiving groups runs spans) (drop_more runs i d lt) g) is)
 
-pub run_at : (groups : List Group) (runs : List Run) (spans : List PullSpan) (i : ℕ) (d : Run)
+pub run_at : (groups : List ClipGroup) (runs : List Run) (spans : List PullSpan) (i : ℕ) (d : Run)
     → i < length runs → IsGiving groups runs spans (drop i runs) → IsRun (get_or runs i d)
 run_at groups runs spans i d lt g = (subst (Each IsRun) (drop_more runs i d lt) g.are_runs).0
 
-pub known_at : (groups : List Group) (runs : List Run) (spans : List PullSpan) (i : ℕ) (d : Run)
+pub known_at : (groups : List ClipGroup) (runs : List Run) (spans : List PullSpan) (i : ℕ) (d : Run)
     → i < length runs → IsGiving groups runs spans (drop i runs) → IsKnown groups (get_or runs i d)
 known_at groups runs spans i d lt g =
     (subst (Each (IsKnown groups)) (drop_more runs i d lt) g.known).0
 
-pub within_at : (groups : List Group) (runs : List Run) (spans : List PullSpan) (i : ℕ) (d : Run)
+pub within_at : (groups : List ClipGroup) (runs : List Run) (spans : List PullSpan) (i : ℕ) (d : Run)
     → i < length runs → IsGiving groups runs spans (drop i runs)
     → IsWithin further (get_or runs i d)
 within_at groups runs spans i d lt g =
     (subst (Each (IsWithin further)) (drop_more runs i d lt) g.within).0
 
-pub giving_ends : (groups : List Group) (runs : List Run) (spans : List PullSpan) (rest : List Run)
+pub giving_ends : (groups : List ClipGroup) (runs : List Run) (spans : List PullSpan) (rest : List Run)
     → rest ≡ [] → IsGiving groups runs spans rest → AreStretches groups runs (stretches_of spans)
 giving_ends groups runs spans rest e g =
     subst (AreStretches groups runs) (no_more (stretches_of spans))

@@ -14,7 +14,7 @@ use Rattle.std.proofs.lemmas.List.{length-map}
 use Rattle.std.proofs.lemmas.Option.{same_Some}
 use Rattle.coord.specs.Looks.{Key, Url, Sequence, Generator, Reel, Name}
 use Rattle.pull_list.specs.Labels.{AreNumbered, HasNumber, IsLabel, IsNumber, Label, label_cmp, second_of, sort_of, text_of, third_of}
-use Rattle.pull_list.specs.Used.{Group}
+use Rattle.pull_list.specs.Used.{ClipGroup}
 
 -- ---- a group by its label
 
@@ -33,11 +33,11 @@ key_back (Generator a) = refl
 key_back (Reel a) = refl
 key_back (Name a) = refl
 
-group_by : Key → ℤ → ℤ → Group
+group_by : Key → ℤ → ℤ → ClipGroup
 group_by k n d = record { key = k; rate = record { num = n; den = d } }
 
 -- groups of one label are the same
-pub same_group : (g h : Group) → sort_of g.key ≡ sort_of h.key → text_of g.key ≡ text_of h.key
+pub same_group : (g h : ClipGroup) → sort_of g.key ≡ sort_of h.key → text_of g.key ≡ text_of h.key
     → second_of g.key ≡ second_of h.key → third_of g.key ≡ third_of h.key
     → g.rate.num ≡ h.rate.num → g.rate.den ≡ h.rate.den → g ≡ h
 unfolding group_by
@@ -84,7 +84,7 @@ text_equal : (a b : List ℕ) → is_eq (slice_cmp nat_cmp a b) ≡ true → a �
 text_equal a b h = (bytes_eq-Decides a b).0 (sym (is_eq-slice_cmp a b) ∙ h)
 
 -- the label with the group's key and rate; the pointers are those of another label
-abbrev label_as : Label → Group → Label
+abbrev label_as : Label → ClipGroup → Label
 label_as l g = (
   sort_of g.key,
   record l.1 { now = text_of g.key },
@@ -94,7 +94,7 @@ label_as l g = (
   g.rate.den,
 )
 
-equal_labels : (a b : Label) (g h : Group) → IsLabel g a → IsLabel h b
+equal_labels : (a b : Label) (g h : ClipGroup) → IsLabel g a → IsLabel h b
     → is_eq (label_order a b) ≡ true → g ≡ h
 equal_labels a b g h p q e =
     let five = then_equal _ _ e in let four = then_equal _ _ five.0 in
@@ -107,7 +107,7 @@ equal_labels a b g h p q e =
     (sym p.num ∙ int_equal a.4 b.4 four.1 ∙ q.num)
     (sym p.den ∙ int_equal a.5 b.5 five.1 ∙ q.den)
 
-is_as : (l : Label) (g : Group) → IsLabel g (label_as l g)
+is_as : (l : Label) (g : ClipGroup) → IsLabel g (label_as l g)
 is_as l g = record { sort = refl; text = refl; second = refl; third = refl; num = refl; den = refl }
 
 -- what is looked up by a label is what is looked up by its group
@@ -116,7 +116,7 @@ by_parts a b c d n m l = ordering_then (ordering_then (ordering_then (ordering_t
     (nat_cmp a l.0) (slice_cmp nat_cmp b l.1.now)) (slice_cmp nat_cmp c l.2.now))
     (slice_cmp nat_cmp d l.3.now)) (int_cmp n l.4)) (int_cmp m l.5)
 
-pub looked_up : (numbers : BTreeMap Label ℕ) (l : Label) (g : Group) → IsLabel g l
+pub looked_up : (numbers : BTreeMap Label ℕ) (l : Label) (g : ClipGroup) → IsLabel g l
     → get_by (label_order l) numbers ≡ get_by (label_cmp g) numbers
 looked_up numbers l g is =
     ap (λ x. get_by (by_parts x l.1.now l.2.now l.3.now l.4 l.5) numbers) is.sort
@@ -128,7 +128,7 @@ looked_up numbers l g is =
 
 -- ---- what is found
 
-pub is_found : (numbers : BTreeMap Label ℕ) (groups : List Group) (g : Group) (n : ℕ)
+pub is_found : (numbers : BTreeMap Label ℕ) (groups : List ClipGroup) (g : ClipGroup) (n : ℕ)
     → AreNumbered numbers groups → get_by (label_cmp g) numbers ≡ Some n → IsNumber groups g n
 is_found numbers groups g n are e =
     let at = subst (λ (o : Option ℕ). MatchOption o (HasNumber groups g → ⊥) (λ k. slice_get groups k ≡ Some g)) e
@@ -137,13 +137,13 @@ is_found numbers groups g n are e =
       only = λ k f. are.apart g k n f at;
     }
 
-pub not_found : (numbers : BTreeMap Label ℕ) (groups : List Group) (g : Group)
+pub not_found : (numbers : BTreeMap Label ℕ) (groups : List ClipGroup) (g : ClipGroup)
     → AreNumbered numbers groups → get_by (label_cmp g) numbers ≡ None → HasNumber groups g → ⊥
 not_found numbers groups g are e =
     subst (λ (o : Option ℕ). MatchOption o (HasNumber groups g → ⊥) (λ k. slice_get groups k ≡ Some g)) e
     (are.found g)
 
-pub is_number_at : (numbers : BTreeMap Label ℕ) (groups : List Group) (g : Group) (n : ℕ)
+pub is_number_at : (numbers : BTreeMap Label ℕ) (groups : List ClipGroup) (g : ClipGroup) (n : ℕ)
     → AreNumbered numbers groups → slice_get groups n ≡ Some g → IsNumber groups g n
 is_number_at numbers groups g n are at = record { at = at; only = λ k f. are.apart g k n f at }
 
@@ -154,14 +154,14 @@ none_numbered numbers e = record {
   apart = λ g j k f h. absurd (none j g f);
 }
   where
-    none : (k : ℕ) (g : Group) → slice_get [] k ≡ Some g → ⊥
+    none : (k : ℕ) (g : ClipGroup) → slice_get [] k ≡ Some g → ⊥
     none zero g f = cc f
     none (suc k) g f = cc f
 
 -- ---- two labels
 
 -- the order of two labels of one group
-pub tied_labels : (a b : Label) (g h : Group) → IsLabel g a → IsLabel h b → g ≡ h
+pub tied_labels : (a b : Label) (g h : ClipGroup) → IsLabel g a → IsLabel h b → g ≡ h
     → label_order a b ≡ Equal
 tied_labels a b g h p q same =
     let r = subst (λ x. IsLabel x b) (sym same) q in
@@ -175,7 +175,7 @@ tied_labels a b g h p q same =
       tied_itself int_cmp_total g.rate.den,
     ) refl)
 
-pub same_by_order : (a b : Label) (g h : Group) (o : Ordering) → IsLabel g a → IsLabel h b
+pub same_by_order : (a b : Label) (g h : ClipGroup) (o : Ordering) → IsLabel g a → IsLabel h b
     → o ≡ label_order a b → o ≡ Equal → g ≡ h
 same_by_order a b g h o p q e f = equal_labels a b g h p q (ap is_eq (sym e ∙ f))
 
@@ -213,7 +213,7 @@ get_either (z ∷ xs) y (suc i) x e = by (get_either xs y i x e)
     by (inr h) = inr (ap suc h.0, h.1)
 
 -- what is found where a group was put, and elsewhere
-found_where : (old new : BTreeMap Label ℕ) (groups : List Group) (g h : Group) (o : Option ℕ)
+found_where : (old new : BTreeMap Label ℕ) (groups : List ClipGroup) (g h : ClipGroup) (o : Option ℕ)
     (t : Bool) → AreNumbered old groups → (t ≡ true → g ≡ h) → (g ≡ h → t ≡ true)
     → o ≡ cond t (Some (length groups)) (get_by (label_cmp h) old)
     → MatchOption o (HasNumber (groups ++ g ∷ []) h → ⊥)
@@ -240,9 +240,9 @@ found_where old new groups g h o false are same back e =
     by None n = none n
     by (Some k) f = get_front groups (g ∷ []) k h f
 
-apart_more : (groups : List Group) (g : Group) → (HasNumber groups g → ⊥)
-    → ((h : Group) (j k : ℕ) → slice_get groups j ≡ Some h → slice_get groups k ≡ Some h → j ≡ k)
-    → (h : Group) (j k : ℕ) → slice_get (groups ++ g ∷ []) j ≡ Some h
+apart_more : (groups : List ClipGroup) (g : ClipGroup) → (HasNumber groups g → ⊥)
+    → ((h : ClipGroup) (j k : ℕ) → slice_get groups j ≡ Some h → slice_get groups k ≡ Some h → j ≡ k)
+    → (h : ClipGroup) (j k : ℕ) → slice_get (groups ++ g ∷ []) j ≡ Some h
     → slice_get (groups ++ g ∷ []) k ≡ Some h → j ≡ k
 apart_more groups g new apart h j k e f = by (get_either groups g j h e) (get_either groups g k h f)
   where
@@ -253,7 +253,7 @@ apart_more groups g new apart h j k e f = by (get_either groups g j h e) (get_ei
     by (inr a) (inl b) = absurd (new (k, subst (λ x. slice_get groups k ≡ Some x) (sym a.1) b))
     by (inr a) (inr b) = a.0 ∙ sym b.0
 
-pub numbered_more : (old new : BTreeMap Label ℕ) (groups : List Group) (g : Group) (l : Label) (n : ℕ)
+pub numbered_more : (old new : BTreeMap Label ℕ) (groups : List ClipGroup) (g : ClipGroup) (l : Label) (n : ℕ)
     → IsLabel g l → AreNumbered old groups → (HasNumber groups g → ⊥) → n ≡ length groups
     → UpdatesBy label_order (label_order l) old new (Some n) → AreNumbered new (groups ++ g ∷ [])
 numbered_more old new groups g l n is are fresh size put = record {
@@ -295,7 +295,7 @@ get_last_of f xs ys x n e size =
     (subst (λ k. slice_get (map f xs ++ f x ∷ []) k ≡ Some (f x)) (length-map xs f ∙ sym size)
     (get_last (map f xs) (f x)))
 
-pub numbered_same : (old new : BTreeMap Label ℕ) (groups same : List Group) → new.entries ≡ old.entries
+pub numbered_same : (old new : BTreeMap Label ℕ) (groups same : List ClipGroup) → new.entries ≡ old.entries
     → same ≡ groups → AreNumbered old groups → AreNumbered new same
 numbered_same old new groups same e f are = subst (AreNumbered new) (sym f) (record {
   found = λ g. subst (λ o. MatchOption o (HasNumber groups g → ⊥) (λ n. slice_get groups n ≡ Some g))

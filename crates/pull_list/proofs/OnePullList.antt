@@ -6,7 +6,7 @@ use Rattle.std.proofs.lemmas.List.Elements.{All-head, All-tail}
 use Rattle.otio_model.specs.declared.compositions.Clip.{Clip as ClipRow}
 use Rattle.otio_model.specs.declared.timelines.Timeline.{Timeline}
 use Rattle.otio_model.specs.Timelines.{bare}
-use Rattle.pull_list.specs.Used.{Group}
+use Rattle.pull_list.specs.Used.{ClipGroup}
 use Rattle.pull_list.specs.Wanted.{IsOf, clips_of}
 use Rattle.pull_list.proofs.SpareLemmas.{pull_list_bare}
 use Rattle.pull_list.specs.Pulled.{HasFrameOf, IsIn, IsPullList, Precedes, StandsFirst, Stretch, past}
@@ -14,7 +14,7 @@ use Rattle.pull_list.specs.Pulled.{HasFrameOf, IsIn, IsPullList, Precedes, Stand
 -- ---- which group stands first
 
 -- of two groups one alone stands first
-stands_once : (g h : Group) (ahead before : List ClipRow) (x y : ClipRow)
+stands_once : (g h : ClipGroup) (ahead before : List ClipRow) (x y : ClipRow)
     (after rest : List ClipRow)
     → ahead ++ x ∷ after ≡ before ++ y ∷ rest → IsOf g x → IsOf h y
     → All (λ c. IsOf h c → ⊥) (ahead ++ x ∷ []) → All (λ c. IsOf g c → ⊥) (before ++ y ∷ []) → ⊥
@@ -33,27 +33,27 @@ stands_once g h (z ∷ ahead) (w ∷ before) x y after rest e a b p q =
     (All-tail (λ c. IsOf h c → ⊥) z (ahead ++ x ∷ []) p)
     (All-tail (λ c. IsOf g c → ⊥) w (before ++ y ∷ []) q)
 
-not_both : (clips : List ClipRow) (g h : Group) → StandsFirst clips g h → StandsFirst clips h g → ⊥
+not_both : (clips : List ClipRow) (g h : ClipGroup) → StandsFirst clips g h → StandsFirst clips h g → ⊥
 not_both clips g h s r =
     stands_once g h s.ahead r.ahead s.first r.first s.after r.after (sym s.clips_are ∙ r.clips_are)
     s.is_first r.is_first s.not_yet r.not_yet
 
 -- no group stands before itself
-not_self : (clips : List ClipRow) (g h : Group) → g ≡ h → StandsFirst clips g h → ⊥
+not_self : (clips : List ClipRow) (g h : ClipGroup) → g ≡ h → StandsFirst clips g h → ⊥
 not_self clips g h e s =
     let self = subst (StandsFirst clips g) (sym e) s in not_both clips g g self self
 
 -- ---- where a frame is
 
 -- the stretch of the group has the number
-abbrev IsFrameOf : Stretch → Group → ℤ → Type 0
+abbrev IsFrameOf : Stretch → ClipGroup → ℤ → Type 0
 IsFrameOf s g v = (s.group ≡ g) × IsIn s v
 
 -- the frame comes after the stretch, and does not touch it
-abbrev IsAfter : Timeline → Stretch → Group → ℤ → Type 0
+abbrev IsAfter : Timeline → Stretch → ClipGroup → ℤ → Type 0
 IsAfter t s g v = ((s.group ≡ g) × (past s <ℤ v)) ⊎ StandsFirst (clips_of t) s.group g
 
-of_first : (s : Stretch) (ss : List Stretch) (g : Group) (v : ℤ) → IsFrameOf s g v
+of_first : (s : Stretch) (ss : List Stretch) (g : ClipGroup) (v : ℤ) → IsFrameOf s g v
     → HasFrameOf (s ∷ ss) g v
 of_first s ss g v is = record {
   stretch = s;
@@ -62,7 +62,7 @@ of_first s ss g v is = record {
   number = is.1;
 }
 
-of_rest : (s : Stretch) (ss : List Stretch) (g : Group) (v : ℤ) → HasFrameOf ss g v
+of_rest : (s : Stretch) (ss : List Stretch) (g : ClipGroup) (v : ℤ) → HasFrameOf ss g v
     → HasFrameOf (s ∷ ss) g v
 of_rest s ss g v h = record {
   stretch = h.stretch;
@@ -71,7 +71,7 @@ of_rest s ss g v h = record {
   number = h.number;
 }
 
-first_or_rest : (s x : Stretch) (ss : List Stretch) (g : Group) (v : ℤ) → Contains (s ∷ ss) x
+first_or_rest : (s x : Stretch) (ss : List Stretch) (g : ClipGroup) (v : ℤ) → Contains (s ∷ ss) x
     → IsFrameOf x g v → IsFrameOf s g v ⊎ HasFrameOf ss g v
 first_or_rest s x ss g v (zero, lt, e) is = inl (subst (λ y. IsFrameOf y g v) (sym e) is)
 first_or_rest s x ss g v (suc k, lt, e) is = inr (record {
@@ -81,7 +81,7 @@ first_or_rest s x ss g v (suc k, lt, e) is = inr (record {
   number = is.1;
 })
 
-after : (t : Timeline) (s : Stretch) (ss : List Stretch) (g : Group) (v : ℤ)
+after : (t : Timeline) (s : Stretch) (ss : List Stretch) (g : ClipGroup) (v : ℤ)
     → All (Precedes t s) ss → HasFrameOf ss g v → IsAfter t s g v
 after t s ss g v all h =
     by (subst (Precedes t s) h.among.2 (all h.among.0 h.stretch h.among.1))
@@ -92,7 +92,7 @@ after t s ss g v all h =
     by (inr stands) = inr (subst (StandsFirst (clips_of t) s.group) h.group stands)
 
 -- a frame is of the first stretch, or comes after it
-split : (t : Timeline) (s : Stretch) (ss : List Stretch) (g : Group) (v : ℤ)
+split : (t : Timeline) (s : Stretch) (ss : List Stretch) (g : ClipGroup) (v : ℤ)
     → All (Precedes t s) ss → HasFrameOf (s ∷ ss) g v → IsFrameOf s g v ⊎ IsAfter t s g v
 split t s ss g v all h = by (first_or_rest s h.stretch ss g v h.among (h.group, h.number))
   where
@@ -101,7 +101,7 @@ split t s ss g v all h = by (first_or_rest s h.stretch ss g v h.among (h.group, 
     by (inr more) = inr (after t s ss g v all more)
 
 -- and not both
-apart : (t : Timeline) (s : Stretch) (g : Group) (v : ℤ) → IsFrameOf s g v → IsAfter t s g v → ⊥
+apart : (t : Timeline) (s : Stretch) (g : ClipGroup) (v : ℤ) → IsFrameOf s g v → IsAfter t s g v → ⊥
 apart t s g v is (inl e) = let high = is.1.1 in let less = e.1 in omega (arith, ints, high, less)
 apart t s g v is (inr stands) = not_self (clips_of t) s.group g is.0 stands
 
@@ -139,7 +139,7 @@ first_frame s ss n =
 -- no stretch ends later than the first one of a list that has its frames and begins as it does
 ends_by : (t : Timeline) (r s : Stretch) (rs ss : List Stretch) → All (Precedes t r) rs
     → pos 0 <ℤ r.count → r.group ≡ s.group → r.first ≡ s.first
-    → ((g : Group) (v : ℤ) → HasFrameOf (s ∷ ss) g v → HasFrameOf (r ∷ rs) g v)
+    → ((g : ClipGroup) (v : ℤ) → HasFrameOf (s ∷ ss) g v → HasFrameOf (r ∷ rs) g v)
     → past r <ℤ past s → ⊥
 ends_by t r s rs ss all n group first has less =
     by (split t r rs s.group (past r) all
@@ -160,8 +160,8 @@ stretch_is r s a b c = λ i. record { group = a i; first = b i; count = c i }
 
 -- the lists without their first stretch have the same frames
 rest_has : (t : Timeline) (s : Stretch) (xs ys : List Stretch) → All (Precedes t s) xs
-    → ((g : Group) (v : ℤ) → HasFrameOf (s ∷ xs) g v → HasFrameOf (s ∷ ys) g v)
-    → (g : Group) (v : ℤ) → HasFrameOf xs g v → HasFrameOf ys g v
+    → ((g : ClipGroup) (v : ℤ) → HasFrameOf (s ∷ xs) g v → HasFrameOf (s ∷ ys) g v)
+    → (g : ClipGroup) (v : ℤ) → HasFrameOf xs g v → HasFrameOf ys g v
 rest_has t s xs ys all has g v h =
     by (first_or_rest s one.stretch ys g v one.among (one.group, one.number))
   where
@@ -180,14 +180,14 @@ pairs_tail : (t : Timeline) (s : Stretch) (ss : List Stretch) → AllPairs (Prec
     → AllPairs (Precedes t) ss
 pairs_tail t s ss all = λ i j d lt m. all (suc i) (suc j) d (omega (arith, lt)) (omega (arith, m))
 
-none_has : (g : Group) (v : ℤ) → HasFrameOf [] g v → ⊥
+none_has : (g : ClipGroup) (v : ℤ) → HasFrameOf [] g v → ⊥
 none_has g v h = let lt = h.among.1 in omega (arith, lt)
 
 abbrev AreSome : List Stretch → Type 0
 AreSome ss = All (λ s. pos 0 <ℤ s.count) ss
 
 abbrev HaveFrames : List Stretch → List Stretch → Type 0
-HaveFrames xs ys = (g : Group) (v : ℤ) → HasFrameOf xs g v → HasFrameOf ys g v
+HaveFrames xs ys = (g : ClipGroup) (v : ℤ) → HasFrameOf xs g v → HasFrameOf ys g v
 
 -- lists in order that have the same frames are the same
 same_list : (t : Timeline) (xs ys : List Stretch) → AllPairs (Precedes t) xs

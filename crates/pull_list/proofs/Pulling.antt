@@ -11,7 +11,7 @@ use Rattle.pull_list.specs.Pulled.{HasFrameOf, IsIn, IsPullList, Precedes, Stand
 use Rattle.pull_list.specs.Runs.{AreApart, Each, Has, HasNear, IsWithin, far}
 use Rattle.pull_list.specs.Runs.{Precedes as RunsBefore}
 use Rattle.pull_list.specs.Stretches.{AreStretches, IsKnown, IsStretchOf}
-use Rattle.pull_list.specs.Used.{Group, IsUsed}
+use Rattle.pull_list.specs.Used.{ClipGroup, IsUsed}
 use Rattle.pull_list.specs.Wanted.{IsAvailable, IsWanted, Handle, Used, clips_of}
 use Rattle.pull_list.specs.declared.runs.Run.{Run}
 
@@ -26,7 +26,7 @@ has_within (r ∷ rs) n k v w (inl h) =
 has_within (r ∷ rs) n k v w (inr h) = has_within rs n k v w.1 h
 
 -- what is known once all is found
-pub record IsFound (t : Timeline) (h : ℕ) (groups : List Group) (used available all : List Run)
+pub record IsFound (t : Timeline) (h : ℕ) (groups : List ClipGroup) (used available all : List Run)
     : Type 0 where
   pub few : h ≤ 10000
   pub stock : IsStock (clips_of t) groups available
@@ -35,8 +35,8 @@ pub record IsFound (t : Timeline) (h : ℕ) (groups : List Group) (used availabl
       → Has all k v ↔ (Has used k v ⊎ (HasNear used h k v × Has available k v))
   pub apart : AreApart all
 
-used_of : (t : Timeline) (h : ℕ) (groups : List Group) (used available all : List Run)
-    → IsFound t h groups used available all → (k : ℕ) (v : ℤ) (g : Group) → slice_get groups k ≡ Some g
+used_of : (t : Timeline) (h : ℕ) (groups : List ClipGroup) (used available all : List Run)
+    → IsFound t h groups used available all → (k : ℕ) (v : ℤ) (g : ClipGroup) → slice_get groups k ≡ Some g
     → Has used k v → IsUsed t g v
 used_of t h groups used available all f k v g at has = by ((f.adds.has k v).0 has)
   where
@@ -44,24 +44,24 @@ used_of t h groups used available all f k v g at has = by ((f.adds.has k v).0 ha
     by (inl x) = absurd x
     by (inr x) = subst (λ y. IsUsed t y v) (same_Some x.group g (sym x.at ∙ at)) x.used
 
-of_used : (t : Timeline) (h : ℕ) (groups : List Group) (used available all : List Run)
-    → IsFound t h groups used available all → (k : ℕ) (v : ℤ) (g : Group) → slice_get groups k ≡ Some g
+of_used : (t : Timeline) (h : ℕ) (groups : List ClipGroup) (used available all : List Run)
+    → IsFound t h groups used available all → (k : ℕ) (v : ℤ) (g : ClipGroup) → slice_get groups k ≡ Some g
     → IsUsed t g v → Has used k v
 of_used t h groups used available all f k v g at u =
     (f.adds.has k v).1 (inr (record { group = g; at = at; used = u }))
 
-had_is : (t : Timeline) (groups : List Group) (k : ℕ) (v : ℤ) (g : Group) → slice_get groups k ≡ Some g
+had_is : (t : Timeline) (groups : List ClipGroup) (k : ℕ) (v : ℤ) (g : ClipGroup) → slice_get groups k ≡ Some g
     → IsHad (clips_of t) groups k v → IsAvailable t g v
 had_is t groups k v g at had = subst (λ y. IsAvailable t y v) (same_Some had.group g (sym had.at ∙ at))
     (record { clip = had.clip; among = had.among; one = had.is; has = had.has })
 
-is_had : (t : Timeline) (groups : List Group) (k : ℕ) (v : ℤ) (g : Group) → slice_get groups k ≡ Some g
+is_had : (t : Timeline) (groups : List ClipGroup) (k : ℕ) (v : ℤ) (g : ClipGroup) → slice_get groups k ≡ Some g
     → IsAvailable t g v → IsHad (clips_of t) groups k v
 is_had t groups k v g at a =
     record { group = g; at = at; clip = a.clip; among = a.among; is = a.one; has = a.has }
 
-pub has_wanted : (t : Timeline) (h : ℕ) (groups : List Group) (used available all : List Run)
-    → IsFound t h groups used available all → (k : ℕ) (v : ℤ) (g : Group) → slice_get groups k ≡ Some g
+pub has_wanted : (t : Timeline) (h : ℕ) (groups : List ClipGroup) (used available all : List Run)
+    → IsFound t h groups used available all → (k : ℕ) (v : ℤ) (g : ClipGroup) → slice_get groups k ≡ Some g
     → Has all k v → IsWanted t h g v
 has_wanted t h groups used available all f k v g at has = by ((f.wanted k v).0 has)
   where
@@ -71,8 +71,8 @@ has_wanted t h groups used available all f k v g at has = by ((f.wanted k v).0 h
         (used_of t h groups used available all f k x.0.number g at x.0.has) (x.0.low, x.0.high)
         (had_is t groups k v g at (f.stock.available.only k v x.1))
 
-pub wanted_has : (t : Timeline) (h : ℕ) (groups : List Group) (used available all : List Run)
-    → IsFound t h groups used available all → (k : ℕ) (v : ℤ) (g : Group) → slice_get groups k ≡ Some g
+pub wanted_has : (t : Timeline) (h : ℕ) (groups : List ClipGroup) (used available all : List Run)
+    → IsFound t h groups used available all → (k : ℕ) (v : ℤ) (g : ClipGroup) → slice_get groups k ≡ Some g
     → IsWanted t h g v → Has all k v
 wanted_has t h groups used available all f k v g at (Used u) =
     (f.wanted k v).1 (inl (of_used t h groups used available all f k v g at u))
@@ -87,8 +87,8 @@ wanted_has t h groups used available all f k v g at (Handle w u near a) =
     ))
 
 -- a group of which a frame is wanted has a number
-has_number : (t : Timeline) (h : ℕ) (groups : List Group) (used available all : List Run)
-    → IsFound t h groups used available all → (g : Group) (v : ℤ) → IsWanted t h g v
+has_number : (t : Timeline) (h : ℕ) (groups : List ClipGroup) (used available all : List Run)
+    → IsFound t h groups used available all → (g : ClipGroup) (v : ℤ) → IsWanted t h g v
     → HasNumber groups g
 has_number t h groups used available all f g v (Used u) =
     f.stock.are_groups.all g (f.adds.among g v u)
@@ -96,7 +96,7 @@ has_number t h groups used available all f g v (Handle w u near a) =
     f.stock.are_groups.all g (f.adds.among g w u)
 
 -- each group of what is wanted has a number
-known_group : (t : Timeline) (h : ℕ) (groups : List Group) (used available all : List Run)
+known_group : (t : Timeline) (h : ℕ) (groups : List ClipGroup) (used available all : List Run)
     → IsFound t h groups used available all → (k : ℕ) (v : ℤ) → Has all k v → k < length groups
 known_group t h groups used available all f k v has = by ((f.wanted k v).0 has)
   where
@@ -109,7 +109,7 @@ known_group t h groups used available all f k v has = by ((f.wanted k v).0 has)
     by (inr x) = let had = f.stock.available.only k v x.1 in
         slice_get_within groups k had.group had.at
 
-known_each : (groups : List Group) (rs : List Run) → AreApart rs
+known_each : (groups : List ClipGroup) (rs : List Run) → AreApart rs
     → ((k : ℕ) (v : ℤ) → Has rs k v → k < length groups) → Each (IsKnown groups) rs
 known_each groups [] apart f = tt
 known_each groups (r ∷ rs) apart f = (
@@ -117,14 +117,14 @@ known_each groups (r ∷ rs) apart f = (
   known_each groups rs apart.2 (λ k v h. f k v (inr h)),
 )
 
-pub all_known : (t : Timeline) (h : ℕ) (groups : List Group) (used available all : List Run)
+pub all_known : (t : Timeline) (h : ℕ) (groups : List ClipGroup) (used available all : List Run)
     → IsFound t h groups used available all → Each (IsKnown groups) all
 all_known t h groups used available all f =
     known_each groups all f.apart (known_group t h groups used available all f)
 
 -- ---- stretches
 
-stretch_has : (groups : List Group) (rs : List Run) (ss : List Stretch) → AreStretches groups rs ss
+stretch_has : (groups : List ClipGroup) (rs : List Run) (ss : List Stretch) → AreStretches groups rs ss
     → (i : ℕ) (s : Stretch) (v : ℤ) → i < length ss → get_or ss i s ≡ s → IsIn s v
     → (k : ℕ) × (slice_get groups k ≡ Some s.group) × Has rs k v
 stretch_has groups [] [] are i s v lt e is = absurd (omega (arith, lt))
@@ -138,8 +138,8 @@ stretch_has groups (r ∷ rs) (x ∷ ss) are (suc i) s v lt e is =
     let more = stretch_has groups rs ss are.1 i s v (omega (arith, lt)) e is in
     (more.0, more.1, inr more.2)
 
-has_stretch : (groups : List Group) (rs : List Run) (ss : List Stretch) → AreStretches groups rs ss
-    → (k : ℕ) (g : Group) (v : ℤ) → slice_get groups k ≡ Some g → Has rs k v → HasFrameOf ss g v
+has_stretch : (groups : List ClipGroup) (rs : List Run) (ss : List Stretch) → AreStretches groups rs ss
+    → (k : ℕ) (g : ClipGroup) (v : ℤ) → slice_get groups k ≡ Some g → Has rs k v → HasFrameOf ss g v
 has_stretch groups [] ss are k g v at h = absurd h
 has_stretch groups (r ∷ rs) [] are k g v at h = absurd are
 has_stretch groups (r ∷ rs) (s ∷ ss) are k g v at (inl h) =
@@ -157,7 +157,7 @@ has_stretch groups (r ∷ rs) (s ∷ ss) are k g v at (inr h) =
       number = more.number;
     }
 
-all_some : (groups : List Group) (rs : List Run) (ss : List Stretch) → AreStretches groups rs ss
+all_some : (groups : List ClipGroup) (rs : List Run) (ss : List Stretch) → AreStretches groups rs ss
     → AreApart rs → All (λ s. pos 0 <ℤ s.count) ss
 all_some groups [] [] are apart = λ k d lt. absurd (omega (arith, lt))
 all_some groups [] (s ∷ ss) are apart = absurd are
@@ -170,15 +170,15 @@ all_some groups (r ∷ rs) (s ∷ ss) are apart = by (all_some groups rs ss are.
 
 -- ---- order
 
-groups_stand : (t : Timeline) (groups : List Group) → AreGroups (clips_of t) groups → (i j : ℕ)
-    (g h : Group) → i < j → slice_get groups i ≡ Some g → slice_get groups j ≡ Some h
+groups_stand : (t : Timeline) (groups : List ClipGroup) → AreGroups (clips_of t) groups → (i j : ℕ)
+    (g h : ClipGroup) → i < j → slice_get groups i ≡ Some g → slice_get groups j ≡ Some h
     → StandsFirst (clips_of t) g h
 groups_stand t groups are i j g h lt e f =
     subst (λ x. StandsFirst (clips_of t) x h) (get_or_from_slice_get groups i g g e)
     (subst (λ x. StandsFirst (clips_of t) (get_or groups i g) x) (get_or_from_slice_get groups j h g f)
     (are.ordered i j g lt (slice_get_within groups j h f)))
 
-stretches_stand : (t : Timeline) (groups : List Group) → AreGroups (clips_of t) groups → (p q : Run)
+stretches_stand : (t : Timeline) (groups : List ClipGroup) → AreGroups (clips_of t) groups → (p q : Run)
     (a b : Stretch) → IsStretchOf groups p a → IsStretchOf groups q b → RunsBefore p q → Precedes t a b
 stretches_stand t groups are p q a b x y (inl lt) =
     inr (groups_stand t groups are p.group q.group a.group b.group lt x.at y.at)
@@ -189,7 +189,7 @@ stretches_stand t groups are p q a b x y (inr same) =
       omega (arith, ints, c, d, e, f),
     )
 
-all_after : (t : Timeline) (groups : List Group) → AreGroups (clips_of t) groups → (p : Run)
+all_after : (t : Timeline) (groups : List ClipGroup) → AreGroups (clips_of t) groups → (p : Run)
     (a : Stretch) → IsStretchOf groups p a → (rs : List Run) (ss : List Stretch)
     → AreStretches groups rs ss → Each (RunsBefore p) rs → All (Precedes t a) ss
 all_after t groups are p a x [] [] y e = λ k d lt. absurd (omega (arith, lt))
@@ -202,7 +202,7 @@ all_after t groups are p a x (r ∷ rs) (s ∷ ss) y e =
     by more zero d lt = stretches_stand t groups are p r a s x y.0 e.0
     by more (suc k) d lt = more k d (omega (arith, lt))
 
-ordered : (t : Timeline) (groups : List Group) → AreGroups (clips_of t) groups → (rs : List Run)
+ordered : (t : Timeline) (groups : List ClipGroup) → AreGroups (clips_of t) groups → (rs : List Run)
     (ss : List Stretch) → AreStretches groups rs ss → AreApart rs → AllPairs (Precedes t) ss
 ordered t groups are [] [] y apart = λ i j d lt m. absurd (omega (arith, m))
 ordered t groups are [] (s ∷ ss) y apart = absurd y
@@ -213,7 +213,7 @@ ordered t groups are (r ∷ rs) (s ∷ ss) y apart =
 
 -- ---- the pull list
 
-pub is_pull_list : (t : Timeline) (h : ℕ) (groups : List Group) (used available all : List Run)
+pub is_pull_list : (t : Timeline) (h : ℕ) (groups : List ClipGroup) (used available all : List Run)
     (ss : List Stretch) → IsFound t h groups used available all → AreStretches groups all ss
     → IsPullList t h ss
 is_pull_list t h groups used available all ss f are = record {
@@ -230,7 +230,7 @@ is_pull_list t h groups used available all ss f are = record {
 }
 
 -- what is known once all is found, as the code has found it
-pub found_by : (t : Timeline) (h : ℕ) (stocked started ended groups : List Group)
+pub found_by : (t : Timeline) (h : ℕ) (stocked started ended groups : List ClipGroup)
     (start mid used available all : List Run) → h ≤ 10000 → IsStock (clips_of t) stocked available
     → started ≡ stocked → start ≡ [] → AddsUsed started t start mid → ended ≡ started
     → groups ≡ ended → used ≡ mid

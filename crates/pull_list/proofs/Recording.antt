@@ -20,11 +20,11 @@ use Rattle.coord.specs.Programs.{child_shows, frame_ticks, instant, record_rate,
 use Rattle.coord.proofs.Members.{next, none_left}
 use Rattle.coord.proofs.SightLemmas.{lengths-items}
 use Rattle.show_prog.proofs.Roots.{child_before, child_behind, program_of}
-use Rattle.show_prog.proofs.SoundnessFacts.{added_more}
+use Rattle.coord.proofs.ChildStarts.{added_more}
 use Rattle.pull_list.specs.Found.{AddsChild, AddsShown, AddsUsed, Collects, HasClip, IsShown, IsShownIn, IsUsedBy, clips_of_item, frame_shown}
 use Rattle.pull_list.specs.Record.{frames_in}
 use Rattle.pull_list.specs.Runs.{Each, Has, IsRun, IsWithin, far}
-use Rattle.pull_list.specs.Used.{Group, IsSeen, IsUsed}
+use Rattle.pull_list.specs.Used.{ClipGroup, IsSeen, IsUsed}
 use Rattle.pull_list.specs.Wanted.{clips_of}
 use Rattle.pull_list.specs.declared.runs.Run.{Run}
 use Rattle.pull_list.proofs.Collecting.{clip_below}
@@ -123,7 +123,7 @@ natural_of (negsuc n) (suc b) some low = absurd (omega (arith, ints, low))
 
 -- ---- one child
 
-pub child_starts : (groups : List Group) (x : ItemOf Listed) (ticks : ℕ) (old : List Run)
+pub child_starts : (groups : List ClipGroup) (x : ItemOf Listed) (ticks : ℕ) (old : List Run)
     → Each IsRun old → AddsChild groups x ticks 0 old old
 child_starts groups x ticks old runs = record {
   has = λ k v. (λ h. inl h, by k v);
@@ -136,7 +136,7 @@ child_starts groups x ticks old runs = record {
     by k v (inl h) = h
     by k v (inr h) = let l = h.low in absurd (omega (arith, l))
 
-child_next : (groups : List Group) (x : ItemOf Listed) (ticks n : ℕ) (old mid new : List Run)
+child_next : (groups : List ClipGroup) (x : ItemOf Listed) (ticks n : ℕ) (old mid new : List Run)
     → AddsChild groups x ticks n old mid
     → AddsShown groups (clips_of_item x) mid new (frame_shown x ticks n)
     → AddsChild groups x ticks (n + 1) old new
@@ -174,14 +174,14 @@ child_next groups x ticks n old mid new a b = record {
     back k v (inl h) = inl ((a.has k v).1 (inl h))
     back k v (inr h) = last k v h.frame (cases_lt h.frame n) h.low h.shown
 
-    by : (m : ℕ) (g : Group) (v : ℤ) → (m < n) ⊎ (n ≤ m) → m < n + 1
+    by : (m : ℕ) (g : ClipGroup) (v : ℤ) → (m < n) ⊎ (n ≤ m) → m < n + 1
         → IsSeen g v (frame_shown x ticks m) → HasClip (clips_of_item x) g
     by m g v (inl lt) low seen = a.among m g v lt seen
     by m g v (inr le) low seen =
         let same : m ≡ n = omega (arith, le, low) in
         b.among g v (subst (λ j. IsSeen g v (frame_shown x ticks j)) same seen)
 
-pub child_goes : (groups mids : List Group) (x : ItemOf Listed) (ticks n : ℕ) (old mid new : List Run)
+pub child_goes : (groups mids : List ClipGroup) (x : ItemOf Listed) (ticks n : ℕ) (old mid new : List Run)
     (u : ℤ) → AddsChild groups x ticks n old mid → mids ≡ groups
     → AddsShown mids (clips_of_item x) mid new (child_shows (λ rate. rate) x u)
     → u ≡ pos n *ℤ pos ticks → AddsChild groups x ticks (n + 1) old new
@@ -193,7 +193,7 @@ child_goes groups mids x ticks n old mid new u a e b f =
 -- ---- the root children
 
 -- a root child before an index shows the frame
-pub record IsRootShown (groups : List Group) (t : Timeline) (ticks i k : ℕ) (v : ℤ) : Type 0 where
+pub record IsRootShown (groups : List ClipGroup) (t : Timeline) (ticks i k : ℕ) (v : ℤ) : Type 0 where
   pub root : ℕ
   pub below : root < i
   pub item : ItemOf Listed
@@ -201,16 +201,16 @@ pub record IsRootShown (groups : List Group) (t : Timeline) (ticks i k : ℕ) (v
   pub shown : IsShownIn groups item ticks (frames_of_child ticks item) k v
 
 -- the frames of the root children before an index were taken in
-pub record AddsRoots (groups : List Group) (t : Timeline) (ticks i : ℕ) (old new : List Run) : Type 0
+pub record AddsRoots (groups : List ClipGroup) (t : Timeline) (ticks i : ℕ) (old new : List Run) : Type 0
   where
     pub has : (k : ℕ) (v : ℤ) → Has new k v ↔ (Has old k v ⊎ IsRootShown groups t ticks i k v)
     pub are_runs : Each IsRun new
     pub within : Each (IsWithin far) old → Each (IsWithin far) new
     pub among : (root : ℕ) (x : ItemOf Listed) → root < i
-        → slice_get (items_of t.tracks.children) root ≡ Some x → (n : ℕ) (g : Group) (v : ℤ)
+        → slice_get (items_of t.tracks.children) root ≡ Some x → (n : ℕ) (g : ClipGroup) (v : ℤ)
         → n < frames_of_child ticks x → IsSeen g v (frame_shown x ticks n) → HasClip (clips_of t) g
 
-pub roots_start : (groups : List Group) (t : Timeline) (ticks : ℕ) (old : List Run)
+pub roots_start : (groups : List ClipGroup) (t : Timeline) (ticks : ℕ) (old : List Run)
     → Each IsRun old → AddsRoots groups t ticks 0 old old
 roots_start groups t ticks old runs = record {
   has = λ k v. (λ h. inl h, by k v);
@@ -223,7 +223,7 @@ roots_start groups t ticks old runs = record {
     by k v (inl h) = h
     by k v (inr h) = let l = h.below in absurd (omega (arith, l))
 
-roots_next : (groups : List Group) (t : Timeline) (ticks i : ℕ) (x : ItemOf Listed)
+roots_next : (groups : List ClipGroup) (t : Timeline) (ticks i : ℕ) (x : ItemOf Listed)
     (old mid new : List Run) → slice_get (items_of t.tracks.children) i ≡ Some x
     → AddsRoots groups t ticks i old mid
     → AddsChild groups x ticks (frames_of_child ticks x) mid new
@@ -273,7 +273,7 @@ roots_next groups t ticks i x old mid new e a b = record {
     back k v (inl h) = inl ((a.has k v).1 (inl h))
     back k v (inr h) = last k v h.root h.item (cases_lt h.root i) h.below h.here h.shown
 
-    up : (g : Group) → HasClip (clips_of_item x) g → HasClip (clips_of t) g
+    up : (g : ClipGroup) → HasClip (clips_of_item x) g → HasClip (clips_of t) g
     up g h = record {
       clip = h.clip;
       among = clip_below t.tracks.children i x e h.clip h.among;
@@ -281,7 +281,7 @@ roots_next groups t ticks i x old mid new e a b = record {
     }
 
     by : (root : ℕ) (y : ItemOf Listed) → (root < i) ⊎ (i ≤ root) → root < i + 1
-        → slice_get (items_of t.tracks.children) root ≡ Some y → (n : ℕ) (g : Group) (v : ℤ)
+        → slice_get (items_of t.tracks.children) root ≡ Some y → (n : ℕ) (g : ClipGroup) (v : ℤ)
         → n < frames_of_child ticks y → IsSeen g v (frame_shown y ticks n) → HasClip (clips_of t) g
     by root y (inl lt) low f n g v l seen = a.among root y lt f n g v l seen
     by root y (inr le) low f n g v l seen =
@@ -289,7 +289,7 @@ roots_next groups t ticks i x old mid new e a b = record {
         up g (b.among n g v (subst (λ z. n < frames_of_child ticks z) same l)
         (subst (λ z. IsSeen g v (frame_shown z ticks n)) same seen))
 
-pub roots_go : (groups mids : List Group) (t : Timeline) (ticks i : ℕ) (x : ItemOf Listed)
+pub roots_go : (groups mids : List ClipGroup) (t : Timeline) (ticks i : ℕ) (x : ItemOf Listed)
     (old mid new : List Run) → slice_get (items_of t.tracks.children) i ≡ Some x
     → AddsRoots groups t ticks i old mid → mids ≡ groups
     → AddsChild mids x ticks (frames_of_child ticks x) mid new
@@ -301,7 +301,7 @@ roots_go groups mids t ticks i x old mid new e a f b =
 -- ---- what a timeline uses
 
 -- a root child shows the frame of the group at one of its record frames
-record IsShownAt (t : Timeline) (ticks : ℕ) (g : Group) (v : ℤ) : Type 0 where
+record IsShownAt (t : Timeline) (ticks : ℕ) (g : ClipGroup) (v : ℤ) : Type 0 where
   root : ℕ
   item : ItemOf Listed
   here : slice_get (items_of t.tracks.children) root ≡ Some item
@@ -312,7 +312,7 @@ record IsShownAt (t : Timeline) (ticks : ℕ) (g : Group) (v : ℤ) : Type 0 whe
 abbrev same_rate : FrameRate → FrameRate
 same_rate = λ rate. rate
 
-used_in : (t : Timeline) (ticks : ℕ) (g : Group) (v : ℤ) (k : ℕ) (at d : ℤ) (x : ItemOf Listed)
+used_in : (t : Timeline) (ticks : ℕ) (g : ClipGroup) (v : ℤ) (k : ℕ) (at d : ℤ) (x : ItemOf Listed)
     → ticks ≡ frame_ticks (record_rate t) → 0 < ticks → d ≡ at -ℤ start_frame t
     → slice_get (items_of t.tracks.children) k ≡ Some x
     → IsSeen g v (child_shows same_rate x (d *ℤ pos ticks)) → pos 0 ≤ℤ (d *ℤ pos ticks)
@@ -330,7 +330,7 @@ used_in t ticks g v k at d x e some f here seen low high =
       seen = subst (λ z. IsSeen g v (child_shows same_rate x (z *ℤ pos ticks))) n.1 seen;
     }
 
-used_of_child : (t : Timeline) (ticks : ℕ) (g : Group) (v : ℤ) (k : ℕ) (at d : ℤ) (x : ItemOf Listed)
+used_of_child : (t : Timeline) (ticks : ℕ) (g : ClipGroup) (v : ℤ) (k : ℕ) (at d : ℤ) (x : ItemOf Listed)
     → ticks ≡ frame_ticks (record_rate t) → 0 < ticks → d ≡ at -ℤ start_frame t
     → slice_get (items_of t.tracks.children) k ≡ Some x
     → IsSeen g v (child_shows same_rate x (d *ℤ pos ticks)) → IsShownAt t ticks g v
@@ -341,7 +341,7 @@ used_of_child t ticks g v k at d x e some f here seen =
     (λ high. used_in t ticks g v k at d x e some f here seen low high)
     (λ behind. absurd (subst (IsSeen g v) (sym (child_behind x (d *ℤ pos ticks) behind)) seen)))
 
-used_by_child : (t : Timeline) (ticks : ℕ) (g : Group) (v : ℤ) (k : ℕ) (at : ℤ)
+used_by_child : (t : Timeline) (ticks : ℕ) (g : ClipGroup) (v : ℤ) (k : ℕ) (at : ℤ)
     (o : Option (ItemOf Listed)) → ticks ≡ frame_ticks (record_rate t) → 0 < ticks
     → slice_get (items_of t.tracks.children) k ≡ o
     → IsSeen g v (shown_by same_rate o (instant t at)) → IsShownAt t ticks g v
@@ -350,13 +350,13 @@ used_by_child t ticks g v k at (Some x) e some here seen =
     used_of_child t ticks g v k at (at -ℤ start_frame t) x e some refl here
     (subst (λ n. IsSeen g v (child_shows same_rate x ((at -ℤ start_frame t) *ℤ pos n))) (sym e) seen)
 
-used_at : (t : Timeline) (ticks : ℕ) (g : Group) (v : ℤ) → ticks ≡ frame_ticks (record_rate t)
+used_at : (t : Timeline) (ticks : ℕ) (g : ClipGroup) (v : ℤ) → ticks ≡ frame_ticks (record_rate t)
     → 0 < ticks → IsUsed t g v → IsShownAt t ticks g v
 used_at t ticks g v e some u =
     used_by_child t ticks g v u.child u.at (slice_get (items_of t.tracks.children) u.child) e some
     refl u.seen
 
-at_used : (t : Timeline) (ticks : ℕ) (g : Group) (v : ℤ) → ticks ≡ frame_ticks (record_rate t)
+at_used : (t : Timeline) (ticks : ℕ) (g : ClipGroup) (v : ℤ) → ticks ≡ frame_ticks (record_rate t)
     → IsShownAt t ticks g v → IsUsed t g v
 at_used t ticks g v e s =
     let n : ℤ = start_frame t +ℤ pos s.frame in
@@ -369,7 +369,7 @@ at_used t ticks g v e s =
           s.seen;
     }
 
-pub roots_end : (groups : List Group) (t : Timeline) (ticks i : ℕ) (old new : List Run)
+pub roots_end : (groups : List ClipGroup) (t : Timeline) (ticks i : ℕ) (old new : List Run)
     → ticks ≡ frame_ticks (record_rate t) → 0 < ticks → length (items_of t.tracks.children) ≤ i
     → AddsRoots groups t ticks i old new → AddsUsed groups t old new
 roots_end groups t ticks i old new e some all a = record {
@@ -399,7 +399,7 @@ roots_end groups t ticks i old new e some all a = record {
       });
     })
 
-    shown : (k : ℕ) (v : ℤ) (g : Group) → slice_get groups k ≡ Some g → IsShownAt t ticks g v
+    shown : (k : ℕ) (v : ℤ) (g : ClipGroup) → slice_get groups k ≡ Some g → IsShownAt t ticks g v
         → IsRootShown groups t ticks i k v
     shown k v g at s = record {
       root = s.root;
@@ -418,12 +418,12 @@ roots_end groups t ticks i old new e some all a = record {
     back k v (inl h) = inl h
     back k v (inr h) = inr (shown k v h.group h.at (used_at t ticks h.group v e some h.used))
 
-    by : (g : Group) (v : ℤ) → IsShownAt t ticks g v → HasClip (clips_of t) g
+    by : (g : ClipGroup) (v : ℤ) → IsShownAt t ticks g v → HasClip (clips_of t) g
     by g v s = a.among s.root s.item (below s.root s.item s.here) s.here s.frame g v s.low s.seen
 
 -- ---- one frame
 
-pub shown_as : (groups : List Group) (clips : List ClipRow) (old new : List Run) (any : Bool)
+pub shown_as : (groups : List ClipGroup) (clips : List ClipRow) (old new : List Run) (any : Bool)
     (s t : Show) → Collects groups clips old new any s → s ≡ t → AddsShown groups clips old new t
 shown_as groups clips old new any s t c e =
     subst (AddsShown groups clips old new) e (record { takes = c.takes; among = c.among })

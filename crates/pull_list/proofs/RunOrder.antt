@@ -23,8 +23,8 @@ run_total =
 abbrev stands_before : Run → Run → Bool
 stands_before a b = is_lt (run_cmp a b)
 
-is_order : IsStrictWeakOrder stands_before
-is_order = ranks_by run_total (λ r. r)
+run_order-is_strict : IsStrictWeakOrder stands_before
+run_order-is_strict = ranks_by run_total (λ r. r)
 
 by_first : (a b : Run) (o : Ordering) → o ≡ int_cmp b.first a.first → is_lt o ≡ false
     → a.first ≤ℤ b.first
@@ -46,4 +46,4 @@ pub sorted_stand : (rs : List Run) → IsSortedBy stands_before rs → AreSorted
 sorted_stand rs sorted = sorted_from rs (λ i j d l m.
     by_group (get_or rs i d) (get_or rs j d)
     (nat_cmp (get_or rs j d).group (get_or rs i d).group) refl
-    (sorted_far stands_before is_order rs sorted i j d (omega (arith, l)) m))
+    (sorted_far stands_before run_order-is_strict rs sorted i j d (omega (arith, l)) m))

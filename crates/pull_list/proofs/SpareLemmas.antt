@@ -4,19 +4,19 @@ use Rattle.std.specs.List.{Contains}
 use Rattle.otio_model.specs.declared.timelines.Timeline.{Timeline}
 use Rattle.otio_model.specs.Timelines.{bare}
 use Rattle.coord.specs.Programs.{program}
-use Rattle.pull_list.specs.Used.{Group, IsSeen, IsUsed}
+use Rattle.pull_list.specs.Used.{ClipGroup, IsSeen, IsUsed}
 use Rattle.pull_list.specs.Wanted.{IsAvailable, IsWanted, Used, Handle, clips_of}
 use Rattle.pull_list.specs.Pulled.{IsPullList, Precedes, Stretch}
 use Rattle.pull_list.specs.Record.{HasTooMany}
 
-used_bare : (t u : Timeline) (g : Group) (v : ℤ) → bare t ≡ bare u → IsUsed t g v → IsUsed u g v
+used_bare : (t u : Timeline) (g : ClipGroup) (v : ℤ) → bare t ≡ bare u → IsUsed t g v → IsUsed u g v
 used_bare t u g v e is = record {
   child = is.child;
   at = is.at;
   seen = subst (λ (x : Timeline). IsSeen g v (program x is.child is.at)) e is.seen;
 }
 
-available_bare : (t u : Timeline) (g : Group) (v : ℤ) → bare t ≡ bare u → IsAvailable t g v
+available_bare : (t u : Timeline) (g : ClipGroup) (v : ℤ) → bare t ≡ bare u → IsAvailable t g v
     → IsAvailable u g v
 available_bare t u g v e is = record {
   clip = is.clip;
@@ -25,7 +25,7 @@ available_bare t u g v e is = record {
   has = is.has;
 }
 
-wanted_bare : (t u : Timeline) (handles : ℕ) (g : Group) (v : ℤ) → bare t ≡ bare u
+wanted_bare : (t u : Timeline) (handles : ℕ) (g : ClipGroup) (v : ℤ) → bare t ≡ bare u
     → IsWanted t handles g v → IsWanted u handles g v
 wanted_bare t u handles g v e (Used is) = Used (used_bare t u g v e is)
 wanted_bare t u handles g v e (Handle w is near has) =

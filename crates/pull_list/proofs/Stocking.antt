@@ -19,7 +19,7 @@ use Rattle.pull_list.specs.Found.{AddsFrames, AddsGroup, AreGroups, HasClip, IsH
 use Rattle.pull_list.specs.Labels.{HasNumber}
 use Rattle.pull_list.specs.Pulled.{StandsFirst}
 use Rattle.pull_list.specs.Runs.{Has, further}
-use Rattle.pull_list.specs.Used.{Group}
+use Rattle.pull_list.specs.Used.{ClipGroup}
 use Rattle.pull_list.specs.Wanted.{HasAvailable, IsOf}
 use Rattle.pull_list.specs.declared.runs.Run.{Run}
 use Rattle.pull_list.proofs.Collecting.{clip_of, clips_append, clips_below, contains_back, contains_front}
@@ -28,7 +28,7 @@ use Rattle.pull_list.proofs.LabelLemmas.{get_either, get_front}
 -- ---- one clip more
 
 -- a clip is of one group
-one_group : (c : ClipRow) (g h : Group) → IsOf g c → IsOf h c → g ≡ h
+one_group : (c : ClipRow) (g h : ClipGroup) → IsOf g c → IsOf h c → g ≡ h
 one_group c g h a b =
     let key = sym a.0 ∙ b.0 in let rate = same_Some g.rate h.rate (sym a.1 ∙ b.1) in
     λ i. record { key = key i; rate = rate i }
@@ -44,7 +44,7 @@ last_of (x ∷ clips) c d (suc k, lt, e) = by (last_of clips c d (k, omega (arit
     by (inl h) = inl (suc h.0, omega (arith, h.1), h.2)
     by (inr h) = inr h
 
-front_clip : (clips : List ClipRow) (c : ClipRow) (g : Group) → HasClip clips g
+front_clip : (clips : List ClipRow) (c : ClipRow) (g : ClipGroup) → HasClip clips g
     → HasClip (clips ++ c ∷ []) g
 front_clip clips c g h = record {
   clip = h.clip;
@@ -52,7 +52,7 @@ front_clip clips c g h = record {
   is = h.is;
 }
 
-last_clip : (clips : List ClipRow) (c : ClipRow) (g : Group) → IsOf g c → HasClip (clips ++ c ∷ []) g
+last_clip : (clips : List ClipRow) (c : ClipRow) (g : ClipGroup) → IsOf g c → HasClip (clips ++ c ∷ []) g
 last_clip clips c g is = record {
   clip = c;
   among = contains_back clips (c ∷ []) c (0, omega arith, refl);
@@ -60,7 +60,7 @@ last_clip clips c g is = record {
 }
 
 -- a group that had no clip gets one only with this one
-has_either : (clips : List ClipRow) (c : ClipRow) (g : Group) → HasClip (clips ++ c ∷ []) g
+has_either : (clips : List ClipRow) (c : ClipRow) (g : ClipGroup) → HasClip (clips ++ c ∷ []) g
     → HasClip clips g ⊎ IsOf g c
 has_either clips c g h = by (last_of clips c h.clip h.among)
   where
@@ -68,7 +68,7 @@ has_either clips c g h = by (last_of clips c h.clip h.among)
     by (inl x) = inl (record { clip = h.clip; among = x; is = h.is })
     by (inr e) = inr (subst (IsOf g) (sym e) h.is)
 
-stands_more : (clips : List ClipRow) (c : ClipRow) (g h : Group) → StandsFirst clips g h
+stands_more : (clips : List ClipRow) (c : ClipRow) (g h : ClipGroup) → StandsFirst clips g h
     → StandsFirst (clips ++ c ∷ []) g h
 stands_more clips c g h s = record {
   ahead = s.ahead;
@@ -95,7 +95,7 @@ cut (x ∷ clips) c (suc k) lt e =
     record { ahead = x ∷ more.ahead; after = more.after; are = ap (λ l. x ∷ l) more.are }
 
 -- where none of the clips is of a group, the other stands first
-stands_last : (clips : List ClipRow) (c : ClipRow) (g h : Group) → HasClip clips g
+stands_last : (clips : List ClipRow) (c : ClipRow) (g h : ClipGroup) → HasClip clips g
     → (HasClip clips h → ⊥) → StandsFirst (clips ++ c ∷ []) g h
 stands_last clips c g h has none =
     let k = cut clips has.clip has.among.0 has.among.1 has.among.2 in
@@ -123,12 +123,12 @@ stands_last clips c g h has none =
 -- ---- groups
 
 -- the group of a number is one of a clip
-has_at : (clips : List ClipRow) (groups : List Group) → AreGroups clips groups → (k : ℕ) (d : Group)
+has_at : (clips : List ClipRow) (groups : List ClipGroup) → AreGroups clips groups → (k : ℕ) (d : ClipGroup)
     → k < length groups → HasClip clips (get_or groups k d)
 has_at clips groups are k d lt = are.of_clips (get_or groups k d) (k, slice_get-get_or groups k d lt)
 
-groups_same : (clips : List ClipRow) (c : ClipRow) (groups : List Group) → AreGroups clips groups
-    → ((g : Group) → IsOf g c → HasNumber groups g) → AreGroups (clips ++ c ∷ []) groups
+groups_same : (clips : List ClipRow) (c : ClipRow) (groups : List ClipGroup) → AreGroups clips groups
+    → ((g : ClipGroup) → IsOf g c → HasNumber groups g) → AreGroups (clips ++ c ∷ []) groups
 groups_same clips c groups are of = record {
   of_clips = λ g n. front_clip clips c g (are.of_clips g n);
   all = λ g h. by g (has_either clips c g h);
@@ -136,18 +136,18 @@ groups_same clips c groups are of = record {
       (are.ordered i j d lt m);
 }
   where
-    by : (g : Group) → HasClip clips g ⊎ IsOf g c → HasNumber groups g
+    by : (g : ClipGroup) → HasClip clips g ⊎ IsOf g c → HasNumber groups g
     by g (inl h) = are.all g h
     by g (inr h) = of g h
 
-number_front : (groups : List Group) (g h : Group) → HasNumber groups h → HasNumber (groups ++ g ∷ []) h
+number_front : (groups : List ClipGroup) (g h : ClipGroup) → HasNumber groups h → HasNumber (groups ++ g ∷ []) h
 number_front groups g h n = (n.0, get_front groups (g ∷ []) n.0 h n.1)
 
-number_last : (groups : List Group) (g : Group) → HasNumber (groups ++ g ∷ []) g
+number_last : (groups : List ClipGroup) (g : ClipGroup) → HasNumber (groups ++ g ∷ []) g
 number_last [] g = (0, refl)
 number_last (x ∷ groups) g = let n = number_last groups g in (suc n.0, n.1)
 
-groups_more : (clips : List ClipRow) (c : ClipRow) (groups : List Group) (g : Group)
+groups_more : (clips : List ClipRow) (c : ClipRow) (groups : List ClipGroup) (g : ClipGroup)
     → AreGroups clips groups → IsOf g c → (HasNumber groups g → ⊥)
     → AreGroups (clips ++ c ∷ []) (groups ++ g ∷ [])
 groups_more clips c groups g are is none = record {
@@ -159,22 +159,22 @@ groups_more clips c groups g are is none = record {
       (λ h. none (are.all g h)));
 }
   where
-    of : (h : Group) (k : ℕ) → (slice_get groups k ≡ Some h) ⊎ ((k ≡ length groups) × (g ≡ h))
+    of : (h : ClipGroup) (k : ℕ) → (slice_get groups k ≡ Some h) ⊎ ((k ≡ length groups) × (g ≡ h))
         → HasClip (clips ++ c ∷ []) h
     of h k (inl e) = front_clip clips c h (are.of_clips h (k, e))
     of h k (inr e) = last_clip clips c h (subst (λ x. IsOf x c) e.1 is)
 
-    by : (h : Group) → HasClip clips h ⊎ IsOf h c → HasNumber (groups ++ g ∷ []) h
+    by : (h : ClipGroup) → HasClip clips h ⊎ IsOf h c → HasNumber (groups ++ g ∷ []) h
     by h (inl has) = number_front groups g h (are.all h has)
     by h (inr of_h) = subst (HasNumber (groups ++ g ∷ [])) (one_group c g h is of_h) (number_last groups g)
 
 -- what was known of groups, once one may have been added
-record Grows (clips : List ClipRow) (c : ClipRow) (old new : List Group) : Type 0 where
+record Grows (clips : List ClipRow) (c : ClipRow) (old new : List ClipGroup) : Type 0 where
   are : AreGroups (clips ++ c ∷ []) new
-  front : (k : ℕ) (g : Group) → slice_get old k ≡ Some g → slice_get new k ≡ Some g
-  back : (k : ℕ) (g : Group) → HasNumber old g → slice_get new k ≡ Some g → slice_get old k ≡ Some g
+  front : (k : ℕ) (g : ClipGroup) → slice_get old k ≡ Some g → slice_get new k ≡ Some g
+  back : (k : ℕ) (g : ClipGroup) → HasNumber old g → slice_get new k ≡ Some g → slice_get old k ≡ Some g
 
-grows_by : (clips : List ClipRow) (c : ClipRow) (old new : List Group) (g : Group) → AreGroups clips old
+grows_by : (clips : List ClipRow) (c : ClipRow) (old new : List ClipGroup) (g : ClipGroup) → AreGroups clips old
     → IsOf g c → AddsGroup old new g → Grows clips c old new
 grows_by clips c old new g are is (inl same) = subst (Grows clips c old) (sym same.0) (record {
   are = groups_same clips c old are (λ h of. subst (HasNumber old) (one_group c g h is of) same.1);
@@ -187,19 +187,19 @@ grows_by clips c old new g are is (inr more) = subst (Grows clips c old) (sym mo
   back = λ k h n e. by k h n (get_either old g k h e);
 })
   where
-    by : (k : ℕ) (h : Group) → HasNumber old h
+    by : (k : ℕ) (h : ClipGroup) → HasNumber old h
         → (slice_get old k ≡ Some h) ⊎ ((k ≡ length old) × (g ≡ h)) → slice_get old k ≡ Some h
     by k h n (inl e) = e
     by k h n (inr e) = absurd (more.1 (subst (HasNumber old) (sym e.1) n))
 
 -- no two groups are the same
-stands_not : (clips : List ClipRow) (g : Group) → StandsFirst clips g g → ⊥
+stands_not : (clips : List ClipRow) (g : ClipGroup) → StandsFirst clips g g → ⊥
 stands_not clips g s =
     let here = contains_back s.ahead (s.first ∷ []) s.first (0, omega arith, refl) in
     s.not_yet here.0 s.first here.1 (subst (IsOf g) (sym here.2) s.is_first)
 
-same_number : (clips : List ClipRow) (groups : List Group) → AreGroups clips groups → (j k : ℕ)
-    (g : Group) → slice_get groups j ≡ Some g → slice_get groups k ≡ Some g → (j < k → ⊥)
+same_number : (clips : List ClipRow) (groups : List ClipGroup) → AreGroups clips groups → (j k : ℕ)
+    (g : ClipGroup) → slice_get groups j ≡ Some g → slice_get groups k ≡ Some g → (j < k → ⊥)
 same_number clips groups are j k g e f lt =
     stands_not clips g
     (subst (λ x. StandsFirst clips x g) (get_or_from_slice_get groups j g g e)
@@ -208,7 +208,7 @@ same_number clips groups are j k g e f lt =
 
 -- ---- what is available
 
-had_more : (clips : List ClipRow) (c : ClipRow) (old new : List Group) → Grows clips c old new → (k : ℕ)
+had_more : (clips : List ClipRow) (c : ClipRow) (old new : List ClipGroup) → Grows clips c old new → (k : ℕ)
     (v : ℤ) → IsHad clips old k v → IsHad (clips ++ c ∷ []) new k v
 had_more clips c old new g k v had = record {
   group = had.group;
@@ -220,7 +220,7 @@ had_more clips c old new g k v had = record {
 }
 
 -- what a clip had before, or the new one
-had_either : (clips : List ClipRow) (c : ClipRow) (old new : List Group) → AreGroups clips old
+had_either : (clips : List ClipRow) (c : ClipRow) (old new : List ClipGroup) → AreGroups clips old
     → Grows clips c old new → (k : ℕ) (v : ℤ) → (had : IsHad (clips ++ c ∷ []) new k v)
     → IsHad clips old k v ⊎ (IsOf had.group c × HasAvailable (clip_range c) had.group.rate v)
 had_either clips c old new are g k v had = by (last_of clips c had.clip had.among)
@@ -241,7 +241,7 @@ had_either clips c old new are g k v had = by (last_of clips c had.clip had.amon
       subst (λ d. HasAvailable (clip_range d) had.group.rate v) (sym e) had.has,
     )
 
-pub stock_more : (clips : List ClipRow) (c : ClipRow) (old new : List Group) (a b : List Run) (g : Group)
+pub stock_more : (clips : List ClipRow) (c : ClipRow) (old new : List ClipGroup) (a b : List Run) (g : ClipGroup)
     (number : ℕ) → IsOf g c → AddsGroup old new g → slice_get new number ≡ Some g
     → AddsFrames a b number (clip_range c) g.rate → IsStock clips old a
     → IsStock (clips ++ c ∷ []) new b
@@ -270,7 +270,7 @@ stock_more clips c old new a b g number is added at frames stock = record {
       has = h.1;
     }
 
-    numbers : (k : ℕ) (h : Group) → slice_get new k ≡ Some h → IsOf h c → number ≡ k
+    numbers : (k : ℕ) (h : ClipGroup) → slice_get new k ≡ Some h → IsOf h c → number ≡ k
     numbers k h e of =
         let f = subst (λ x. slice_get new k ≡ Some x) (one_group c h g of is) e in
         same (same_number (clips ++ c ∷ []) new grown.are k number g f at)
@@ -290,7 +290,7 @@ stock_more clips c old new a b g number is added at frames stock = record {
         (frames.all v near (subst (λ x. HasAvailable (clip_range c) x.rate v) rate h.1))
 
 -- a clip of no group
-pub stock_same : (clips : List ClipRow) (c : ClipRow) (groups : List Group) (a : List Run)
+pub stock_same : (clips : List ClipRow) (c : ClipRow) (groups : List ClipGroup) (a : List Run)
     → media_rate c ≡ None → IsStock clips groups a → IsStock (clips ++ c ∷ []) groups a
 stock_same clips c groups a none stock = record {
   are_groups = groups_same clips c groups stock.are_groups (λ g of. absurd (not g of));
@@ -308,7 +308,7 @@ stock_same clips c groups a none stock = record {
   };
 }
   where
-    not : (g : Group) → IsOf g c → ⊥
+    not : (g : ClipGroup) → IsOf g c → ⊥
     not g of = let e = sym none ∙ of.1 in cc e
 
     by : (k : ℕ) (v : ℤ) → (pos 0 -ℤ pos further) ≤ℤ v → v <ℤ pos further
@@ -326,7 +326,7 @@ stock_same clips c groups a none stock = record {
 
 -- ---- no clips
 
-pub stock_none : (groups : List Group) (a : List Run) → groups ≡ [] → a ≡ [] → IsStock [] groups a
+pub stock_none : (groups : List ClipGroup) (a : List Run) → groups ≡ [] → a ≡ [] → IsStock [] groups a
 stock_none groups a e f =
     subst (λ g. IsStock [] g a) (sym e) (subst (IsStock [] []) (sym f) (record {
       are_groups = record {
@@ -341,7 +341,7 @@ stock_none groups a e f =
       };
     }))
   where
-    nothing : (g : Group) (k : ℕ) → slice_get [] k ≡ Some g → ⊥
+    nothing : (g : ClipGroup) (k : ℕ) → slice_get [] k ≡ Some g → ⊥
     nothing g zero e = cc e
     nothing g (suc k) e = cc e
 
@@ -380,7 +380,7 @@ among_next xs i x e =
     ∙ ap (λ l. clips_among (take i xs) ++ l) (nothing_more (clips_of_item x))
 
 pub stock_next : (clips : List ClipRow) (xs : List (ItemOf Listed)) (i : ℕ) (x : ItemOf Listed)
-    (groups : List Group) (runs : List Run) → slice_get xs i ≡ Some x
+    (groups : List ClipGroup) (runs : List Run) → slice_get xs i ≡ Some x
     → IsStock ((clips ++ clips_among (take i xs)) ++ clips_of_item x) groups runs
     → IsStock (clips ++ clips_among (take (i + 1) xs)) groups runs
 stock_next clips xs i x groups runs e stock =
@@ -388,8 +388,8 @@ stock_next clips xs i x groups runs e stock =
     (append_assoc clips (clips_among (take i xs)) (clips_of_item x)
     ∙ ap (λ l. clips ++ l) (sym (among_next xs i x e))) stock
 
-pub on_ok_stock : (r : Result (Unit {0}) AllocError) (c : ClipRow) (old new : List Group) (a b : List Run)
-    (g : Group) (number : ℕ) (range : Option Span) → IsOf g c → AddsGroup old new g
+pub on_ok_stock : (r : Result (Unit {0}) AllocError) (c : ClipRow) (old new : List ClipGroup) (a b : List Run)
+    (g : ClipGroup) (number : ℕ) (range : Option Span) → IsOf g c → AddsGroup old new g
     → slice_get new number ≡ Some g → range ≡ clip_range c
     → OnOk r (AddsFrames a b number range g.rate)
     → OnOk r ((clips : List ClipRow) → IsStock clips old a → IsStock (clips ++ c ∷ []) new b)
@@ -400,7 +400,7 @@ on_ok_stock (Err x) c old new a b g number range is added at e frames = tt
 
 -- ---- what the code has done with an item, and with children
 
-pub on_ok_item : (r : Result (Unit {0}) AllocError) (old new : List Group) (a b : List Run)
+pub on_ok_item : (r : Result (Unit {0}) AllocError) (old new : List ClipGroup) (a b : List Run)
     (these those : List ClipRow) → these ≡ those
     → OnOk r ((clips : List ClipRow) → IsStock clips old a → IsStock (clips ++ these) new b)
     → OnOk r ((clips : List ClipRow) → IsStock clips old a → IsStock (clips ++ those) new b)
@@ -408,14 +408,14 @@ on_ok_item (Ok u) old new a b these those e f = λ clips stock.
     subst (λ l. IsStock (clips ++ l) new b) e (f clips stock)
 on_ok_item (Err x) old new a b these those e f = tt
 
-pub stock_all : (clips : List ClipRow) (l : Listed) (i : ℕ) (groups : List Group) (runs : List Run)
+pub stock_all : (clips : List ClipRow) (l : Listed) (i : ℕ) (groups : List ClipGroup) (runs : List Run)
     → length (items_of l) ≤ i → IsStock (clips ++ clips_among (take i (items_of l))) groups runs
     → IsStock (clips ++ clips_in l) groups runs
 stock_all clips l i groups runs le stock =
     subst (λ x. IsStock (clips ++ x) groups runs)
     (ap clips_among (take_all i (items_of l) le) ∙ clips_are l) stock
 
-pub stock_first : (clips : List ClipRow) (groups : List Group) (runs : List Run) → IsStock clips groups runs
+pub stock_first : (clips : List ClipRow) (groups : List ClipGroup) (runs : List Run) → IsStock clips groups runs
     → IsStock (clips ++ []) groups runs
 stock_first clips groups runs stock =
     subst (λ l. IsStock l groups runs) (sym (nothing_more clips)) stock

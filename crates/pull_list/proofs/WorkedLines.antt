@@ -2,11 +2,11 @@
 use Rattle.std.proofs.Common.{refl}
 use Rattle.std.specs.Fmt.{digits}
 use Rattle.tick_time.specs.Texts.{decimals_of}
-use Rattle.pull_list.specs.Worked.{AreWorked}
+use Rattle.pull_list.specs.Worked.{ArePullsWorked}
 
-pub worked : AreWorked
+pub pull_lines-are_worked : ArePullsWorked
 unfolding digits decimals_of
-worked = record {
+pull_lines-are_worked = record {
   lines = refl;
   before_zero = refl;
   rounded_up = refl;

@@ -5,13 +5,13 @@ use Rattle.otio_model.specs.declared.compositions.Clip.{Clip as ClipRow}
 use Rattle.otio_model.specs.declared.timelines.Timeline.{Timeline}
 use Rattle.coord.specs.Keys.{frame_rate}
 use Rattle.show_prog.specs.Pictures.{key_of}
-use Rattle.pull_list.specs.Used.{Group}
+use Rattle.pull_list.specs.Used.{ClipGroup}
 use Rattle.pull_list.specs.Wanted.{IsOf, IsWanted, clips_of}
 use Rattle.pull_list.specs.declared.spans.PullSpan.{PullSpan}
 
 -- frames of a group that follow one another: the number of the first, and how many they are
 pub record Stretch : Type 0 where
-  pub group : Group
+  pub group : ClipGroup
   pub first : ℤ
   pub count : ℤ
 
@@ -24,14 +24,14 @@ abbrev pub IsIn : Stretch → ℤ → Type 0
 IsIn s v = (s.first ≤ℤ v) × (v <ℤ past s)
 
 -- some stretch of the group has the number
-pub record HasFrameOf (stretches : List Stretch) (g : Group) (v : ℤ) : Type 0 where
+pub record HasFrameOf (stretches : List Stretch) (g : ClipGroup) (v : ℤ) : Type 0 where
   pub stretch : Stretch
   pub among : Contains stretches stretch
   pub group : stretch.group ≡ g
   pub number : IsIn stretch v
 
 -- among clips the first of one group stands before the first of the other
-pub record StandsFirst (clips : List ClipRow) (one other : Group) : Type 0 where
+pub record StandsFirst (clips : List ClipRow) (one other : ClipGroup) : Type 0 where
   pub ahead : List ClipRow
   pub first : ClipRow
   pub after : List ClipRow
@@ -48,8 +48,8 @@ Precedes t a b =
 -- for each group exactly the wanted frames, in stretches that have frames, are in order and don't
 -- touch
 pub record IsPullList (t : Timeline) (handles : ℕ) (stretches : List Stretch) : Type 0 where
-  pub all : (g : Group) (v : ℤ) → IsWanted t handles g v → HasFrameOf stretches g v
-  pub only : (g : Group) (v : ℤ) → HasFrameOf stretches g v → IsWanted t handles g v
+  pub all : (g : ClipGroup) (v : ℤ) → IsWanted t handles g v → HasFrameOf stretches g v
+  pub only : (g : ClipGroup) (v : ℤ) → HasFrameOf stretches g v → IsWanted t handles g v
   pub some : All (λ s. pos 0 <ℤ s.count) stretches
   pub ordered : AllPairs (Precedes t) stretches
 

@@ -35,7 +35,7 @@ pub struct Groups<'a> {
 
 impl<'a> Model for Groups<'a> {
     ghost use Rattle.std.specs.Prelude.{List, map};
-    ghost use Rattle.pull_list.specs.Used.{Group as Common};
+    ghost use Rattle.pull_list.specs.Used.{ClipGroup as Common};
     ghost use Rattle.pull_list.specs.Found.{group_in};
     ghost use Rattle.pull_list.specs.Labels.{AreNumbered};
 

@@ -5,7 +5,7 @@ ghost use Rattle.otio_model.specs.Timelines.{bare};
 ghost use Rattle.otio_model.specs.declared.timelines.Timeline.{Timeline as AnyTimeline};
 ghost use Rattle.pull_list.specs.Pulled.{IsPullList, Stretch};
 ghost use Rattle.pull_list.specs.Record.{HasTooMany};
-ghost use Rattle.pull_list.specs.Worked.{AreWorked};
+ghost use Rattle.pull_list.specs.Worked.{ArePullsWorked};
 
 /// Law: a timeline has one pull list for handles of so many frames, and that list, and whether
 /// there are too many record frames for one, don't depend on the memory that the timeline keeps to
@@ -21,5 +21,5 @@ pub fn pull_lists_are_one()
 /// Law: the lines of some spans, and a count of record frames, are what is worked out by hand. It
 /// does nothing.
 pub fn pull_lists_are_worked()
-    ensures { AreWorked }
+    ensures { ArePullsWorked }
 {}

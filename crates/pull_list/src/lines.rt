@@ -7,8 +7,8 @@ ghost use Rattle.pull_list.specs.Lines.{stretch_line, stretches_text};
 ghost use Rattle.pull_list.specs.Pulled.{stretch_of, stretches_of};
 
 use crate::spans::PullSpan;
-use dev_io::{Out, OutBuffer, WriteFault};
-use show_prog::{put_key, put_rate_text, put_signed};
+use dev_io::{Out, OutBuffer, WriteFault, put_signed};
+use show_prog::{put_key, put_rate_text};
 
 /// Sends a line for each span, `pull KEY RATE FIRST COUNT`: the key as listings have it, the rate
 /// as in JSON, the number of the first frame and how many frames they are. It takes no memory.

@@ -4,7 +4,6 @@ ghost use Rattle.std.specs.Prelude.{◌≡◌, ◌↔◌, ◌<◌, ◌≤◌, �
 ghost use Rattle.std.specs.Int.{div_ceil};
 ghost use Rattle.otio_model.specs.Counts.{count, count_of};
 ghost use Rattle.otio_model.specs.Lengths.{length_of, or_zero};
-ghost use Rattle.coord.specs.Programs as programs;
 ghost use Rattle.coord.specs.Programs.{child_shows};
 ghost use Rattle.coord.specs.Soundness.{IsFaultless, IsFaultlessItem};
 ghost use Rattle.pull_list.specs.Found.{AddsChild, AddsShown, AddsUsed, clips_of_item};
@@ -13,9 +12,8 @@ ghost use Rattle.pull_list.specs.Runs.{Each, IsRun};
 
 use crate::shown::add_item;
 use crate::used::Used;
-use coord::record_rate;
+use coord::frame_ticks;
 use otio_model::{Item, Timeline};
-use show_prog::root_kind;
 use std::alloc::AllocError;
 
 // How many record frames are looked at, at most.
@@ -41,15 +39,6 @@ fn frame_count(timeline: &Timeline) -> u128
         sum += frames_of(timeline.tracks.children.child(index), ticks);
     }
     sum
-}
-
-// The ticks of a record frame.
-fn frame_ticks(timeline: &Timeline) -> u128
-    ensures value { result ≡ programs.frame_ticks (programs.record_rate timeline.now) }
-    ensures some { 1000000 ≤ result }
-    ensures few { result ≤ 705600000000000000 }
-{
-    record_rate(timeline).frame_ticks() as u128
 }
 
 // How many record frames of so many ticks an item takes, rounded up to whole ones.
@@ -122,6 +111,6 @@ fn add_frame<'a>(used: &mut Used<'a>, item: &'a Item, ticks: i128) -> Result<(),
         used.old.runs.items used.new.runs.items
         (child_shows (λ rate. rate) item.now ticks)) }
 {
-    add_item(used, item, root_kind(item), ticks)?;
+    add_item(used, item, item.root_kind(), ticks)?;
     Ok(())
 }

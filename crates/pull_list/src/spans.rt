@@ -10,7 +10,7 @@ use tick_time::Rate;
 /// Frames of media that follow one another, as they are asked of an archive.
 #[derive(Clone, Copy)]
 pub struct PullSpan<'a> {
-    /// What the frames are known by: the URL of their media, or the names of an image sequence, or a
+    /// What the frames are known by: the URL of their media, the names of an image sequence, a
     /// generator, a reel or a clip's name.
     pub key: KeyRef<'a>,
     /// The rate of their media, in frames per second.

@@ -1,8 +1,3 @@
--- Lemmas on upgrades and tables.
-pub mod Digits
-pub mod Levels
-pub mod MemberLemmas
-pub mod Points
-pub mod Steps
+-- Lemmas on tables, and on the parts of JSON values.
 pub mod Distinct
 pub mod JsonParts

@@ -1,4 +1,4 @@
--- What a member that is absent stands for.
+-- The value of a member that is absent.
 use Rattle.std.specs.Prelude.{true, cond, [], Option, Some, None, codes}
 use Rattle.tick_time.specs.Times.{is_speed}
 use Rattle.otio_model.specs.declared.compositions.Listed.{Listed}
@@ -22,7 +22,7 @@ empty_tracks = record {
   rest = [];
 }
 
--- the media reference that null stands for
+-- the media reference that null means
 abbrev pub empty_missing : Missing
 empty_missing = record { metadata = []; name = []; available_range = None; rest = [] }
 
@@ -43,7 +43,7 @@ default_of R.objects = Some (V.Objects [])
 default_of R.rate = None
 default_of R.numeral = None
 
--- what a row stands for where its member is absent: its kind's default, and nothing where the
--- member is needed
+-- the value of a row whose member is absent: its kind's default, and none where the member is
+-- needed
 abbrev pub absent_value : R.Row → Option Value
 absent_value row = cond row.need None (default_of row.kind)

@@ -1,4 +1,4 @@
--- The first fault of a JSON value that stands for no object: an object's schema, then its rows in
+-- The first fault of a JSON value that represents no object: an object's schema, then its rows in
 -- the order of its table with all that stands inside them, then its transitions; the number of
 -- items last.
 use Rattle.std.specs.Prelude.{◌≡◌, ◌⊎◌, ◌<◌, ◌≤◌, ◌+◌, ℕ, Bool, true, ℤ, pos, ◌<ℤ◌, List, [], ◌∷◌, Some, None, map}

@@ -1,8 +1,5 @@
--- Definitions of upgraded JSON values, of what a JSON value stands for by the tables of
--- OpenTimelineIO's schemas, and of its first fault.
-pub mod Names
-pub mod UpgradeRows
-pub mod Upgrades
+-- Definitions of what a JSON value represents by the tables of OpenTimelineIO's schemas, and of its
+-- first fault.
 pub mod Rows
 pub mod Schemas
 pub mod Numerals

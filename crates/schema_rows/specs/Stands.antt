@@ -1,4 +1,4 @@
--- What a JSON value stands for by the tables of the schemas (OpenTimelineIO's schema pages).
+-- What a JSON value represents by the tables of the schemas (OpenTimelineIO's schema pages).
 use Rattle.std.specs.Prelude.{◌≡◌, ◌≤◌, ◌≢◌, ℕ, ℤ, Bool, false, List, [], ◌∷◌, Some, map}
 use Rattle.std.specs.List.{list_any}
 use Rattle.sequences.specs.Pairs.{names_of}
@@ -140,6 +140,6 @@ mutual
         → list ≡ json ∷ others → readings ≡ reading ∷ behind → Gives_reading want json reading
         → Gives_all want others behind → Gives_all want list readings
 
--- the JSON value stands for the object
+-- the JSON value represents the object
 abbrev pub Stands : Json → Object → Type 0
 Stands json object = Gives_fields C.ROOTS json (object_fields object)

@@ -7,7 +7,7 @@ use otio_model::Place;
 use sequences::Text;
 use std::alloc::{AllocError, AllocFailed};
 
-/// Why a JSON value stands for no object. A place is that of the nearest object that has one: an
+/// Why a JSON value represents no object. A place is that of the nearest object that has one: an
 /// effect, a marker, a medium and a time are at the place of their item.
 #[derive(Drop)]
 pub enum SchemaFault {

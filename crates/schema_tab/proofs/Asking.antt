@@ -62,7 +62,7 @@ pub medium_read : (r : Result Media SchemaFault) (json : Json) (fields : Fields)
 medium_read (Ok reference) json fields n g e = as_medium _ _ _ refl n (as_member _ _ _ C.MEDIA fields refl e g)
 medium_read (Err fault) json fields n g e = tt
 
--- the one fault that may come is want of memory
+-- the one fault that may come is out of memory
 pub memory_only : {A : Type 0} (r : Result A SchemaFault) (P : SchemaFault → Type 0) → IfErr r (λ fault. fault ≡ F.Memory) → IfErr r (λ fault. fault ≢ F.Memory → P fault)
 memory_only (Ok x) P h = tt
 memory_only (Err fault) P h = λ n. absurd (n h)

@@ -1,4 +1,4 @@
--- Members beside the rows.
+-- Members next to the rows.
 use Rattle.std.proofs.Common.{◌≡◌, ℕ, Bool, true, false, List, [], ◌∷◌, refl}
 use Rattle.sequences.specs.Pairs.{names_of, IsNew, AreDistinct}
 use Rattle.std.specs.List.{filter}

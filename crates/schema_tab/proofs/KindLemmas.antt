@@ -1,8 +1,9 @@
 -- What was read by a table has the kinds of its rows.
-use Rattle.std.proofs.Common.{◌≡◌, ◌⊎◌, ℕ, ℤ, pos, Bool, true, false, cond, List, [], ◌∷◌, map, Some, None, sym, ap, subst, inl, inr, if◌then◌else◌}
+use Rattle.std.proofs.Common.{◌≡◌, ℕ, ℤ, pos, Bool, true, false, cond, List, [], ◌∷◌, ◌++◌, map, Some, None, refl, sym, ap, ap₂, subst, ◌∙◌, inl, inr, if◌then◌else◌}
 use Rattle.std.specs.Str.{bytes_eq}
 use Rattle.json_value.specs.declared.Json.{Json}
 use Rattle.tick_time.specs.Times.{is_speed}
+use Rattle.tick_time.specs.declared.times.Time.{Time}
 use Rattle.schema_rows.specs.declared.schemas.Schema.{Schema}
 use Rattle.schema_rows.specs.declared.schemas.Schema.TheVariants as S
 use Rattle.schema_rows.specs.declared.schemas.TheConstants as C
@@ -10,12 +11,12 @@ use Rattle.schema_rows.specs.declared.values.Fields.{Fields}
 use Rattle.schema_rows.specs.declared.values.Value.{Value}
 use Rattle.schema_rows.specs.declared.values.Value.TheVariants as V
 use Rattle.schema_rows.specs.Rows as R
-use Rattle.schema_rows.specs.Rows.{Row, RowKind, stack_rows}
+use Rattle.schema_rows.specs.Rows.{Row, RowKind, stack_rows, time_range_rows, rational_time_rows}
 use Rattle.schema_rows.specs.Schemas.{named, name_of, rows_of}
 use Rattle.schema_rows.specs.Defaults.{default_of, empty_tracks}
 use Rattle.schema_rows.specs.Families.{stilled, is_freeze}
 use Rattle.schema_rows.specs.Stands.{Gives, text, flag, meta, span, time, number, rate, numeral, items, objects, effects, markers, media, stack, Gives_row, present, absent, Gives_rows, no_rows, more_rows, Gives_fields, fields}
-use Rattle.schema_tab.specs.Shapes.{IsOf, HaveKinds, IsAmong}
+use Rattle.schema_tab.specs.Shapes.{IsOf, HaveKinds, IsAmong, AreOfRange, AreOfTime}
 
 gives_kind : {kind : RowKind} {json : Json} {value : Value} → Gives kind json value → IsOf kind value
 gives_kind (text _ _ v d t k j e) = subst (λ (x : RowKind). IsOf x v) (sym k) (t, e)
@@ -101,12 +102,96 @@ pub fields_kinds : {family : List Schema} {json : Json} {read : Fields} → Give
 fields_kinds (fields family _ read members name version values o n le g b v r) =
     subst (λ (x : List Value). HaveKinds (rows_of read.schema) x) (sym v) (stilled_kinds read.schema (rows_of read.schema) values (rows_kinds g))
 
+-- the schema is none of the family
+abbrev pub IsNone : List Schema → Schema → Type 0
+IsNone [] schema = Unit {0}
+IsNone (first ∷ family) schema = (schema ≡ first → ⊥) × IsNone family schema
+
+-- a schema of a family that is none of the others is the last
+pub last_is : (others : List Schema) (last schema : Schema) → IsAmong (others ++ last ∷ []) schema → IsNone others schema → schema ≡ last
+last_is [] last schema (inl e) h = e
+last_is [] last schema (inr none) h = absurd none
+last_is (first ∷ others) last schema (inl e) h = absurd (h.0 e)
+last_is (first ∷ others) last schema (inr below) h = last_is others last schema below h.1
+
 -- of a stack the schema is known
 pub stack_schema : {json : Json} {read : Fields} → Gives_fields C.STACKS json read → read.schema ≡ S.Stack
-stack_schema {json} {read} g = only (fields_among g) where
-  only : (read.schema ≡ S.Stack) ⊎ ⊥ → read.schema ≡ S.Stack
-  only (inl e) = e
-  only (inr h) = absurd h
+stack_schema {json} {read} g = last_is [] S.Stack read.schema (fields_among g) tt
 
 pub stack_kinds : {json : Json} {read : Fields} → Gives_fields C.STACKS json read → HaveKinds stack_rows read.values
 stack_kinds {json} {read} g = subst (λ (s : Schema). HaveKinds (rows_of s) read.values) (stack_schema g) (fields_kinds g)
+
+-- the value of a row of times whose member is needed
+gives_time : {kind : RowKind} {json : Json} {value : Value} → Gives kind json value → kind ≡ R.time → (t : Time) × (value ≡ V.Time (Some t))
+gives_time (text _ _ v d t k j e) is = absurd (cc)
+gives_time (flag _ _ v b k j e) is = absurd (cc)
+gives_time (meta _ _ v ms k j e) is = absurd (cc)
+gives_time (span _ _ v f s k g i e) is = absurd (cc)
+gives_time (time _ _ v f r d t k g i w e) is = (t, e)
+gives_time (number _ _ v d n m s k j p q i e) is = absurd (cc)
+gives_time (rate _ _ v n d r k j p q e) is = absurd (cc)
+gives_time (numeral _ _ v n d k j p e) is = absurd (cc)
+gives_time (items _ _ v l xs k j g e) is = absurd (cc)
+gives_time (objects _ _ v l xs k j g e) is = absurd (cc)
+gives_time (effects _ _ v l xs k j g e) is = absurd (cc)
+gives_time (markers _ _ v l xs k j g e) is = absurd (cc)
+gives_time (media _ _ v ms xs k j n g e) is = absurd (cc)
+gives_time (stack _ _ v s k g e) is = absurd (cc)
+
+row_time : {row : Row} {members : List (List ℕ × Json)} {value : Value} → Gives_row row members value → row.need ≡ true → row.kind ≡ R.time → (t : Time) × (value ≡ V.Time (Some t))
+row_time (present _ _ _ json g h) need is = gives_time h is
+row_time (absent row _ value g h) need is = absurd (cc (rw need at h))
+
+-- the first row and its value
+first_given : {rows : List Row} {members : List (List ℕ × Json)} {values : List Value} → Gives_rows rows members values → (row : Row) (more : List Row) → rows ≡ row ∷ more
+    → (value : Value) × (behind : List Value) × (values ≡ value ∷ behind) × Gives_row row members value × Gives_rows more members behind
+first_given (no_rows _ _ values r v) row more e = absurd (cc)
+first_given (more_rows _ members values first below value behind r v g h) row more e =
+    let here : first ≡ row = cc in
+    let rest : below ≡ more = cc in
+    (value, behind, v, subst (λ (x : Row). Gives_row x members value) here g, subst (λ (l : List Row). Gives_rows l members behind) rest h)
+
+none_given : {rows : List Row} {members : List (List ℕ × Json)} {values : List Value} → Gives_rows rows members values → rows ≡ [] → values ≡ []
+none_given (no_rows _ _ values r v) e = v
+none_given (more_rows _ members values first below value behind r v g h) e = absurd (cc)
+
+two_times : {members : List (List ℕ × Json)} {values : List Value} → Gives_rows time_range_rows members values → AreOfRange values
+two_times {members} {values} g =
+    let first = first_given g _ _ refl in
+    let next = first_given first.4 _ _ refl in
+    let len = row_time first.3 refl refl in
+    let start = row_time next.3 refl refl in
+    (len.0, start.0, first.2 ∙ ap₂ (λ (a : Value) (b : List Value). a ∷ b) len.1 (next.2 ∙ ap₂ (λ (a : Value) (b : List Value). a ∷ b) start.1 (none_given next.4 refl)))
+
+-- a range of time has a length and a start
+pub range_values : {json : Json} {read : Fields} → Gives_fields C.RANGES json read → AreOfRange read.values
+range_values {json} {read} g = by (last_is [] S.TimeRange read.schema (fields_among g) tt) g where
+  by : read.schema ≡ S.TimeRange → Gives_fields C.RANGES json read → AreOfRange read.values
+  by is (fields family _ read members name version values o n le g b v r) =
+      let times = two_times (subst (λ (s : Schema). Gives_rows (rows_of s) members values) is g) in
+      (times.0, times.1, v ∙ ap (map (stilled read.schema)) times.2)
+
+-- a time has a rate and a number
+pub time_values : {json : Json} {read : Fields} → Gives_fields C.TIMES json read → AreOfTime read.values
+time_values {json} {read} g =
+    let is = last_is [] S.RationalTime read.schema (fields_among g) tt in
+    let kinds : HaveKinds rational_time_rows read.values = subst (λ (s : Schema). HaveKinds (rows_of s) read.values) is (fields_kinds g) in
+    let next = kinds.4 in
+    (kinds.3.0, next.3.0, kinds.2 ∙ ap₂ (λ (a : Value) (b : List Value). a ∷ b) kinds.3.1 (next.2 ∙ ap₂ (λ (a : Value) (b : List Value). a ∷ b) next.3.1 next.4))
+
+-- the schemas that are left at the end of a match
+pub last_item : (schema : Schema) → IsAmong C.ITEMS schema → (schema ≡ S.Clip → ⊥) → (schema ≡ S.Gap → ⊥) → (schema ≡ S.Transition → ⊥) → (schema ≡ S.Stack → ⊥) → schema ≡ S.Track
+last_item s h a b c d = last_is (S.Clip ∷ S.Gap ∷ S.Transition ∷ S.Stack ∷ []) S.Track s h (a, (b, (c, (d, tt))))
+
+pub last_effect : (schema : Schema) → IsAmong C.EFFECTS schema → (schema ≡ S.Warp → ⊥) → (schema ≡ S.Freeze → ⊥) → (schema ≡ S.TimeEffect → ⊥) → schema ≡ S.Effect
+last_effect s h a b c = last_is (S.Warp ∷ S.Freeze ∷ S.TimeEffect ∷ []) S.Effect s h (a, (b, (c, tt)))
+
+pub last_medium : (schema : Schema) → IsAmong C.MEDIA schema → (schema ≡ S.External → ⊥) → (schema ≡ S.Missing → ⊥) → (schema ≡ S.Generator → ⊥) → schema ≡ S.Images
+last_medium s h a b c = last_is (S.External ∷ S.Missing ∷ S.Generator ∷ []) S.Images s h (a, (b, (c, tt)))
+
+pub only_marker : (schema : Schema) → IsAmong C.MARKERS schema → schema ≡ S.Marker
+only_marker s h = last_is [] S.Marker s h tt
+
+-- values have the kinds of the rows of the one schema that it can be
+pub kinds_of : (schema known : Schema) (values : List Value) → schema ≡ known → HaveKinds (rows_of schema) values → HaveKinds (rows_of known) values
+kinds_of schema known values is h = subst (λ (s : Schema). HaveKinds (rows_of s) values) is h

@@ -1,19 +1,17 @@
 -- What a row has, from what its member gives, and what a member gives, from what its list gives.
-use Rattle.std.proofs.Common.{◌≡◌, ◌≢◌, ℕ, List, Result, Ok, Err, Some, None, IfOk, IfErr, map, sym, subst, inl, inr}
+use Rattle.std.proofs.Common.{◌≡◌, ◌≢◌, ℕ, List, Result, Ok, Err, Some, None, IfOk, IfErr, map, sym, subst}
 use Rattle.json_value.specs.declared.Json.{Json}
 use Rattle.json_value.specs.declared.Json.TheVariants as J
 use Rattle.schema_rows.specs.declared.faults.SchemaFault.{SchemaFault}
 use Rattle.schema_rows.specs.declared.faults.SchemaFault.TheVariants as F
 use Rattle.schema_rows.specs.declared.schemas.TheConstants as C
 use Rattle.schema_rows.specs.declared.values.Value.{Value}
-use Rattle.schema_rows.specs.declared.rows.Kind.{Kind}
-use Rattle.schema_rows.specs.Rows.{Row, RowKind, kind_of}
+use Rattle.schema_rows.specs.Rows.{Row, RowKind}
 use Rattle.schema_rows.specs.Rows as R
 use Rattle.schema_rows.specs.Defaults.{absent_value}
 use Rattle.schema_rows.specs.Families.{IsAbsent, IsGiven, child, member, medium}
 use Rattle.schema_rows.specs.Stands.{Gives, Gives_row, present, absent}
-use Rattle.schema_tab.specs.Kinds.{IsListed}
-use Rattle.schema_rows.specs.Faults.{IsWrong, Refuses, in_items, in_objects, in_effects, in_markers, in_media, in_stack, Refuses_row, missing, refused, Refuses_any, Refuses_reading}
+use Rattle.schema_rows.specs.Faults.{IsWrong, Refuses, wrong, in_items, in_objects, in_effects, in_markers, in_media, in_stack, Refuses_row, missing, refused, Refuses_any, Refuses_reading}
 
 pub row_given : (r : Result Value SchemaFault) (row : Row) (members : List (List ℕ × Json)) (json : Json) → IsGiven row.name members json
     → IfOk r (λ v. Gives row.kind json v) → IfOk r (λ v. Gives_row row members v)
@@ -69,10 +67,9 @@ pub stack_refused : (r : Result Value SchemaFault) (place : List ℕ) (row : Row
 stack_refused (Ok v) place row json k h = tt
 stack_refused (Err f) place row json k h = λ n. in_stack place row json f k (h n)
 
--- no list, in a row of lists
-pub no_list : (kind : Kind) (json : Json) → IsListed kind → ((list : List Json) → json ≡ J.List list → ⊥)
-    → IsWrong (kind_of kind) json
-no_list kind json (inl e) h = subst (λ k. IsWrong (kind_of k) json) (sym e) h
-no_list kind json (inr (inl e)) h = subst (λ k. IsWrong (kind_of k) json) (sym e) h
-no_list kind json (inr (inr (inl e))) h = subst (λ k. IsWrong (kind_of k) json) (sym e) h
-no_list kind json (inr (inr (inr e))) h = subst (λ k. IsWrong (kind_of k) json) (sym e) h
+-- a member that is no list, in a row of lists
+pub no_list : (place : List ℕ) (row : Row) (json : Json) (kind : RowKind) (fault : SchemaFault) → row.kind ≡ kind
+    → (((list : List Json) → json ≡ J.List list → ⊥) → IsWrong kind json)
+    → (fault ≢ F.Memory → ((list : List Json) → json ≡ J.List list → ⊥) × (fault ≡ F.Field place row.name))
+    → fault ≢ F.Memory → Refuses place row json fault
+no_list place row json kind fault k w e n = wrong place row json fault (subst (λ (x : RowKind). IsWrong x json) (sym k) (w (e n).0)) (e n).1

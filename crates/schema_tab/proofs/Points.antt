@@ -1,7 +1,5 @@
 -- A text around its first point.
-use Rattle.std.proofs.Common.{◌≡◌, ◌≢◌, ◌⊎◌, inl, inr, subst, ◌<◌, ◌≤◌, ℕ, zero, suc, List, [], ◌∷◌, ◌++◌, length, take, get_or, refl, sym, ap, ◌∙◌, arith, length-take, false}
-use Rattle.std.specs.Char.{is_ascii_digit}
-use Rattle.std.proofs.lemmas.Bool.Decides.{nat_tests}
+use Rattle.std.proofs.Common.{◌≡◌, ◌≢◌, ◌⊎◌, inl, inr, subst, ◌<◌, ◌≤◌, ℕ, zero, suc, List, [], ◌∷◌, ◌++◌, length, take, get_or, refl, sym, ap, ◌∙◌, arith, length-take}
 use Rattle.std.specs.Str.Parse.{AllDigits, digits_value}
 use Rattle.std.proofs.lemmas.Int.Digits.{digits_value-lt}
 use Rattle.std.proofs.Math.Nat.{pow-le-pow_right}
@@ -19,7 +17,7 @@ cut_once (x ∷ xs) ys (a ∷ zs) bs e h k =
     let below = cut_once xs ys zs bs tail (λ i b. h (suc i) (omega arith)) (λ i b. k (suc i) (omega arith)) in
     (cc, below.1)
 
--- a text that begins with these digits behind its point has them for its version
+-- a text that begins with these digits after its point has them for its version
 pub parts_are : (text before behind name : List ℕ) (version : ℕ) → text ≡ before ++ (46 ∷ behind) → ((i : ℕ) → i < length before → get_or before i 0 ≢ 46)
     → (h : IsSchemaText text name version) → (before ≡ name) × (behind ≡ h.digits)
 parts_are text before behind name version e plain h = cut_once before behind name h.digits (sym e ∙ h.spelled) plain h.no_point
@@ -44,10 +42,6 @@ pub prefix_small : (digits : List ℕ) (i : ℕ) → AllDigits 10 digits → i <
 prefix_small digits i all lt few =
     let part : AllDigits 10 (take i digits) = take_digits digits i all in
     omega (arith, digits_value-lt 10 (take i digits) part, pow-le-pow_right {n = 10} (omega arith) {i = length (take i digits)} {j = 8} (omega (arith, length-take i digits)))
-
--- a byte from `0` to `9` is a digit
-pub not_digit : (c : ℕ) → 48 ≤ c → c ≤ 57 → is_ascii_digit c ≡ false → ⊥
-not_digit c low high h = grind (arith, nat_tests)
 
 -- a text around its first point that is no schema's
 pub record IsNoSchema (before behind : List ℕ) : Type 0 where

@@ -41,6 +41,16 @@ HaveKinds [] values = values ≡ []
 HaveKinds (row ∷ rows) values = (value : Value) × (behind : List Value) × (values ≡ value ∷ behind)
     × IsOf row.kind value × HaveKinds rows behind
 
+-- the values of a range of time: its length and its start
+abbrev pub AreOfRange : List Value → Type 0
+AreOfRange values = (len start : Time)
+    × (values ≡ V.Time (Some len) ∷ V.Time (Some start) ∷ [])
+
+-- the values of a time: its rate and its number
+abbrev pub AreOfTime : List Value → Type 0
+AreOfTime values = (rate : Rate) × (decimal : Decimal)
+    × (values ≡ V.Rate rate ∷ V.Numeral decimal ∷ [])
+
 -- the schema is one of the family
 abbrev pub IsAmong : List Schema → Schema → Type 0
 IsAmong [] schema = ⊥

@@ -26,7 +26,7 @@ macro_rules! made {
     }};
 }
 
-/// An item of these fields behind those that all items have.
+/// An item of these fields after those that all items have.
 macro_rules! made_item {
     ($fields:ident => $name:ident { $($field:ident: $next:ident),* }) => {
         made!($fields => $name {
@@ -37,7 +37,7 @@ macro_rules! made_item {
     };
 }
 
-/// An item with children, of these fields behind them.
+/// An item with children, of these fields after them.
 macro_rules! made_parent {
     ($alloc:ident, $fields:ident => $name:ident { $($field:ident: $next:ident),* }) => {{
         let Fields { schema: _, values, rest } = $fields;
@@ -57,7 +57,7 @@ macro_rules! made_parent {
     }};
 }
 
-/// An effect of these fields behind those that all effects have.
+/// An effect of these fields after those that all effects have.
 macro_rules! made_effect {
     ($fields:ident => $name:ident { $($field:ident: $next:ident),* } $($more:ident),*) => {
         made!($fields => $name {
@@ -66,7 +66,7 @@ macro_rules! made_effect {
     };
 }
 
-/// A media reference of these fields behind those that all have.
+/// A media reference of these fields after those that all have.
 macro_rules! made_media {
     ($fields:ident => $name:ident { $($field:ident: $next:ident),* }) => {
         made!($fields => $name {

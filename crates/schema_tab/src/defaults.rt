@@ -1,6 +1,6 @@
-//! What stands where a member is absent.
+//! The values of absent members.
 
-ghost use Rattle.std.specs.Prelude.{◌≡◌, ◌≢◌, IfOk, IfErr, Some, None, cond, true, false};
+ghost use Rattle.std.specs.Prelude.{◌≡◌, ◌≢◌, IfOk, IfErr, Some, None, cond, true};
 ghost use Rattle.tick_time.specs.Times.{is_speed};
 ghost use Rattle.schema_rows.specs.Rows.{row_of, kind_of};
 ghost use Rattle.schema_rows.specs.Defaults as defaults;
@@ -70,7 +70,7 @@ fn default_of(alloc: Global, kind: Kind) -> Result<Option<Value>, AllocError>
     }
 }
 
-/// What a row stands for where its member is absent; S4 where it is needed, or its kind has no
+/// The value of a row whose member is absent; S4 where it is needed, or its kind has no
 /// default. `Memory` where memory runs out.
 pub fn absent(alloc: Global, row: &Field, place: &Place) -> RowResult
     ensures value { IfOk result (λ value. defaults.absent_value (row_of row.now) ≡ Some value) }

@@ -1,7 +1,7 @@
-//! The reader of OpenTimelineIO objects: what a JSON value stands for by the tables of
+//! The reader of OpenTimelineIO objects: what a JSON value represents by the tables of
 //! `schema_rows`, or its first fault.
 //!
-//! Its parts that read nothing inside are which schema an object names, what stands for an absent
+//! Its parts that read nothing inside are which schema an object names, the value of an absent
 //! member, numerals, texts and flags, the rules of a schema on its values, and the structs from the
 //! values of their rows.
 #![tactic(auto)]

@@ -11,7 +11,6 @@ ghost use Rattle.schema_rows.specs.Numerals.{HasNumerals};
 ghost use Rattle.schema_rows.specs.Families.{child, member as want_member, medium};
 ghost use Rattle.schema_rows.specs.Stands.{Gives, Gives_row, Gives_rows, Gives_fields};
 ghost use Rattle.schema_rows.specs.Faults.{Refuses, Refuses_row, Refuses_rows, Refuses_fields, Refuses_any};
-ghost use Rattle.schema_tab.specs.Kinds.{IsListed};
 
 use crate::defaults::absent;
 use crate::faults::{child_place, field_fault, newer_fault};
@@ -111,10 +110,10 @@ fn read_member(alloc: Global, row: &Field, value: &Json, place: &Place) -> RowRe
             let found = read_object(alloc, &STACKS, value, place)?;
             tracks_of(alloc, value, place, found)
         }
-        Kind::Items => read_list(alloc, row, value, place),
-        Kind::Objects => read_list(alloc, row, value, place),
-        Kind::Effects => read_list(alloc, row, value, place),
-        Kind::Markers => read_list(alloc, row, value, place),
+        Kind::Items => read_items(alloc, list_of(alloc, row, value, place)?, place),
+        Kind::Objects => read_objects(alloc, list_of(alloc, row, value, place)?, place),
+        Kind::Effects => read_effects(alloc, list_of(alloc, row, value, place)?, place),
+        Kind::Markers => read_markers(alloc, list_of(alloc, row, value, place)?, place),
         Kind::Media => match value {
             Json::Map(members) => read_media(alloc, members, place),
             _ => Err(field_fault(alloc, row, place)),
@@ -122,23 +121,20 @@ fn read_member(alloc: Global, row: &Field, value: &Json, place: &Place) -> RowRe
     }
 }
 
-// The list of a row of lists.
-#[cycle(object)]
-fn read_list(alloc: Global, row: &Field, value: &Json, place: &Place) -> RowResult
-    requires listed { IsListed row.now.kind }
-    requires numerals { HasNumerals value.now }
-    ensures value { IfOk result (Gives (kind_of row.now.kind) value.now) }
+// The list that a row's member is; S4 where it is none.
+fn list_of<'a>(
+    alloc: Global,
+    row: &Field,
+    value: &'a Json,
+    place: &Place,
+) -> Result<&'a JsonList, SchemaFault>
+    ensures list { IfOk result (λ list. value.now ≡ json.List list.now) }
     ensures fault { IfErr result (λ fault. fault ≢ SchemaFault.Memory →
-        Refuses place.now (row_of row.now) value.now fault) }
+        ((list : List Json) → value.now ≡ json.List list → ⊥)
+        × (fault ≡ SchemaFault.Field place.now row.now.name.now)) }
 {
     match value {
-        Json::List(list) => match row.kind {
-            Kind::Items => read_items(alloc, list, place),
-            Kind::Objects => read_objects(alloc, list, place),
-            Kind::Effects => read_effects(alloc, list, place),
-            Kind::Markers => read_markers(alloc, list, place),
-            _ => unreachable!(),
-        },
+        Json::List(list) => Ok(list),
         _ => Err(field_fault(alloc, row, place)),
     }
 }
@@ -193,7 +189,7 @@ fn read_effects(alloc: Global, list: &JsonList, place: &Place) -> RowResult
         let effect = effect_of(alloc, value, found)?;
         effects.push(effect)?;
     }
-    Ok(Value::Effects(Effects::of(Sequence::of(effects))))
+    Ok(Value::Effects(Effects::of(effects)))
 }
 
 #[cycle(object)]

@@ -1,6 +1,6 @@
 //! Values of lists and under keys, by what is asked of them.
 
-ghost use Rattle.std.specs.Prelude.{◌≡◌, ◌≢◌, ℕ, List, MatchOption, IfOk, IfErr};
+ghost use Rattle.std.specs.Prelude.{◌≡◌, ◌≢◌, List, MatchOption, IfOk, IfErr};
 ghost use Rattle.json_value.specs.declared.Json.{Json};
 ghost use Rattle.json_value.specs.declared.Json.TheVariants as json;
 ghost use Rattle.schema_rows.specs.declared.schemas.Schema.{Schema};
@@ -53,11 +53,11 @@ fn item_from(alloc: Global, fields: Fields) -> Result<Item, SchemaFault>
             Ok(stack) => Ok(ItemOf::Stack(stack)),
             Err(_) => Err(SchemaFault::Memory),
         },
-        Schema::Track => match track_of(alloc, fields) {
+        // Of the items' schemas, tracks' alone is left.
+        _ => match track_of(alloc, fields) {
             Ok(track) => Ok(ItemOf::Track(track)),
             Err(_) => Err(SchemaFault::Memory),
         },
-        _ => unreachable!(),
     }
 }
 
@@ -88,8 +88,8 @@ fn effect_from(alloc: Global, fields: Fields) -> Result<Effect, AllocError>
         Schema::Warp => Ok(Effect::Warp(Owned::of(alloc, warp_of(fields))?)),
         Schema::Freeze => Ok(Effect::Freeze(Owned::of(alloc, freeze_of(fields))?)),
         Schema::TimeEffect => Ok(Effect::Plain(Owned::of(alloc, plain_of(fields, true))?)),
-        Schema::Effect => Ok(Effect::Plain(Owned::of(alloc, plain_of(fields, false))?)),
-        _ => unreachable!(),
+        // Of the effects' schemas, `Effect` alone is left.
+        _ => Ok(Effect::Plain(Owned::of(alloc, plain_of(fields, false))?)),
     }
 }
 
@@ -99,10 +99,7 @@ fn marker_from(alloc: Global, fields: Fields) -> Result<Marker, AllocError>
     requires kinds { HaveKinds (rows_of fields.schema) fields.values }
     ensures { IfOk result (λ marker. readings.marker_reading marker ≡ readings.known fields) }
 {
-    match fields.schema {
-        Schema::Marker => Ok(Marker::Known(Owned::of(alloc, mark_of(fields))?)),
-        _ => unreachable!(),
-    }
+    Ok(Marker::Known(Owned::of(alloc, mark_of(fields))?))
 }
 
 #[tactic(auto, using(crate::proofs::Asking::known_are))]
@@ -115,8 +112,8 @@ fn medium_from(fields: Fields) -> Media
         Schema::External => Media::External(external_of(fields)),
         Schema::Missing => Media::Missing(missing_of(fields)),
         Schema::Generator => Media::Generator(generator_of(fields)),
-        Schema::Images => Media::Sequence(images_of(fields)),
-        _ => unreachable!(),
+        // Of the references' schemas, image sequences' alone is left.
+        _ => Media::Sequence(images_of(fields)),
     }
 }
 
@@ -264,7 +261,7 @@ fn reference_of(alloc: Global, value: &Json, found: Matched) -> Result<Media, Sc
     }
 }
 
-/// A media reference, or the value kept word for word. Null stands for a missing reference. The one
+/// A media reference, or the value kept word for word. Null means a missing reference. The one
 /// error is `Memory`, where memory runs out. `found` has to be the value's fields as an object of
 /// `MEDIA`, none where it is no such object.
 pub fn medium_of(alloc: Global, value: &Json, found: Matched) -> Result<Media, SchemaFault>

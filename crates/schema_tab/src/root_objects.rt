@@ -1,6 +1,6 @@
 //! Whole values.
 
-ghost use Rattle.std.specs.Prelude.{◌≡◌, ◌≢◌, ◌≤◌, IfOk, IfErr};
+ghost use Rattle.std.specs.Prelude.{◌≢◌, ◌≤◌, IfOk, IfErr};
 ghost use Rattle.limits.specs.Limits.{most_items};
 ghost use Rattle.schema_rows.specs.Numerals.{HasNumerals};
 ghost use Rattle.schema_rows.specs.Counts.{count_of};
@@ -16,7 +16,7 @@ use otio_model::{Object, Place};
 use schema_rows::{ROOTS, SchemaFault};
 use std::alloc::Global;
 
-/// The object that a value stands for by the tables of the schemas, or the value's first fault.
+/// The object that a value represents by the tables of the schemas, or the value's first fault.
 /// Each numeral in the value is one of JSON (RFC 8259). No old names or versions are rewritten
 /// here.
 ///

@@ -1,6 +1,6 @@
 //! Values without others inside them.
 
-ghost use Rattle.std.specs.Prelude.{◌≡◌, ◌≢◌, ℕ, ℤ, List, MatchOption, IfOk, IfErr, IfSome, Some, [], ◌∷◌};
+ghost use Rattle.std.specs.Prelude.{◌≡◌, ◌≢◌, ℕ, ℤ, List, MatchOption, IfOk, IfErr, Some, [], ◌∷◌};
 ghost use Rattle.json_value.specs.declared.Json.{Json};
 ghost use Rattle.json_value.specs.declared.Json.TheVariants as json;
 ghost use Rattle.tick_time.specs.Numerals.{IsNumeral};
@@ -13,6 +13,7 @@ ghost use Rattle.schema_rows.specs.Schemas.{IsForeign};
 ghost use Rattle.schema_rows.specs.Numerals.{HasNumerals, IsSpelled, IsLong, value_of_decimal};
 ghost use Rattle.schema_rows.specs.Stands.{Gives, Gives_fields};
 ghost use Rattle.schema_rows.specs.Faults.{HasBeyond, HasNegative, IsNoSpeed, Refuses};
+ghost use Rattle.schema_tab.specs.Shapes.{AreOfRange, AreOfTime};
 ghost use Rattle.tick_time.specs.Sums.{IsTimeOf};
 ghost use Rattle.tick_time.specs.Times.{IsSpeed};
 ghost use Rattle.tick_time.specs.declared.rates.Rate.{Rate};
@@ -188,44 +189,42 @@ pub fn rate_of(alloc: Global, row: &Field, value: &Json, place: &Place) -> RowRe
 }
 
 // The length and the start of a range of time.
-fn range_in(fields: &Fields) -> Option<(Time, Time)>
-    ensures { IfSome result (λ range.
-        fields.now.values ≡ Value.Time (Some range.0) ∷ (Value.Time (Some range.1) ∷ [])) }
+fn range_in(fields: &Fields) -> (Time, Time)
+    requires { AreOfRange fields.now.values }
+    ensures { fields.now.values
+        ≡ Value.Time (Some result.0) ∷ (Value.Time (Some result.1) ∷ []) }
 {
     match fields.values.as_slice() {
-        [Value::Time(len), Value::Time(start)] => Some(((*len)?, (*start)?)),
-        _ => None,
+        [Value::Time(Some(len)), Value::Time(Some(start))] => (*len, *start),
+        _ => unreachable!(),
     }
 }
 
 // The rate and the decimal of a time.
-fn rated_in(fields: &Fields) -> Option<(Rate, Decimal)>
-    ensures { IfSome result (λ rated.
-        fields.now.values ≡ Value.Rate rated.0 ∷ (Value.Numeral rated.1 ∷ [])) }
+fn rated_in(fields: &Fields) -> (Rate, Decimal)
+    requires { AreOfTime fields.now.values }
+    ensures { fields.now.values ≡ Value.Rate result.0 ∷ (Value.Numeral result.1 ∷ []) }
 {
     match fields.values.as_slice() {
-        [Value::Rate(rate), Value::Numeral(decimal)] => Some((*rate, *decimal)),
-        _ => None,
+        [Value::Rate(rate), Value::Numeral(decimal)] => (*rate, *decimal),
+        _ => unreachable!(),
     }
 }
 
 // A range of time, from the fields of its object.
 fn span_from(alloc: Global, fields: &Fields, place: &Place) -> RowResult
+    requires { AreOfRange fields.now.values }
     ensures value { IfOk result (λ value. (span : Span)
         × (fields.now.values ≡ Value.Time (Some span.len) ∷ (Value.Time (Some span.start) ∷ []))
         × (value ≡ Value.Span (Some span))) }
     ensures fault { IfErr result (λ fault. fault ≢ SchemaFault.Memory →
         HasNegative fields.now.values × (fault ≡ SchemaFault.Range place.now)) }
 {
-    match range_in(fields) {
-        Some((len, start)) => {
-            if len.ticks < 0 {
-                return Err(range_fault(alloc, place));
-            }
-            Ok(Value::Span(Some(Span { start, len })))
-        }
-        None => Err(SchemaFault::Memory),
+    let (len, start) = range_in(fields);
+    if len.ticks < 0 {
+        return Err(range_fault(alloc, place));
     }
+    Ok(Value::Span(Some(Span { start, len })))
 }
 
 /// The range of time that a row holds. The row has to be of the kind `Span`, and `found` the
@@ -248,18 +247,17 @@ pub fn span_of(alloc: Global, row: &Field, value: &Json, place: &Place, found: M
 
 // A time, from the fields of its object.
 fn time_from(alloc: Global, fields: &Fields, place: &Place) -> RowResult
+    requires { AreOfTime fields.now.values }
     ensures value { IfOk result (λ value. (rate : Rate) × (decimal : Decimal) × (time : Time)
         × (fields.now.values ≡ Value.Rate rate ∷ (Value.Numeral decimal ∷ []))
         × IsTimeOf (value_of_decimal decimal) rate time × (value ≡ Value.Time (Some time))) }
     ensures fault { IfErr result (λ fault. fault ≢ SchemaFault.Memory → HasBeyond fields.now.values
         × (fault ≡ SchemaFault.Range place.now)) }
 {
-    match rated_in(fields) {
-        Some((rate, decimal)) => match Time::of(&decimal, rate) {
-            Ok(time) => Ok(Value::Time(Some(time))),
-            Err(_) => Err(range_fault(alloc, place)),
-        },
-        None => Err(SchemaFault::Memory),
+    let (rate, decimal) = rated_in(fields);
+    match Time::of(&decimal, rate) {
+        Ok(time) => Ok(Value::Time(Some(time))),
+        Err(_) => Err(range_fault(alloc, place)),
     }
 }
 

@@ -1,6 +1,6 @@
 //! The schema that an object names, and its members by name.
 
-ghost use Rattle.std.specs.Prelude.{◌≡◌, ◌≢◌, ◌<◌, ◌≤◌, ◌∷◌, ◌++◌, ℕ, List, length, slice_index, not, ◌||◌, MatchBool, MatchOption, IfOk, Some, None, map};
+ghost use Rattle.std.specs.Prelude.{◌≡◌, ◌≢◌, ◌<◌, ◌≤◌, ◌∷◌, ◌++◌, ℕ, List, length, slice_index, not, ◌||◌, MatchOption, IfOk, Some, None, map};
 ghost use Rattle.std.specs.Str.Parse.{AllDigits, digits_value};
 ghost use Rattle.std.specs.Str.{bytes_eq};
 ghost use Rattle.json_value.specs.declared.Json.{Json};
@@ -13,6 +13,7 @@ use json_value::{Json, Members, copy_json};
 use schema_rows::{Field, Schema};
 use sequences::{NamedValues, Text};
 use std::alloc::{AllocError, Global};
+use tick_time::are_digits;
 
 /// An object with the name and version of its schema.
 #[derive(Clone, Copy)]
@@ -25,25 +26,13 @@ pub struct Found<'a> {
     pub version: u32,
 }
 
-// The parts of a text before and behind its first point; none where it has no point.
+// The parts of a text before and after its first point; none where it has no point.
 fn around_point(text: &str) -> Option<(&str, &str)>
     ensures { MatchOption result ((i : ℕ) → i < length text.now → slice_index text.now i ≢ 46)
         (λ parts. (text.now ≡ parts.0.now ++ (46 ∷ parts.1.now))
         × ((i : ℕ) → i < length parts.0.now → slice_index parts.0.now i ≢ 46)) }
 {
     text.split_once('.')
-}
-
-// Whether each byte is a digit.
-fn are_digits(digits: &[u8]) -> bool
-    ensures { MatchBool result (AllDigits 10 digits.now) (AllDigits 10 digits.now → ⊥) }
-{
-    for digit in digits {
-        if !digit.is_ascii_digit() {
-            return false;
-        }
-    }
-    true
 }
 
 // The number of at most 9 digits.
@@ -135,7 +124,7 @@ fn is_row(schema: Schema, name: &str) -> bool
     has_row(schema.table(), name)
 }
 
-// Whether a member is kept beside the rows.
+// Whether a member is kept next to the rows.
 fn is_other(schema: Schema, name: &str) -> bool
     ensures { result
         ≡ not (bytes_eq name.now schema_key || families.is_row (rows_of schema) name.now) }

@@ -1,7 +1,7 @@
 -- The first item without a form in the older family, among items that are looked at one after
 -- another.
-use Rattle.std.proofs.Common.{◌≡◌, ℕ, zero, suc, ◌+◌, ◌<◌, ◌≤◌, List, [], ◌∷◌, Option, Some, None, Result, refl, ap, sym, ◌∙◌, length, slice_get, subst, inl, inr, arith}
-use Rattle.std.specs.Prelude.{option_and_then, ◌⊎◌}
+use Rattle.std.proofs.Common.{◌≡◌, ℕ, ◌+◌, ◌≤◌, List, [], ◌∷◌, Option, Some, None, Result, refl, ap, sym, ◌∙◌, length, slice_get, subst, inl, inr, arith}
+use Rattle.std.specs.Prelude.{option_and_then}
 use Rattle.std.specs.Result.{OnOk}
 use Rattle.std.proofs.lemmas.Result.{on_ok_weaker}
 use Rattle.otio_model.specs.declared.compositions.ItemOf.{ItemOf}
@@ -19,31 +19,18 @@ use Rattle.json_value.specs.declared.Json.{Null}
 use Rattle.schema_write.specs.Objects.{medium_json, reference_json}
 use Rattle.coord.specs.Soundness.{Precedes}
 use Rattle.coord.proofs.Members.{got_below}
-use Rattle.coord.proofs.JudgingLemmas.{in_item}
+use Rattle.coord.proofs.JudgingLemmas.{in_item, split_last}
 use Rattle.schema_write.specs.declared.old_faults.OldFault.{OldFault}
 use Rattle.schema_write.specs.declared.old_forms.Found.{Found}
 use Rattle.schema_write.specs.declared.old_forms.Found.TheVariants.{At, Memory}
-use Rattle.schema_write.specs.OldForms.{old_fault_of, held_in, held_at, HasOldForm}
-use Rattle.schema_write.specs.OldWalk.{AreOld, AreOldTo, IsFirstIn, IsFound, among, HasOldItem, HasOldItems, HasOldObjects, IsFoundAt, IsFoundIn, IsFoundAmong, IsFoundObject, IsUnder}
-
-split_last : (i j : ℕ) → j < suc i → (j < i) ⊎ (j ≡ i)
-split_last zero zero h = inr refl
-split_last zero (suc j) h = absurd (omega (arith, h))
-split_last (suc i) zero h = inl (omega arith)
-split_last (suc i) (suc j) h = elim (split_last i j (omega (arith, h))) [
-  | inl k ↦ inl (omega (arith, k))
-  | inr k ↦ inr (omega (arith, k))
-]
+use Rattle.schema_write.specs.OldForms.{old_fault_of, held_at, HasOldForm}
+use Rattle.schema_write.specs.OldWalk.{Way, AreOld, AreOldTo, IsFirstIn, IsFound, among, IsUnder, into_item, into_items, into_object, into_objects}
 
 -- what a step of a place leads through
 then_some : {A B : Type 0} (f : A → Option B) (o : Option A) (y : B)
     → option_and_then f o ≡ Some y → (x : A) × (o ≡ Some x) × (f x ≡ Some y)
 then_some f None y e = absurd (cc e)
 then_some f (Some x) y e = (x, refl, e)
-
--- a way from places to items
-abbrev Way : Type 0
-Way = List ℕ → Option (ItemOf Listed)
 
 in_among : {X : Type 0} (into : List ℕ → X → Option (ItemOf Listed)) (xs : List X) (i : ℕ) (x : X)
     (place : List ℕ) → slice_get xs i ≡ Some x → among into xs (i ∷ place) ≡ into place x
@@ -97,12 +84,12 @@ found_under into xs i x (At rest cause) (At way fault) e all f u =
 
 -- an item with children that have a form
 pub old_with : (x : ItemOf Listed) (l : Listed) → children_of x ≡ Some l → old_fault_of x ≡ None
-    → HasOldItems l → HasOldItem x
+    → AreOld (into_items l) → AreOld (into_item x)
 old_with x l e n s [] y b = let same : x ≡ y = cc b in subst (λ z. old_fault_of z ≡ None) same n
 old_with x l e n s (i ∷ place) y b = s (i ∷ place) y (sym (in_item x l i place e) ∙ b)
 
 -- an item without children
-pub old_alone : (x : ItemOf Listed) → children_of x ≡ None → old_fault_of x ≡ None → HasOldItem x
+pub old_alone : (x : ItemOf Listed) → children_of x ≡ None → old_fault_of x ≡ None → AreOld (into_item x)
 old_alone x e n [] y b = let same : x ≡ y = cc b in subst (λ z. old_fault_of z ≡ None) same n
 old_alone x e n (i ∷ place) y b =
     absurd (cc (sym (ap (option_and_then (λ m.
@@ -141,12 +128,12 @@ deeper x l (i ∷ place) fault e n f = record {
 
 -- what was found in the children of an item that has a form is what is found there
 pub found_with : (x : ItemOf Listed) (l : Listed) (found : Found) → children_of x ≡ Some l
-    → old_fault_of x ≡ None → IsFoundIn l found → IsFoundAt x found
+    → old_fault_of x ≡ None → IsFound (into_items l) found → IsFound (into_item x) found
 found_with x l Memory e n f = tt
 found_with x l (At way fault) e n f = deeper x l way.items fault e n f
 
 -- what places lead to in an object, by what it is
-timeline_out : (t : Timeline) → out-Object (ObjectOfTimeline t) ≡ Object-F.Timeline t
+pub timeline_out : (t : Timeline) → out-Object (ObjectOfTimeline t) ≡ Object-F.Timeline t
 unfolding roll-Object denote.Hole.Carrier.roll out-Object denote.Hole.Carrier.out
 timeline_out t = refl
 
@@ -189,44 +176,44 @@ in_collection object c e [] = rw (e, collection_out c) refl
 in_collection object c e (i ∷ place) = rw (e, collection_out c) refl
 
 pub old_timeline : (object : Object) (t : Timeline) → object ≡ ObjectOfTimeline t
-    → HasOldItem (I.Stack t.tracks) → HasOldForm object
+    → AreOld (into_item (I.Stack t.tracks)) → HasOldForm object
 old_timeline object t e s = by_places (λ place. below place (I.Stack t.tracks))
     (λ place. held_at place object) (in_timeline object t e) s
 
-pub old_item : (object : Object) (x : ItemOf Listed) → object ≡ ObjectOfItem x → HasOldItem x
+pub old_item : (object : Object) (x : ItemOf Listed) → object ≡ ObjectOfItem x → AreOld (into_item x)
     → HasOldForm object
 old_item object x e s =
     by_places (λ place. below place x) (λ place. held_at place object) (in_item_object object x e) s
 
 pub old_collection : (object : Object) (c : Collection) → object ≡ ObjectOfCollection c
-    → HasOldObjects (out-Collection c).children → HasOldForm object
+    → AreOld (into_objects (out-Collection c).children) → HasOldForm object
 old_collection object c e s = by_places (among held_at (out-Collection c).children)
     (λ place. held_at place object) (in_collection object c e) s
 
 pub collection_ok : {A E : Type 0} (r : Result A E) (object : Object) (c : Collection)
     (objects : List Object) → object ≡ ObjectOfCollection c → objects ≡ (out-Collection c).children
-    → OnOk r (HasOldObjects objects) → OnOk r (HasOldForm object)
+    → OnOk r (AreOld (into_objects objects)) → OnOk r (HasOldForm object)
 collection_ok r object c objects e is h =
-    on_ok_weaker r (λ s. old_collection object c e (subst HasOldObjects is s)) h
+    on_ok_weaker r (λ s. old_collection object c e (subst (λ (xs : List Object). AreOld (into_objects xs)) is s)) h
 
 pub stack_ok : {A E : Type 0} (r : Result A E) (s : StackOf Listed)
-    → old_fault_of (I.Stack s) ≡ None → OnOk r (HasOldItems s.children)
-    → OnOk r (HasOldItem (I.Stack s))
+    → old_fault_of (I.Stack s) ≡ None → OnOk r (AreOld (into_items s.children))
+    → OnOk r (AreOld (into_item (I.Stack s)))
 stack_ok r s n h = on_ok_weaker r (old_with (I.Stack s) s.children refl n) h
 
 pub found_timeline : (object : Object) (t : Timeline) (found : Found) → object ≡ ObjectOfTimeline t
-    → IsFoundAt (I.Stack t.tracks) found → IsFoundObject object found
+    → IsFound (into_item (I.Stack t.tracks)) found → IsFound (into_object object) found
 found_timeline object t found e a = found_by_places (λ place. below place (I.Stack t.tracks))
     (λ place. held_at place object) (in_timeline object t e) found a
 
 pub found_item : (object : Object) (x : ItemOf Listed) (found : Found) → object ≡ ObjectOfItem x
-    → IsFoundAt x found → IsFoundObject object found
+    → IsFound (into_item x) found → IsFound (into_object object) found
 found_item object x found e a = found_by_places (λ place. below place x)
     (λ place. held_at place object) (in_item_object object x e) found a
 
 pub found_collection : (object : Object) (c : Collection) (found : Found)
-    → object ≡ ObjectOfCollection c → IsFoundAmong (out-Collection c).children found
-    → IsFoundObject object found
+    → object ≡ ObjectOfCollection c → IsFound (into_objects (out-Collection c).children) found
+    → IsFound (into_object object) found
 found_collection object c found e a = found_by_places (among held_at (out-Collection c).children)
     (λ place. held_at place object) (in_collection object c e) found a
 

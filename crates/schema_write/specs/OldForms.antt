@@ -1,6 +1,6 @@
 -- Which objects have a form in the older family of schemas (OpenTimelineIO's schema pages: Clip.1
 -- holds one media reference, Marker.1 names its range `range`), and why one has none.
-use Rattle.std.specs.Prelude.{◌≡◌, ◌&&◌, ◌||◌, ℕ, Bool, true, false, not, cond, List, [], ◌∷◌, Option, Some, None, codes, slice_get, option_and_then}
+use Rattle.std.specs.Prelude.{◌≡◌, ◌&&◌, ◌||◌, ℕ, Bool, false, cond, List, [], ◌∷◌, Option, Some, None, codes, slice_get, option_and_then}
 use Rattle.std.specs.List.{list_any}
 use Rattle.std.specs.Str.{bytes_eq}
 use Rattle.json_value.specs.declared.Json.{Json}

@@ -9,15 +9,18 @@ use Rattle.coord.specs.Soundness.{Precedes}
 use Rattle.schema_write.specs.declared.old_faults.OldFault.{OldFault}
 use Rattle.schema_write.specs.declared.old_forms.Found.{Found}
 use Rattle.schema_write.specs.declared.old_forms.Found.TheVariants.{At, Memory}
-use Rattle.schema_write.specs.OldForms.{old_fault_of, held_at, HasOldForm, IsFirstOld}
+use Rattle.schema_write.specs.OldForms.{old_fault_of, held_at}
 
--- each item has a form in the older family: `there place` is the item at the place, if there is one
-abbrev pub AreOld : (List ℕ → Option (ItemOf Listed)) → Type 0
+-- a way from places to items
+abbrev pub Way : Type 0
+Way = List ℕ → Option (ItemOf Listed)
+
+-- each item on the way has a form in the older family
+abbrev pub AreOld : Way → Type 0
 AreOld there = (place : List ℕ) (x : ItemOf Listed) → there place ≡ Some x → old_fault_of x ≡ None
 
--- the first fault of the items that places lead to
-pub record IsFirstIn (there : List ℕ → Option (ItemOf Listed)) (place : List ℕ)
-    (fault : OldFault) : Type 0 where
+-- the first fault of the items on the way
+pub record IsFirstIn (there : Way) (place : List ℕ) (fault : OldFault) : Type 0 where
   pub item : ItemOf Listed
   pub is : there place ≡ Some item
   pub has : old_fault_of item ≡ Some fault
@@ -25,13 +28,12 @@ pub record IsFirstIn (there : List ℕ → Option (ItemOf Listed)) (place : List
       → there before ≡ Some x → old_fault_of x ≡ None
 
 -- the first fault of these items was found; where memory ran out, nothing is known of it
-abbrev pub IsFound : (List ℕ → Option (ItemOf Listed)) → Found → Type 0
+abbrev pub IsFound : Way → Found → Type 0
 IsFound there (At way fault) = IsFirstIn there way.items fault
 IsFound there Memory = Unit {0}
 
 -- a place in some things: the index of one of them, and a place in it
-abbrev pub among : {X : Type 0} → (List ℕ → X → Option (ItemOf Listed)) → List X → List ℕ
-    → Option (ItemOf Listed)
+abbrev pub among : {X : Type 0} → (List ℕ → X → Option (ItemOf Listed)) → List X → Way
 among into xs [] = None
 among into xs (i ∷ place) = option_and_then (into place) (slice_get xs i)
 
@@ -40,26 +42,18 @@ abbrev pub AreOldTo : {X : Type 0} → (List ℕ → X → Option (ItemOf Listed
 AreOldTo {X} into n xs = (i : ℕ) (x : X) → i < n → slice_get xs i ≡ Some x
     → AreOld (λ place. into place x)
 
-abbrev pub HasOldItem : ItemOf Listed → Type 0
-HasOldItem x = AreOld (λ place. below place x)
+-- the ways into an item, into children, into an object and into objects
+abbrev pub into_item : ItemOf Listed → Way
+into_item x = λ place. below place x
 
-abbrev pub HasOldItems : Listed → Type 0
-HasOldItems l = AreOld (among below (items_of l))
+abbrev pub into_items : Listed → Way
+into_items l = among below (items_of l)
 
-abbrev pub HasOldObjects : List Object → Type 0
-HasOldObjects objects = AreOld (among held_at objects)
+abbrev pub into_object : Object → Way
+into_object object = λ place. held_at place object
 
-abbrev pub IsFoundAt : ItemOf Listed → Found → Type 0
-IsFoundAt x found = IsFound (λ place. below place x) found
-
-abbrev pub IsFoundIn : Listed → Found → Type 0
-IsFoundIn l found = IsFound (among below (items_of l)) found
-
-abbrev pub IsFoundAmong : List Object → Found → Type 0
-IsFoundAmong objects found = IsFound (among held_at objects) found
-
-abbrev pub IsFoundObject : Object → Found → Type 0
-IsFoundObject object found = IsFound (λ place. held_at place object) found
+abbrev pub into_objects : List Object → Way
+into_objects objects = among held_at objects
 
 -- what was found in the thing i, seen from one level up; where memory ran out, nothing is known
 abbrev pub IsUnder : ℕ → Found → Found → Type 0

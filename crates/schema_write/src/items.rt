@@ -5,11 +5,9 @@ ghost use Rattle.schema_write.specs.Objects as objects;
 ghost use Rattle.schema_write.specs.Styles.{style_of};
 
 use crate::families::Family;
-use crate::scalars::{clip_in, gap_json, shown, transition_json};
-use crate::writing::{add, string, written};
+use crate::scalars::{clip_in, gap_json, stack_of, track_of, transition_json};
 use json_value::{Json, JsonList};
-use otio_model::{Children, Item, ItemOf, Stack, Track};
-use schema_rows::Schema;
+use otio_model::{Children, Item, ItemOf, Stack};
 use sequences::Sequence;
 use std::alloc::{AllocError, Global};
 
@@ -52,53 +50,4 @@ pub fn stack_json(alloc: Global, stack: &Stack, family: Family) -> Result<Json, 
 {
     let children = children_json(alloc, &stack.children, family)?;
     stack_of(alloc, stack, children, family)
-}
-
-// A stack whose children are these.
-fn stack_of(
-    alloc: Global,
-    stack: &Stack,
-    children: JsonList,
-    family: Family,
-) -> Result<Json, AllocError>
-    ensures { IfOk result (λ json.
-        json ≡ objects.stack_by (style_of family) (λ _. children) stack.now) }
-{
-    let mut values = shown(
-        alloc,
-        &stack.metadata,
-        &stack.name,
-        stack.source_range,
-        &stack.effects,
-        &stack.markers,
-        stack.enabled,
-        family,
-    )?;
-    values.push(Json::List(children))?;
-    written(alloc, Schema::Stack, values, &stack.rest)
-}
-
-// A track whose children are these.
-fn track_of(
-    alloc: Global,
-    track: &Track,
-    children: JsonList,
-    family: Family,
-) -> Result<Json, AllocError>
-    ensures { IfOk result (λ json.
-        json ≡ objects.track_by (style_of family) (λ _. children) track.now) }
-{
-    let mut values = shown(
-        alloc,
-        &track.metadata,
-        &track.name,
-        track.source_range,
-        &track.effects,
-        &track.markers,
-        track.enabled,
-        family,
-    )?;
-    values.push(Json::List(children))?;
-    add(&mut values, string(alloc, &track.kind))?;
-    written(alloc, Schema::Track, values, &track.rest)
 }

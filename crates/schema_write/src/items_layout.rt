@@ -1,6 +1,5 @@
 //! Items with children.
 
-ghost use Rattle.std.specs.Prelude.{◌≡◌, ◌+◌, ◌++◌};
 ghost use Rattle.dev_io.specs.Buffer.{HandsOver};
 ghost use Rattle.json_text.specs.Levels.{deep};
 ghost use Rattle.json_text.specs.Layout.{text_at, list_text, item_lines};

@@ -1,7 +1,6 @@
 //! What may stand at the root of a file.
 
 ghost use Rattle.std.specs.Prelude.{◌≡◌, IfErr, IfOk, map};
-ghost use Rattle.otio_model.specs.declared.objects.Collection.{out-Collection};
 ghost use Rattle.schema_write.specs.Objects as objects;
 ghost use Rattle.schema_write.specs.Styles.{style_of};
 ghost use Rattle.schema_write.specs.OldForms.{HasOldForm, IsOldFault};

@@ -1,14 +1,13 @@
 //! Whether an object has a form in the older family, and the first item that has none.
 
-ghost use Rattle.std.specs.Prelude.{◌≡◌, ◌≢◌, ◌∷◌, ◌||◌, IfErr, IfSome, OnOk, codes};
+ghost use Rattle.std.specs.Prelude.{◌≡◌, ◌||◌, IfErr, OnOk, codes};
 ghost use Rattle.std.specs.List.{list_any};
-ghost use Rattle.std.specs.Str.{bytes_eq};
 ghost use Rattle.otio_model.specs.declared.compositions.ItemOf.TheVariants as items;
-ghost use Rattle.otio_model.specs.Trees.{items_of};
 ghost use Rattle.schema_write.specs.OldForms as forms;
-ghost use Rattle.schema_write.specs.OldWalk.{HasOldItem, HasOldItems, HasOldObjects, IsFoundAt, IsFoundIn, IsFoundAmong, IsFoundObject, IsUnder};
+ghost use Rattle.schema_write.specs.OldWalk.{AreOld, IsFound, IsUnder, into_item, into_items, into_object, into_objects};
 
 use crate::old_faults::{FamilyFault, OldFault};
+use coord::place_of;
 use json_value::Members;
 use otio_model::{Children, Clip, Item, ItemOf, Marker, Markers, MediaMap, Object, Place, Stack};
 use std::alloc::Global;
@@ -147,8 +146,8 @@ fn under(index: usize, found: Found) -> Found
 #[tactic(auto, using(crate::proofs::OldLemmas::old_with, crate::proofs::OldLemmas::old_alone, crate::proofs::OldLemmas::found_with, crate::proofs::OldLemmas::found_here))]
 #[cycle(walk)]
 fn walk_item(alloc: Global, item: &Item) -> Result<(), Found>
-    ensures ok { OnOk result (HasOldItem item.now) }
-    ensures found { IfErr result (IsFoundAt item.now) }
+    ensures ok { OnOk result (AreOld (into_item item.now)) }
+    ensures found { IfErr result (IsFound (into_item item.now)) }
 {
     match item_fault(item) {
         Some(fault) => Err(Found::At(Vec::new(alloc), fault)),
@@ -166,8 +165,8 @@ fn walk_item(alloc: Global, item: &Item) -> Result<(), Found>
 #[tactic(auto, using(crate::proofs::OldLemmas::old_next, crate::proofs::OldLemmas::old_all, crate::proofs::OldLemmas::found_under))]
 #[cycle(walk)]
 fn walk_children(alloc: Global, children: &Children) -> Result<(), Found>
-    ensures ok { OnOk result (HasOldItems children.now) }
-    ensures found { IfErr result (IsFoundIn children.now) }
+    ensures ok { OnOk result (AreOld (into_items children.now)) }
+    ensures found { IfErr result (IsFound (into_items children.now)) }
 {
     'children: for index in 0..children.len() {
         match walk_item(alloc, children.child(index)) {
@@ -181,8 +180,8 @@ fn walk_children(alloc: Global, children: &Children) -> Result<(), Found>
 // Looks for it in a timeline's root stack.
 #[tactic(auto, using(crate::proofs::OldLemmas::old_with, crate::proofs::OldLemmas::found_with, crate::proofs::OldLemmas::found_here))]
 fn walk_stack(alloc: Global, stack: &Stack) -> Result<(), Found>
-    ensures ok { OnOk result (HasOldItem (items.Stack stack.now)) }
-    ensures found { IfErr result (IsFoundAt (items.Stack stack.now)) }
+    ensures ok { OnOk result (AreOld (into_item (items.Stack stack.now))) }
+    ensures found { IfErr result (IsFound (into_item (items.Stack stack.now))) }
 {
     match markers_fault(&stack.markers) {
         Some(fault) => Err(Found::At(Vec::new(alloc), fault)),
@@ -195,7 +194,7 @@ fn walk_stack(alloc: Global, stack: &Stack) -> Result<(), Found>
 #[cycle(walk_object)]
 fn walk_object(alloc: Global, object: &Object) -> Result<(), Found>
     ensures ok { OnOk result (forms.HasOldForm object.now) }
-    ensures found { IfErr result (IsFoundObject object.now) }
+    ensures found { IfErr result (IsFound (into_object object.now)) }
 {
     match object {
         Object::Timeline(timeline) => walk_stack(alloc, &timeline.tracks),
@@ -208,8 +207,8 @@ fn walk_object(alloc: Global, object: &Object) -> Result<(), Found>
 #[tactic(auto, using(crate::proofs::OldLemmas::old_next, crate::proofs::OldLemmas::old_all, crate::proofs::OldLemmas::found_under))]
 #[cycle(walk_object)]
 fn walk_objects(alloc: Global, objects: &[Object]) -> Result<(), Found>
-    ensures ok { OnOk result (HasOldObjects objects.now) }
-    ensures found { IfErr result (IsFoundAmong objects.now) }
+    ensures ok { OnOk result (AreOld (into_objects objects.now)) }
+    ensures found { IfErr result (IsFound (into_objects objects.now)) }
 {
     'objects: for (index, object) in objects.iter().enumerate() {
         match walk_object(alloc, object) {
@@ -218,20 +217,6 @@ fn walk_objects(alloc: Global, objects: &[Object]) -> Result<(), Found>
         }
     }
     Ok(())
-}
-
-// The place of these indexes; `None` where memory runs out.
-fn place_of(alloc: Global, way: &[u32]) -> Option<Place>
-    ensures { IfSome result (λ place. place ≡ way.now) }
-{
-    let mut place = Place::new(alloc);
-    'indexes: for index in way {
-        match place.push(*index) {
-            Ok(()) => {}
-            Err(_) => return None,
-        }
-    }
-    Some(place)
 }
 
 // The fault of an item as that of its object.

@@ -133,7 +133,7 @@ pub fn put_others<W: Out>(
 {
     let table = schema.table();
     for member in rest.as_slice() {
-        put_other(buffer, out, table, &member.0, &member.1, level);
+        put_other(buffer, out, table, member, level);
     }
 }
 
@@ -169,14 +169,7 @@ fn put_old_other<W: Out>(
     if schema.own == member.0.as_str() {
         return;
     }
-    put_other(
-        buffer,
-        out,
-        schema.newer.table(),
-        &member.0,
-        &member.1,
-        level,
-    );
+    put_other(buffer, out, schema.newer.table(), member, level);
 }
 
 // Hands over a member where the table has no row for it.
@@ -184,19 +177,18 @@ fn put_other<W: Out>(
     buffer: &mut OutBuffer,
     out: &mut W,
     table: &[Field],
-    name: &Text,
-    value: &Json,
+    member: &(Text, Json),
     level: &Level<'_>,
 )
     ensures { HandsOver W.known W.faults out.old out.new buffer.old buffer.new
-        (other_text (map row_of table.now) (name.now, value.now) (deep level.now)) }
+        (other_text (map row_of table.now) member.now (deep level.now)) }
 {
-    let text = name.as_str();
+    let text = member.0.as_str();
     if is_named(table, text) {
         return;
     }
     put_row_name(buffer, out, text, level);
-    put_value(buffer, out, value, level);
+    put_value(buffer, out, &member.1, level);
 }
 
 /// Hands over the end of an object.

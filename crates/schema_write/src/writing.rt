@@ -1,12 +1,11 @@
 //! An object of a schema in the written order.
 
 ghost use Rattle.std.specs.Prelude.{◌≡◌, ◌<◌, ◌≤◌, ◌++◌, ◌∷◌, [], ◌||◌, length, map, IfOk, IsOkAnd, OnOk, filter, not, Some, option_map, slice_get};
-ghost use Rattle.std.specs.List.{list_any};
 ghost use Rattle.std.specs.Str.{bytes_eq};
 ghost use Rattle.json_value.specs.declared.Json.{Str, Map};
 ghost use Rattle.sequences.specs.Pairs.{names_of, AreDistinct};
 ghost use Rattle.schema_rows.specs.Rows.{row_of};
-ghost use Rattle.schema_rows.specs.Schemas.{rows_of, schema_key, text_of};
+ghost use Rattle.schema_rows.specs.Schemas.{rows_of, schema_key};
 ghost use Rattle.schema_rows.specs.Families.{is_row, others};
 ghost use Rattle.schema_write.specs.Written as order;
 ghost use Rattle.schema_write.specs.Written.{name_of, written_last};
@@ -127,10 +126,7 @@ fn name_at(table: &[Field], index: usize) -> &'static str
     requires { index < length table.now }
     ensures { option_map name_of (slice_get table.now index) ≡ Some result.now }
 {
-    match table.get(index) {
-        Some(field) => field.name,
-        None => unreachable!(),
-    }
+    table[index].name
 }
 
 // Adds the members that a table has no row for.

@@ -7,7 +7,7 @@ use Rattle.show_prog.specs.Walk.{IsInstant}
 use Rattle.std.specs.Int.{w128}
 use Rattle.std.proofs.lemmas.Int.{ints, unsigned_abs-mul, fits_signed_from_abs}
 use Rattle.std.proofs.lemmas.Nat.{mul-le}
-use Rattle.show_prog.proofs.Steps.{within_is}
+use Rattle.coord.proofs.Within.{within_is}
 
 small_fits : (z : ℤ) → unsigned_abs z ≤ most_ticks → FitsSigned w128 z
 small_fits z h = fits_signed_from_abs w128 z (omega (arith, h))

@@ -1,4 +1,4 @@
--- How many frames a length takes, and how many there are between two.
+-- How many frames a length takes.
 use Rattle.std.proofs.Common.{◌≡◌, ℕ, ◌+◌, ◌*◌, ◌/◌, ◌%◌, ◌<◌, ◌≤◌, ◌^◌, pos, ◌≤ℤ◌, arith, to_z}
 use Rattle.std.specs.Int.{div_ceil, w128}
 use Rattle.std.proofs.lemmas.Int.{ints}
@@ -9,9 +9,3 @@ few_in n d q r some small e = grind (arith, mul-le-mul_left)
 
 pub frames_few : (n d f : ℕ) → 1000000 ≤ d → n < 2 ^ 128 → f ≡ div_ceil n d → f ≤ 2 ^ 110
 frames_few n d f some small e = let q = few_in n d (n / d) (n % d) some small (omega arith) in omega (arith, q, e)
-
-pub as_pos : (f g : ℕ) → f ≤ 2 ^ 110 → f ≡ g → to_z w128 f ≡ pos g
-as_pos f g few e = omega (arith, ints)
-
-pub as_small : (f : ℕ) → f ≤ 2 ^ 110 → to_z w128 f ≤ℤ pos (2 ^ 110)
-as_small f few = omega (arith, ints)

@@ -1,12 +1,10 @@
 -- What is proved of shows and listings.
 mod Euclid
 mod FarInstants
-mod MediaTicks
 pub mod PrintTexts
 pub mod Roots
 pub mod ShowLemmas
 pub mod SoundnessFacts
-mod Steps
 pub mod Walk
 pub mod SeatLemmas
 pub mod ReachedItems

@@ -1,10 +1,10 @@
 -- Texts in pieces by number, handed over one after another.
-use Rattle.std.proofs.Common.{◌≡◌, ℕ, zero, suc, ◌+◌, ◌-◌, ◌<◌, List, [], ◌++◌, ap, sym, ◌∙◌, append_assoc, append-nil, subst, arith}
+use Rattle.std.proofs.Common.{◌≡◌, ℕ, zero, suc, ◌+◌, ◌-◌, ◌<◌, List, [], ◌++◌, ap, sym, ◌∙◌, append_assoc, append-nil, subst, arith, true≢false, Result, Ok, Err, IsErr}
 use Rattle.std.specs.List.{flat_map, range_with_len}
 use Rattle.std.proofs.lemmas.List.Concat.{flat_map-cons}
 use Rattle.dev_io.specs.Buffer.{Standing, Puts}
 use Rattle.dev_io.proofs.BufferLemmas.{puts_then, puts_as, puts_none}
-use Rattle.show_prog.specs.Handing.{PutsFront}
+use Rattle.show_prog.specs.Handing.{PutsAll, PutsFront}
 
 -- so many pieces from one on
 abbrev pub pieces : (ℕ → List ℕ) → ℕ → ℕ → List ℕ
@@ -62,3 +62,9 @@ piece_cut f a m i n e lt p q = record {
 -- all pieces
 pub all_put : {s b : Standing} (f : ℕ → List ℕ) (a m n : ℕ) → m ≡ n → Puts s b (pieces f a m) → Puts s b (pieces f a n)
 all_put f a m n e p = puts_as (pieces f a n) p (ap (pieces f a) e)
+
+-- where a call stopped, a part from the front was handed over
+pub puts_cut : {T E : Type 0} {a b : Standing} {text : List ℕ} (r : Result T E) → IsErr r
+    → PutsFront a b text → PutsAll a b text r
+puts_cut (Ok x) e p = absurd (true≢false (sym e))
+puts_cut (Err y) e p = p

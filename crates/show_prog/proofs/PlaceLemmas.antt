@@ -3,7 +3,8 @@ use Rattle.std.proofs.Common.{◌≡◌, ℕ, List, [], ◌∷◌, ◌++◌, cod
 use Rattle.show_prog.specs.declared.places.Way.{Way, Root, Child}
 use Rattle.show_prog.specs.declared.places.Way.TheOpen.{Way-F}
 use Rattle.show_prog.specs.declared.places.Way.TheFolds.{fold-roll-Way}
-use Rattle.show_prog.specs.Places.{more_indexes, place_text, lead_text, place_of, way_step}
+use Rattle.otio_model.specs.PlaceTexts.{more_indexes, place_text}
+use Rattle.show_prog.specs.Places.{lead_text, place_of, way_step}
 
 pub place_of-Root : place_of Root ≡ []
 unfolding Rattle.show_prog.specs.declared.places.Way.TheViews.roll-Way denote.Hole.Carrier.roll

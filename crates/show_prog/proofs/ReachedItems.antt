@@ -16,7 +16,8 @@ use Rattle.coord.specs.Looks.{mix_shows, blank}
 use Rattle.coord.specs.Sights.{View, looks}
 use Rattle.coord.specs.Soundness.{AreFaultless}
 use Rattle.show_prog.specs.Walk.{item_before, ticks_at}
-use Rattle.show_prog.proofs.SeatLemmas.{got, start_next}
+use Rattle.coord.proofs.ChildStarts.{start_next}
+use Rattle.show_prog.proofs.SeatLemmas.{got}
 use Rattle.show_prog.proofs.SoundnessFacts.{Here, here}
 use Rattle.show_prog.proofs.Walk.{Walked, walk_begins, walk_item, walk_transition, walk_end}
 

@@ -13,7 +13,8 @@ use Rattle.coord.specs.Soundness.{AreFaultless}
 use Rattle.show_prog.specs.Walk.{IsHolder}
 use Rattle.show_prog.specs.declared.item_at.Held.{Held}
 use Rattle.coord.proofs.SightLemmas.{lengths-items}
-use Rattle.show_prog.proofs.SoundnessFacts.{added_more, here}
+use Rattle.coord.proofs.ChildStarts.{start_next}
+use Rattle.show_prog.proofs.SoundnessFacts.{here}
 use Rattle.coord.proofs.LookSteps.{missed_behind, missed_before}
 use Rattle.show_prog.proofs.Walk.{Passed, passed_begins, passed_next, passed_here}
 
@@ -26,37 +27,6 @@ got [] i h = absurd (omega (arith, h))
 got (x ∷ xs) zero h = record { item = x; got = refl }
 got (x ∷ xs) (suc i) h = let g =
     got xs i (omega (arith, h)) in record { item = g.item; got = g.got }
-
-start_in : (xs : List (ItemOf Listed)) (i : ℕ) (x : ItemOf Listed) → slice_get xs i ≡ Some x
-    → added (take (suc i) (map length_of xs))
-    ≡ added (take i (map length_of xs)) + or_zero (length_of x)
-start_in [] zero x e = absurd (cc e)
-start_in [] (suc i) x e = absurd (cc e)
-start_in (y ∷ xs) zero x e = let same : y ≡ x =
-    cc e in omega (arith, added_more (length_of y) [], ap (λ z. or_zero (length_of z)) same)
-start_in (y ∷ xs) (suc i) x e =
-    omega (
-      arith,
-      start_in xs i x e,
-      added_more (length_of y) (take (suc i) (map length_of xs)),
-      added_more (length_of y) (take i (map length_of xs)),
-    )
-
--- where the next child starts
-pub start_next : (l : Listed) (i : ℕ) (x : ItemOf Listed) → slice_get (items_of l) i ≡ Some x
-    → start_of l (i + 1) ≡ start_of l i + or_zero (length_of x)
-start_next l i x e =
-    let n = ap (λ ns. added (take (i + 1) ns)) (lengths-items l) in
-    let m = ap (λ ns. added (take i ns)) (lengths-items l) in
-    let s : i + 1 ≡ suc i = omega arith in
-    omega (
-      arith,
-      n,
-      m,
-      ap (λ k. added (take k (map length_of (items_of l)))) s,
-      start_in
-          (items_of l) i x e,
-    )
 
 -- the walk up to a child that starts before the instant or at it
 is_passed_to : (l : Listed) (at : ℤ) (i : ℕ) → AreFaultless l → count l < 2 ^ 32 → pos 0 ≤ℤ at

@@ -1,15 +1,20 @@
 -- Lines of frames that are sent in parts.
 use Rattle.std.proofs.Common.{◌≡◌, ℕ, zero, suc, ◌+◌, ◌-◌, ◌≤◌, ℤ, pos, ◌+ℤ◌, List, [], ◌++◌, Option, Some, None, true, false, Bool, refl, ap, sym, ◌∙◌, append_assoc, length, subst, arith}
+use Rattle.std.specs.Prelude.{◌<◌, Contains, Err}
 use Rattle.std.specs.List.{range_with_len}
+use Rattle.std.proofs.lemmas.List.FromFn.{get_or-range_with_len, length-range_with_len}
 use Rattle.std.proofs.lemmas.Int.{ints}
 use Rattle.std.proofs.lemmas.List.Concat.{flat_map-cons}
 use Rattle.otio_model.specs.declared.timelines.Timeline.{Timeline}
 use Rattle.dev_io.specs.Known.{KnownOut}
 use Rattle.dev_io.specs.Calls.{Tells, Adds, AddsPrefix}
 use Rattle.dev_io.specs.Buffer.{Standing, Puts}
+use Rattle.dev_io.specs.OutputCauses.{HasOutputCause, IsOutputCause}
+use Rattle.dev_io.specs.declared.output_faults.OutputFault.{OutputFault}
+use Rattle.dev_io.specs.declared.output_faults.OutputFault.TheVariants.{Sink, Memory}
 use Rattle.dev_io.proofs.BufferLemmas.{at, from_empty}
 use Rattle.dev_io.proofs.SendingLemmas.{adds_more, prefix_more}
-use Rattle.show_prog.specs.Rows.{rows, lines_at, children_listed, listing_text}
+use Rattle.show_prog.specs.Rows.{ListsMix, RowsMix, ShowsMix, rows, lines_at, children_listed, listing_text}
 use Rattle.show_prog.specs.declared.frame_range.Listing.{Listing}
 use Rattle.otio_model.specs.Trees.{items_of}
 use Rattle.show_prog.specs.Handing.{PutsFront}
@@ -72,3 +77,39 @@ sent_listed a b t l ks m e k p = subst (λ (js : List ℕ). Tells (Adds (rows t 
 pub cut_listed : (a b : Option KnownOut) (t : Timeline) (l : Listing) (ks : List ℕ) → ks ≡ children_listed l.child (length (items_of t.tracks.children))
     → Tells (AddsPrefix (rows t ks l.from l.count)) a b → Tells (AddsPrefix (listing_text t l)) a b
 cut_listed a b t l ks e p = subst (λ (js : List ℕ). Tells (AddsPrefix (rows t js l.from l.count)) a b) e p
+
+-- a child of those that follow one another is one of them
+pub child_listed : (first count child : ℕ) → first ≤ child → child < first + count
+    → Contains (range_with_len first count) child
+child_listed first count child low high =
+    let len = length-range_with_len first count in
+    let within : child - first < length (range_with_len first count) = omega (arith, len, low, high)
+    in
+    let sum : first + (child - first) ≡ child = omega (arith, low) in (
+      child - first,
+      within,
+      get_or-range_with_len first count (child - first) child (omega (arith, low, high)) ∙ sum,
+    )
+
+-- the cause of a fault, from an earlier count of faults on
+pub cause_later : {T : Type 0} {may : Type 0} (a b c : ℕ) (f : OutputFault) → a ≤ b
+    → HasOutputCause {T = T} may b c (Err f) → HasOutputCause {T = T} (Unit {0}) a c (Err f)
+cause_later a b c Sink early h =
+    record { later = omega (arith, early, h.later); failed = omega (arith, early, h.failed) }
+cause_later a b c Memory early h = record { later = omega (arith, early, h.later); failed = tt }
+
+-- where memory ran out among some frames, a row of the listing shows a mix
+pub mix_listed : {T : Type 0} {b c : ℕ} (t : Timeline) (l : Listing) (ks : List ℕ) (next : ℤ)
+    (m n : ℕ) (f : OutputFault) → ks ≡ children_listed l.child (length (items_of t.tracks.children))
+    → next ≡ l.from +ℤ pos m → m + n ≤ l.count → f ≡ Memory
+    → HasOutputCause {T = T} (RowsMix t ks next n) b c (Err f) → ListsMix t l
+mix_listed {b = b} {c = c} t l ks next m n f e from few memory h =
+    let s : RowsMix t ks next n =
+    subst (IsOutputCause (RowsMix t ks next n) b c) memory h.failed in
+    let at : next +ℤ pos s.after ≡ l.from +ℤ pos (m + s.after) = omega (arith, ints, from) in
+    let within : m + s.after < l.count = omega (arith, few, s.within) in
+    subst (λ js. RowsMix t js l.from l.count) e (record {
+      after = m + s.after;
+      within = within;
+      shows = subst (ShowsMix t ks) at s.shows;
+    })

@@ -45,7 +45,7 @@ pub err_map : (r : Result Picture AllocError) (P Q : Type 0) → OnErr r P → (
 err_map (Ok x) P Q h f = tt
 err_map (Err e) P Q h f = f h
 
-pub on_err : (r : Result Picture AllocError) (P : Type 0) → P → OnErr r P
+pub on_err : {T E : Type 0} (r : Result T E) (P : Type 0) → P → OnErr r P
 on_err (Ok x) P h = tt
 on_err (Err e) P h = h
 
@@ -110,7 +110,8 @@ stack_before (x ∷ l) m h = rw (stack_before l m h, missed_before (pos 0) x.len
 abbrev one : Look → ℤ → Show
 one x m = cond (within (pos 0) x.length m) (x.shows m) Blank
 
-blank_is : (s : Show) → is_blank s ≡ true → s ≡ Blank
+-- what is blank shows nothing
+pub blank_is : (s : Show) → is_blank s ≡ true → s ≡ Blank
 blank_is Blank e = refl
 blank_is (Frame k m r) e = absurd (cc e)
 blank_is (Mix k a b w) e = absurd (cc e)

@@ -15,6 +15,7 @@ use Rattle.coord.proofs.Members.{next, none_left}
 use Rattle.coord.proofs.SightLemmas.{lengths-items}
 use Rattle.coord.proofs.JudgingLemmas.{sound_child, children_sound}
 use Rattle.coord.proofs.ShortItems.{is_short}
+use Rattle.coord.proofs.ChildStarts.{added_more}
 
 -- ---- items of children without a fault
 
@@ -38,11 +39,6 @@ stack_facts t s = record { sound = children_sound (Stack t) t.children refl s; f
 -- the lengths of items from an index on
 abbrev pub left_from : Listed → ℕ → ℕ
 left_from l i = added (map length_of (drop i (items_of l)))
-
--- one more length
-pub added_more : (o : Option ℕ) (ns : List (Option ℕ)) → added (o ∷ ns) ≡ or_zero o + added ns
-added_more None ns = omega arith
-added_more (Some n) ns = refl
 
 -- what is known of the child at an index
 pub record Here (l : Listed) (i : ℕ) (x : ItemOf Listed) : Type 0 where

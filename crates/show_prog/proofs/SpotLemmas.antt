@@ -1,8 +1,9 @@
 -- The lines of clips, child by child.
-use Rattle.std.proofs.Common.{◌≡◌, ℕ, ◌+◌, ◌≤◌, List, [], ◌∷◌, ◌++◌, Some, refl, sym, ap, ◌∙◌, append_assoc, length, drop, map, slice_get}
+use Rattle.std.proofs.Common.{◌≡◌, ℕ, ◌+◌, ◌≤◌, List, [], ◌∷◌, ◌++◌, Some, refl, sym, ap, ◌∙◌, append_assoc, append-nil, length, drop, map, slice_get}
 use Rattle.std.specs.List.{flat_map}
 use Rattle.std.proofs.lemmas.Grind.{flat_map-append}
 use Rattle.std.proofs.lemmas.List.Concat.{flat_map-cons}
+use Rattle.otio_model.specs.declared.compositions.Clip.{Clip as ClipRow}
 use Rattle.otio_model.specs.declared.compositions.ItemOf.{ItemOf}
 use Rattle.otio_model.specs.declared.compositions.ItemOf.TheVariants.{Clip, Gap, Transition, Stack, Track}
 use Rattle.otio_model.specs.declared.compositions.Listed.{Listed}
@@ -59,3 +60,12 @@ lines_below told place i (s ∷ found) =
     ∙ ap (λ (p : List ℕ). spot_line told (record { place = p; clip = s.clip }) ++ flat_map inner found) (append_assoc place (i ∷ []) s.place)
     ∙ ap (λ (l : List ℕ). outer (from_place (i ∷ []) s) ++ l) (lines_below told place i found)
     ∙ sym (flat_map-cons outer (from_place (i ∷ []) s) (map (from_place (i ∷ [])) found))
+
+-- the line of one clip
+pub lines_clip : (told : Told) (place : List ℕ) (c : ClipRow)
+    → spot_line told (record { place = place; clip = c }) ≡ spot_lines told place (spots_of (Clip c))
+lines_clip told place c =
+    let inner : Spot → List ℕ = λ r. spot_line told (from_place place r) in
+    ap (λ (p : List ℕ). spot_line told (record { place = p; clip = c })) (sym (append-nil place))
+    ∙ sym (append-nil (inner (record { place = []; clip = c })))
+    ∙ sym (flat_map-cons inner (record { place = []; clip = c }) [])

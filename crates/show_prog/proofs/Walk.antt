@@ -18,12 +18,10 @@ use Rattle.show_prog.specs.declared.item_at.ActiveTransition.{ActiveTransition}
 use Rattle.show_prog.specs.declared.item_at.Held.{Held}
 use Rattle.coord.proofs.Members.{next, none_left}
 use Rattle.coord.proofs.SightLemmas.{look_length}
-use Rattle.show_prog.proofs.SoundnessFacts.{Here, added_more, left_from, left_all, left_none}
+use Rattle.coord.proofs.ChildStarts.{added_more}
+use Rattle.show_prog.proofs.SoundnessFacts.{Here, left_from, left_all, left_none}
 use Rattle.coord.proofs.LookSteps.{item_hit, item_past, mix_item, mix_miss, side_item, is_within, missed_before, missed_behind}
-use Rattle.show_prog.proofs.Steps.{within_is}
-
-abbrev most : ℤ
-most = pos most_ticks
+use Rattle.coord.proofs.Within.{within_is}
 
 -- an item that is no transition has no overlap
 pub no_overlap : (x : ItemOf Listed) → ((w : TransitionRow) → x ≡ Transition w → ⊥) → (sight x).overlap ≡ None
@@ -106,7 +104,7 @@ pub record Walked (l : Listed) (at : ℤ) (i : ℕ) (start since : ℤ) (before 
   pub low : pos 0 ≤ℤ start
   pub sum : start +ℤ pos (left_from l i) ≡ pos (added (lengths l))
   pub since_low : pos 0 ≤ℤ since
-  pub since_high : since ≤ℤ most
+  pub since_high : since ≤ℤ pos most_ticks
   pub earlier : IfSome before (λ j. j < i)
   pub same : (v : View) → mix_shows blank (looks v (items_of l)) at ≡ mix_shows (λ z. side v (items_of l) before (z +ℤ since)) (looks v (drop i (items_of l))) (at -ℤ start)
 
@@ -178,7 +176,7 @@ pub walk_end : (v : View) (l : Listed) (at : ℤ) (i : ℕ) (start since : ℤ) 
 walk_end v l at i start since before s h = s.same v ∙ ap (λ m. mix_shows (λ z. side v (items_of l) before (z +ℤ since)) (looks v m) (at -ℤ start)) (none_left (items_of l) i h)
 
 pub active_within : (l : Listed) (at : ℤ) (i n : ℕ) (w : TransitionRow) (start since : ℤ) (before : Option ℕ) (c : ActiveTransition) → Walked l at i start since before → i ≤ n
-    → pos 0 ≤ℤ at → at ≤ℤ most → start ≤ℤ most
+    → pos 0 ≤ℤ at → at ≤ℤ pos most_ticks → start ≤ℤ pos most_ticks
     → (u : ℤ) → true ≡ within (pos 0 -ℤ offset_of w.in_offset) (offset_of w.out_offset) u → u ≡ at -ℤ start
     → c.from ≡ before → IfSome c.to (λ j. j < n) → c.from_ticks ≡ (at -ℤ start) +ℤ since → c.to_ticks ≡ at -ℤ start
     → c.part ≡ (at -ℤ start) +ℤ offset_of w.in_offset → c.whole ≡ offset_of w.in_offset +ℤ offset_of w.out_offset → IsActive n c

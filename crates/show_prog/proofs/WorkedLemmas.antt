@@ -2,11 +2,11 @@
 use Rattle.std.proofs.Common.{refl}
 use Rattle.std.specs.Fmt.{digits}
 use Rattle.tick_time.specs.Texts.{decimals_of}
-use Rattle.show_prog.specs.Worked.{AreWorked}
+use Rattle.show_prog.specs.Worked.{AreListingsWorked}
 
-pub worked : AreWorked
+pub listings-are_worked : AreListingsWorked
 unfolding digits decimals_of
-worked = record {
+listings-are_worked = record {
   tracks = refl;
   clips = refl;
   media = refl;

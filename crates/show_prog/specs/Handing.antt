@@ -1,9 +1,10 @@
 -- Texts that are handed over to a buffer, or cut short.
-use Rattle.std.specs.Prelude.{◌≡◌, ℕ, ◌≤◌, ◌-◌, List, ◌++◌, Result, Ok, Err, length}
+use Rattle.std.specs.Prelude.{◌≡◌, ℕ, ◌<◌, ◌≤◌, ◌-◌, ◌^◌, List, ◌++◌, Result, Ok, Err, length}
 use Rattle.std.specs.List.{range_with_len}
 use Rattle.dev_io.specs.Buffer.{Standing, Puts}
-use Rattle.otio_model.specs.declared.timelines.Timeline.{Timeline}
+use Rattle.otio_model.specs.Counts.{count}
 use Rattle.otio_model.specs.Trees.{items_of}
+use Rattle.coord.specs.Soundness.{IsFaultless}
 use Rattle.show_prog.specs.Clocks.{IsClockOf}
 use Rattle.show_prog.specs.declared.frame_rows.Indexes.{Indexes}
 use Rattle.show_prog.specs.declared.frame_rows.Selection.{Selection}
@@ -24,8 +25,10 @@ PutsAll old new text (Err e) = PutsFront old new text
 abbrev pub indexes : Indexes → List ℕ
 indexes i = range_with_len i.first (i.past - i.first)
 
--- the clock is the timeline's own, and the children are some of its root children
-pub record IsSelection (t : Timeline) (s : Selection) : Type 0 where
-  pub clock : IsClockOf t s.clock
+-- the timeline has no fault, the clock is its own, and the children are some of its root children
+pub record IsSelection (s : Selection) : Type 0 where
+  pub few : count s.timeline.now.tracks.children < 2 ^ 32
+  pub sound : IsFaultless s.timeline.now
+  pub clock : IsClockOf s.timeline.now s.clock
   pub ordered : s.children.first ≤ s.children.past
-  pub within : s.children.past ≤ length (items_of t.tracks.children)
+  pub within : s.children.past ≤ length (items_of s.timeline.now.tracks.children)

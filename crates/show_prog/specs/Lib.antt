@@ -5,7 +5,6 @@ pub mod Walk
 pub mod Pictures
 pub mod Texts
 pub mod Rows
-pub mod Faults
 pub mod Handing
 pub mod Places
 pub mod Spots

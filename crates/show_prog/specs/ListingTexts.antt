@@ -1,7 +1,6 @@
 -- The lines of the listings.
 use Rattle.std.specs.Prelude.{ℕ, ◌+◌, ◌==◌, pos, unsigned_abs, Bool, cond, if◌then◌else◌}
 use Rattle.std.specs.Prelude.{List, [], ◌∷◌, ◌++◌, codes, decimal}
-use Rattle.std.specs.Int.{div_ceil}
 use Rattle.std.specs.Fmt.{signed_decimal}
 use Rattle.std.specs.List.{flat_map}
 use Rattle.tick_time.specs.Texts.{relative_text, rate_millionths}
@@ -10,18 +9,17 @@ use Rattle.otio_model.specs.declared.compositions.ItemOf.{ItemOf}
 use Rattle.otio_model.specs.declared.compositions.ItemOf.TheVariants.{Clip, Gap, Transition, Stack}
 use Rattle.otio_model.specs.declared.compositions.ItemOf.TheVariants.{Track}
 use Rattle.otio_model.specs.declared.timelines.Timeline.{Timeline}
-use Rattle.otio_model.specs.Lengths.{lengths}
-use Rattle.otio_model.specs.Sums.{greatest}
 use Rattle.otio_model.specs.Trees.{items_of}
 use Rattle.schema_write.specs.Texts.{decimal_text}
 use Rattle.coord.specs.Looks.{FrameRate}
 use Rattle.coord.specs.Keys.{key_of}
-use Rattle.coord.specs.Programs.{record_rate, start_frame, frame_ticks}
+use Rattle.coord.specs.Programs.{record_rate, start_frame}
 use Rattle.show_prog.specs.Texts.{key_text}
+use Rattle.show_prog.specs.Rows.{whole_frames}
 use Rattle.show_prog.specs.declared.clip_rows.Told.{Told}
 use Rattle.show_prog.specs.declared.clip_rows.Told.TheVariants.{Name, Key}
 use Rattle.show_prog.specs.declared.counting.Counts.{Counts}
-use Rattle.show_prog.specs.Places.{place_text}
+use Rattle.otio_model.specs.PlaceTexts.{place_text}
 use Rattle.show_prog.specs.Spots.{Spot, spots, from_place}
 use Rattle.show_prog.specs.Counted.{counts}
 
@@ -70,10 +68,6 @@ abbrev pub rate_text : FrameRate → List ℕ
 rate_text r =
     if unsigned_abs r.den == 1001 then relative_text (unsigned_abs r.num) else decimal_text
     (pos (rate_millionths r.num r.den))
-
--- how many record frames the longest root child takes, rounded up to whole ones
-abbrev pub whole_frames : Timeline → ℕ
-whole_frames t = div_ceil (greatest (lengths t.tracks.children)) (frame_ticks (record_rate t))
 
 -- a word, a space, a number and a line feed
 abbrev pub number_line : List ℕ → List ℕ → List ℕ

@@ -1,19 +1,9 @@
--- Places in a tree, and how they are written.
+-- Places in a tree, as the code writes them.
 use Rattle.std.specs.Prelude.{ℕ, List, [], ◌∷◌, ◌++◌, codes, decimal}
 use Rattle.show_prog.specs.declared.places.Way.{Way, fold-Way}
 use Rattle.show_prog.specs.declared.places.Way.TheOpen.{Way-F}
 
--- further indexes, each after `/`
-abbrev pub more_indexes : List ℕ → List ℕ
-more_indexes [] = []
-more_indexes (i ∷ place) = codes "/" ++ (decimal i ++ more_indexes place)
-
--- the indexes from the root on, with `/` between them
-abbrev pub place_text : List ℕ → List ℕ
-place_text [] = []
-place_text (i ∷ place) = decimal i ++ more_indexes place
-
--- the same indexes with `/` after each, as they stand before a further one
+-- the indexes from the root on with `/` after each, as they stand before a further one
 abbrev pub lead_text : List ℕ → List ℕ
 lead_text [] = []
 lead_text (i ∷ place) = decimal i ++ (codes "/" ++ lead_text place)

@@ -1,5 +1,7 @@
 -- Which record frames of a timeline are listed, and the lines that list them.
-use Rattle.std.specs.Prelude.{ℕ, ℤ, pos, ◌+ℤ◌, ◌-ℤ◌, int_le, nat_lt, min, unsigned_abs, cond, List, [], ◌∷◌, ◌++◌, Option, Some, None, codes, decimal, length, option_map, unwrap_or}
+use Rattle.std.specs.Prelude.{◌≡◌, ◌<◌, ℕ, ℤ, pos, ◌+ℤ◌, ◌-ℤ◌, int_le, nat_lt, min, unsigned_abs, cond}
+use Rattle.std.specs.Prelude.{Contains, List, [], ◌∷◌, ◌++◌, Option, Some, None, codes, decimal, length}
+use Rattle.std.specs.Prelude.{option_map, true, unwrap_or}
 use Rattle.std.specs.Int.{div_ceil}
 use Rattle.std.specs.List.{flat_map, range_with_len}
 use Rattle.std.specs.Fmt.{signed_decimal}
@@ -10,7 +12,7 @@ use Rattle.otio_model.specs.Lengths.{lengths}
 use Rattle.otio_model.specs.Sums.{greatest}
 use Rattle.otio_model.specs.Trees.{items_of}
 use Rattle.coord.specs.Programs.{program, record_rate, start_frame, frame_ticks}
-use Rattle.coord.specs.Images.{image}
+use Rattle.coord.specs.Images.{image, is_mix}
 use Rattle.show_prog.specs.Texts.{image_text}
 use Rattle.show_prog.specs.declared.frame_range.Listing.{Listing}
 
@@ -18,10 +20,13 @@ use Rattle.show_prog.specs.declared.frame_range.Listing.{Listing}
 abbrev pub longest : Timeline → ℕ
 longest t = greatest (lengths t.tracks.children)
 
--- the record frame after the last one that the longest root child reaches: its length takes so
--- many whole frames, rounded up, from the first on
+-- how many record frames the longest root child takes, rounded up to whole ones
+abbrev pub whole_frames : Timeline → ℕ
+whole_frames t = div_ceil (longest t) (frame_ticks (record_rate t))
+
+-- the record frame after the last one that the longest root child reaches
 abbrev pub end_frame : Timeline → ℤ
-end_frame t = start_frame t +ℤ pos (div_ceil (longest t) (frame_ticks (record_rate t)))
+end_frame t = start_frame t +ℤ pos (whole_frames t)
 
 -- how many frames there are from one up to, not including, another
 abbrev pub frames_between : ℤ → ℤ → ℕ
@@ -70,6 +75,23 @@ lines_at t ks n = flat_map (line t n) ks
 -- the lines of these children at so many record frames from one on, frame by frame
 abbrev pub rows : Timeline → List ℕ → ℤ → ℕ → List ℕ
 rows t ks from count = flat_map (λ (i : ℕ). lines_at t ks (from +ℤ pos i)) (range_with_len 0 count)
+
+-- one of these children shows a mix at a record frame
+pub record ShowsMix (t : Timeline) (ks : List ℕ) (n : ℤ) : Type 0 where
+  pub child : ℕ
+  pub listed : Contains ks child
+  pub mix : is_mix (program t child n) ≡ true
+
+-- the same at one of so many record frames from one on
+pub record RowsMix (t : Timeline) (ks : List ℕ) (from : ℤ) (count : ℕ) : Type 0 where
+  pub after : ℕ
+  pub within : after < count
+  pub shows : ShowsMix t ks (from +ℤ pos after)
+
+-- a row that is listed shows a mix
+abbrev pub ListsMix : Timeline → Listing → Type 0
+ListsMix t l =
+    RowsMix t (children_listed l.child (length (items_of t.tracks.children))) l.from l.count
 
 -- the lines of all that is listed
 abbrev pub listing_text : Timeline → Listing → List ℕ

@@ -1,22 +1,23 @@
 //! The lines of what is listed.
 
-ghost use Rattle.std.specs.Prelude.{◌≡◌, ◌<◌, ◌≤◌, ◌^◌, ◌+ℤ◌, ◌-ℤ◌, ◌≤ℤ◌, pos, Some, length, decimal};
-ghost use Rattle.std.specs.Fmt.{signed_decimal};
+ghost use Rattle.std.specs.Prelude.{◌≡◌, ◌<◌, ◌≤◌, ◌^◌, ◌+ℤ◌, ◌-ℤ◌, ◌≤ℤ◌, pos, Err, OnErr, Some};
+ghost use Rattle.std.specs.Prelude.{length, true};
 ghost use Rattle.dev_io.specs.Buffer.{standing, HandsOver};
 ghost use Rattle.dev_io.specs.Calls.{Tells, SendsAll};
 ghost use Rattle.otio_model.specs.Counts.{count as count_all};
 ghost use Rattle.otio_model.specs.Trees.{items_of};
+ghost use Rattle.coord.specs.Images.{is_mix};
+ghost use Rattle.coord.specs.Programs.{program};
 ghost use Rattle.coord.specs.Soundness.{IsFaultless};
-ghost use Rattle.show_prog.specs.Clocks.{IsClockOf};
-ghost use Rattle.show_prog.specs.Rows.{line, lines_at, rows, children_listed as listed, listing_text};
-ghost use Rattle.show_prog.specs.Faults.{HasRowCause};
+ghost use Rattle.dev_io.specs.OutputCauses.{HasOutputCause};
+ghost use Rattle.show_prog.specs.Rows.{line, lines_at, rows, children_listed as listed};
+ghost use Rattle.show_prog.specs.Rows.{ListsMix, RowsMix, ShowsMix, listing_text};
 ghost use Rattle.show_prog.specs.Handing.{PutsAll, indexes, IsSelection};
 
-use crate::frame_range::{Listing, RowFault};
+use crate::frame_range::Listing;
 use crate::picture_text::put_show;
 use crate::shows::{Clock, clock_of, show_at};
-use dev_io::{Out, OutBuffer};
-use itoa::Buffer;
+use dev_io::{Out, OutBuffer, OutputFault, put_number, put_signed};
 use otio_model::Timeline;
 use std::alloc::{AllocError, Global};
 
@@ -32,9 +33,13 @@ pub(crate) struct Indexes {
     past: usize,
 }
 
-/// What is listed of a timeline at each frame, and how its frames are counted.
+/// What is listed of a timeline at each frame.
 #[derive(Clone, Copy)]
-pub(crate) struct Selection {
+pub(crate) struct Selection<'a> {
+    /// The memory that mixes take.
+    alloc: Global,
+    /// The timeline.
+    timeline: &'a Timeline,
     /// The timeline's own clock.
     clock: Clock,
     /// The root children that are listed.
@@ -80,47 +85,32 @@ fn frame_after(from: i128, count: u32) -> i128
     from + i128::from(count)
 }
 
-// Hands over the number of a frame.
-fn put_frame_number<W: Out>(buffer: &mut OutBuffer, out: &mut W, frame: i128)
-    ensures { HandsOver W.known W.faults out.old out.new buffer.old buffer.new
-        (signed_decimal frame) }
-{
-    let mut digits = Buffer::new();
-    buffer.put(out, digits.format(frame).as_bytes());
-}
-
-// Hands over the index of a child.
-fn put_index<W: Out>(buffer: &mut OutBuffer, out: &mut W, child: usize)
-    ensures { HandsOver W.known W.faults out.old out.new buffer.old buffer.new (decimal child) }
-{
-    let mut digits = Buffer::new();
-    buffer.put(out, digits.format(child).as_bytes());
-}
-
 // Hands over the line of what a child shows at a frame.
 fn put_line<W: Out>(
-    alloc: Global,
     buffer: &mut OutBuffer,
     out: &mut W,
-    timeline: &Timeline,
-    clock: Clock,
+    selection: Selection<'_>,
     frame: i128,
     child: usize,
 ) -> Result<(), AllocError>
-    requires few { count_all timeline.now.tracks.children < 2 ^ 32 }
-    requires sound { IsFaultless timeline.now }
-    requires clock { IsClockOf timeline.now clock }
-    requires there { child < length (items_of timeline.now.tracks.children) }
-    ensures { PutsAll (standing W.known W.faults out.old buffer.old)
-        (standing W.known W.faults out.new buffer.new) (line timeline.now frame child) result }
+    requires selection { IsSelection selection }
+    requires there { child < length (items_of selection.timeline.now.tracks.children) }
+    ensures put { PutsAll (standing W.known W.faults out.old buffer.old)
+        (standing W.known W.faults out.new buffer.new)
+        (line selection.entry.timeline.now frame child) result }
+    ensures memory { OnErr result (is_mix (program selection.entry.timeline.now child frame)
+        ≡ true) }
 {
-    let picture = match show_at(alloc, timeline, clock, child, frame) {
-        Ok(picture) => picture,
-        Err(error) => return Err(error),
-    };
-    put_frame_number(buffer, out, frame);
+    let picture = show_at(
+        selection.alloc,
+        selection.timeline,
+        selection.clock,
+        child,
+        frame,
+    )?;
+    put_signed(buffer, out, frame);
     buffer.put(out, b" ");
-    put_index(buffer, out, child);
+    put_number(buffer, out, child as u64);
     buffer.put(out, b" ");
     put_show(buffer, out, &picture);
     buffer.put(out, b"\n");
@@ -129,127 +119,102 @@ fn put_line<W: Out>(
 
 // Hands over the lines of children at a frame.
 fn put_lines<W: Out>(
-    alloc: Global,
     buffer: &mut OutBuffer,
     out: &mut W,
-    timeline: &Timeline,
-    selection: Selection,
+    selection: Selection<'_>,
     frame: i128,
 ) -> Result<(), AllocError>
-    requires few { count_all timeline.now.tracks.children < 2 ^ 32 }
-    requires sound { IsFaultless timeline.now }
-    requires selection { IsSelection timeline.now selection }
-    ensures { PutsAll (standing W.known W.faults out.old buffer.old)
+    requires { IsSelection selection }
+    ensures put { PutsAll (standing W.known W.faults out.old buffer.old)
         (standing W.known W.faults out.new buffer.new)
-        (lines_at timeline.now (indexes selection.children) frame) result }
+        (lines_at selection.entry.timeline.now (indexes selection.entry.children) frame) result }
+    ensures memory { OnErr result
+        (ShowsMix selection.entry.timeline.now (indexes selection.entry.children) frame) }
 {
     'children: for child in selection.children.first..selection.children.past {
-        match put_line(alloc, buffer, out, timeline, selection.clock, frame, child) {
-            Ok(()) => {}
-            Err(error) => return Err(error),
-        }
+        put_line(buffer, out, selection, frame, child)?;
     }
     Ok(())
 }
 
 // Hands over the lines of children at so many frames.
 fn put_rows<W: Out>(
-    alloc: Global,
     buffer: &mut OutBuffer,
     out: &mut W,
-    timeline: &Timeline,
-    selection: Selection,
+    selection: Selection<'_>,
     from: i128,
     count: u32,
 ) -> Result<(), AllocError>
-    requires few { count_all timeline.now.tracks.children < 2 ^ 32 }
-    requires sound { IsFaultless timeline.now }
-    requires selection { IsSelection timeline.now selection }
+    requires selection { IsSelection selection }
     requires low { (pos 0 -ℤ pos (2 ^ 64)) ≤ℤ from }
     requires high { from ≤ℤ pos (2 ^ 64) }
-    ensures { PutsAll (standing W.known W.faults out.old buffer.old)
+    ensures put { PutsAll (standing W.known W.faults out.old buffer.old)
         (standing W.known W.faults out.new buffer.new)
-        (rows timeline.now (indexes selection.children) from count) result }
+        (rows selection.entry.timeline.now (indexes selection.entry.children) from count) result }
+    ensures memory { OnErr result
+        (RowsMix selection.entry.timeline.now (indexes selection.entry.children) from count) }
 {
     'frames: for index in 0..count {
-        match put_lines(
-            alloc,
-            buffer,
-            out,
-            timeline,
-            selection,
-            frame_after(from, index),
-        ) {
-            Ok(()) => {}
-            Err(error) => return Err(error),
-        }
+        put_lines(buffer, out, selection, frame_after(from, index))?;
     }
     Ok(())
 }
 
 // Sends the lines of children at so many frames.
 fn send_rows<W: Out>(
-    alloc: Global,
-    timeline: &Timeline,
-    selection: Selection,
+    selection: Selection<'_>,
     from: i128,
     count: u32,
     out: &mut W,
-) -> Result<(), RowFault>
-    requires few { count_all timeline.now.tracks.children < 2 ^ 32 }
-    requires sound { IsFaultless timeline.now }
-    requires selection { IsSelection timeline.now selection }
+) -> Result<(), OutputFault>
+    requires selection { IsSelection selection }
     requires low { (pos 0 -ℤ pos (2 ^ 64)) ≤ℤ from }
     requires high { from ≤ℤ pos (2 ^ 64) }
     ensures told { Tells (SendsAll
-        (rows timeline.now (indexes selection.children) from count) result)
+        (rows selection.entry.timeline.now (indexes selection.entry.children) from count) result)
         (W.known out.old) (W.known out.new) }
-    ensures cause { HasRowCause (W.faults out.old) (W.faults out.new) result }
+    ensures cause { HasOutputCause
+        (RowsMix selection.entry.timeline.now (indexes selection.entry.children) from count)
+        (W.faults out.old) (W.faults out.new) result }
 {
     let mut buffer = OutBuffer::new();
-    match put_rows(alloc, &mut buffer, out, timeline, selection, from, count) {
-        Ok(()) => {}
-        Err(_) => return Err(RowFault::Memory),
-    }
-    match buffer.flush(out) {
-        Ok(()) => Ok(()),
-        Err(_) => Err(RowFault::Sink),
-    }
+    put_rows(&mut buffer, out, selection, from, count)?;
+    buffer.flush(out)?;
+    Ok(())
 }
 
 /// Sends the lines of what is listed, frame by frame and at each frame child by child: the record
 /// frame, the child's index, what is seen there, and a line feed. A child that doesn't exist has no
 /// lines.
 ///
-/// `Sink` comes where a write failed, and `Memory` where memory ran out. A prefix of the lines was
-/// sent then.
+/// # Errors
+///
+/// [`OutputFault::Sink`] comes where a write failed, and [`OutputFault::Memory`] where memory ran
+/// out, which happens only where a listed row shows a mix. A prefix of the lines was sent then.
 pub fn write_rows<W: Out>(
     alloc: Global,
     timeline: &Timeline,
     listing: &Listing,
     out: &mut W,
-) -> Result<(), RowFault>
+) -> Result<(), OutputFault>
     requires few { count_all timeline.now.tracks.children < 2 ^ 32 }
     requires sound { IsFaultless timeline.now }
     ensures told { Tells (SendsAll (listing_text timeline.now listing.now) result) (W.known out.old)
         (W.known out.new) }
-    ensures cause { HasRowCause (W.faults out.old) (W.faults out.new) result }
+    ensures cause { HasOutputCause (Unit {0}) (W.faults out.old) (W.faults out.new) result }
+    ensures memory { result ≡ Err OutputFault.Memory → ListsMix timeline.now listing.now }
 {
-    let clock = clock_of(timeline);
-    let children = children_listed(listing.child, timeline.tracks.children.len());
-    let selection = Selection { clock, children };
+    let selection = Selection {
+        alloc,
+        timeline,
+        clock: clock_of(timeline),
+        children: children_listed(listing.child, timeline.tracks.children.len()),
+    };
     let from = i128::from(listing.from);
     let mut sent: u32 = 0;
     'parts: while sent < listing.count {
         let count = FRAMES_A_FLUSH.min(listing.count - sent);
-        match send_rows(
-            alloc,
-            timeline,
-            selection,
-            frame_after(from, sent),
-            count,
-            out,
-        ) {
+        match send_rows(selection, frame_after(from, sent), count, out) {
             Ok(()) => {}
             Err(fault) => return Err(fault),
         }

@@ -4,7 +4,6 @@ ghost use Rattle.std.specs.Prelude.{◌≡◌, ℕ, ℤ, pos, ◌≤ℤ◌, ◌<
 ghost use Rattle.limits.specs.Limits.{most_ticks};
 ghost use Rattle.otio_model.specs.Counts.{count};
 ghost use Rattle.otio_model.specs.Lengths.{added, lengths};
-ghost use Rattle.otio_model.specs.Trees as trees;
 ghost use Rattle.otio_model.specs.Trees.{items_of};
 ghost use Rattle.otio_model.specs.Seats.{IsFirstOverlap};
 ghost use Rattle.coord.specs.Looks.{blank, mix_shows, next_shows};
@@ -13,7 +12,7 @@ ghost use Rattle.coord.specs.Soundness.{AreFaultless};
 ghost use Rattle.show_prog.specs.Walk as walk;
 ghost use Rattle.show_prog.specs.Walk.{side, active_shows, IsActive, IsHeld};
 
-use otio_model::{Children, Item, ItemOf, Seat, offset_ticks};
+use otio_model::{Children, ItemOf, Seat, offset_ticks};
 use sequences::Text;
 
 /// An overlap that holds an instant: its two sides, each an index among the children with its own
@@ -61,20 +60,13 @@ fn next_item(children: &Children, start: usize) -> Option<usize>
     None
 }
 
-// Whether an item is a transition.
-fn is_transition(item: &Item) -> bool
-    ensures { result ≡ trees.is_transition item.now }
-{
-    matches!(item, ItemOf::Transition(_))
-}
-
 // The last item before an index that isn't a transition.
 fn item_before(children: &Children, end: usize) -> Option<usize>
     requires { end ≤ length (items_of children.now) }
     ensures { result ≡ walk.item_before (items_of children.now) end }
 {
     'children: for index in (0..end).rev() {
-        if !is_transition(children.child(index)) {
+        if !children.child(index).is_transition() {
             return Some(index);
         }
     }

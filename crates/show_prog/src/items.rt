@@ -1,7 +1,7 @@
 //! What items, tracks and stacks show.
 
-ghost use Rattle.std.specs.Prelude.{◌≡◌, ℤ, pos, ◌-ℤ◌, ◌*ℤ◌, ◌≤ℤ◌, ◌<ℤ◌, ◌<◌, ◌≤◌, ◌^◌, ◌&&◌, true, false, IfOk, IfSome, OnErr, length};
-ghost use Rattle.std.specs.Int.{int_div_euclid};
+ghost use Rattle.std.specs.Prelude.{◌≡◌, ◌-ℤ◌, ◌≤ℤ◌, ◌<ℤ◌, ◌<◌, ◌≤◌, ◌^◌, ◌&&◌, IfOk, IfSome};
+ghost use Rattle.std.specs.Prelude.{OnErr, false, length, pos, true};
 ghost use Rattle.limits.specs.Limits.{most_ticks};
 ghost use Rattle.otio_model.specs.Counts.{count, count_of};
 ghost use Rattle.otio_model.specs.Lengths as ranges;
@@ -21,39 +21,9 @@ use crate::clips::{mix_kind, show_clip};
 use crate::item_at::{ActiveTransition, holder, overlap_at};
 use crate::mix_weight::lowest;
 use crate::picture::Picture;
-use coord::{speed, trimmed_start};
+use coord::{media_offset, speed, trimmed_start};
 use otio_model::{Children, Item, ItemOf};
 use std::alloc::{AllocError, Global};
-
-// How far the media go in so many ticks at a speed in millionths. At the plain speed of a million
-// millionths no division is needed.
-fn media_ticks(speed: i64, ticks: i128) -> i128
-    requires speed_low { (pos 0 -ℤ pos 1000000000) ≤ℤ speed }
-    requires speed_high { speed ≤ℤ pos 1000000000 }
-    requires low { (pos 0 -ℤ pos 100000000000000000000000000) ≤ℤ ticks }
-    requires high { ticks ≤ℤ pos 100000000000000000000000000 }
-    ensures value { result ≡ int_div_euclid (ticks *ℤ speed) (pos 1000000) }
-    ensures least { (pos 0 -ℤ pos 1000000000000000000000000000001) ≤ℤ result }
-    ensures most { result ≤ℤ pos 1000000000000000000000000000001 }
-{
-    if speed == 1_000_000 {
-        return ticks;
-    }
-    scaled_ticks(speed, ticks)
-}
-
-// The same at any speed.
-fn scaled_ticks(speed: i64, ticks: i128) -> i128
-    requires speed_low { (pos 0 -ℤ pos 1000000000) ≤ℤ speed }
-    requires speed_high { speed ≤ℤ pos 1000000000 }
-    requires low { (pos 0 -ℤ pos 100000000000000000000000000) ≤ℤ ticks }
-    requires high { ticks ≤ℤ pos 100000000000000000000000000 }
-    ensures value { result ≡ int_div_euclid (ticks *ℤ speed) (pos 1000000) }
-    ensures least { (pos 0 -ℤ pos 1000000000000000000000000000001) ≤ℤ result }
-    ensures most { result ≤ℤ pos 1000000000000000000000000000001 }
-{
-    (ticks * i128::from(speed)).div_euclid(1_000_000)
-}
 
 // Where the trimmed range of an item starts.
 fn start_of(item: &Item) -> i128
@@ -71,11 +41,12 @@ pub fn media_at(item: &Item, ticks: i128) -> i128
     requires sound { fault_of item.now ≡ None }
     requires low { (pos 0 -ℤ pos 2822400000000000000000000) ≤ℤ ticks }
     requires high { ticks ≤ℤ pos 2822400000000000000000000 }
-    ensures value { result ≡ speeds.media_at (ranges.trimmed_start item.now) (speed_of item.now) ticks }
+    ensures value { result ≡ speeds.media_at (ranges.trimmed_start item.now)
+        (speed_of item.now) ticks }
     ensures low { (pos 0 -ℤ pos (2 ^ 100)) ≤ℤ result }
     ensures high { result <ℤ pos (2 ^ 100) }
 {
-    start_of(item) + media_ticks(speed(item), ticks)
+    start_of(item) + media_offset(ticks, speed(item))
 }
 
 /// What an item shows so many ticks from its start, also outside its length.
@@ -212,13 +183,14 @@ fn mix<'a>(
     })
 }
 
+// Whether nothing is seen.
 fn is_blank(picture: &Picture<'_>) -> bool
     ensures { result ≡ is_empty (image_of picture.now) }
 {
     matches!(picture, Picture::Blank)
 }
 
-// What the topmost child that isn't Blank shows, the last one being the topmost.
+// What the topmost child shows that isn't Blank. The last child is the topmost.
 #[cycle(show)]
 fn show_stack<'a>(
     alloc: Global,

@@ -12,7 +12,7 @@ ghost use Rattle.coord.specs.Keys.{frame_rate};
 ghost use Rattle.coord.specs.Soundness.{Precedes};
 ghost use Rattle.show_prog.specs.Spots.{Spot, spots};
 ghost use Rattle.show_prog.specs.ListingTexts.{listed_text, rate_text};
-ghost use Rattle.show_prog.specs.Worked.{AreWorked};
+ghost use Rattle.show_prog.specs.Worked.{AreListingsWorked};
 
 /// Law: of timelines that differ in their spare memory alone the listings are the same.
 pub fn bare_is_listed()
@@ -28,7 +28,7 @@ pub fn rates_are_written()
 /// Law: of a small tree what is worked out by hand is listed: nested clips by their places, items
 /// of each kind, and tracks by their indexes among all root children.
 pub fn listings_are_worked()
-    ensures { AreWorked }
+    ensures { AreListingsWorked }
 {}
 
 /// Law: a clip is listed with a place exactly where this place leads to it, and the places stand in

@@ -1,11 +1,15 @@
-//! What is seen at each record frame of a timeline, and its text; the lines that list it, for each
-//! frame and root child; and the listings of a timeline: its tracks, its clips, the keys of their
-//! media, and its numbers.
+//! What a viewer sees of a timeline, and the listings of a timeline.
 //!
-//! A [`Picture`] borrows the texts of the timeline that it was taken from. [`listing_of`] says
-//! which frames and children are listed, and [`write_rows`] sends their lines, as `specs/Rows.antt`
-//! says. [`write_listings`] sends the listings that are asked for, as `specs/ListingTexts.antt`
-//! says.
+//! - [`show`]: the [`Picture`] that a root child shows at a record frame; [`show_at`] is the same
+//!   with a [`Clock`], which is found once for all frames.
+//! - [`print_show`]: the text of a picture; [`put_show`] hands it to a buffer.
+//! - [`listing_of`] and [`write_rows`]: which record frames and root children are listed, and the
+//!   lines of the command `frames`, as `specs/Rows.antt` says.
+//! - [`write_listings`]: the listings of the commands `tool` and `stat` (tracks, clips, the keys of
+//!   their media, and numbers), as `specs/ListingTexts.antt` says.
+//!
+//! A [`Picture`] borrows the texts of the timeline that it was taken from. A stream is an [`Out`]
+//! of `dev_io`; a call that sends answers with an [`OutputFault`] or a [`WriteFault`].
 #![tactic(auto)]
 
 mod clip_rows;
@@ -20,7 +24,6 @@ mod items;
 mod laws;
 mod listing_writer;
 mod mix_weight;
-mod numbers;
 mod picture;
 mod picture_text;
 mod places;
@@ -29,16 +32,20 @@ mod stats;
 mod tracks;
 
 pub use clips::key_of;
+pub use dev_io::{Out, OutBuffer, OutputFault, WriteFault};
 pub use frame_laws::bare_rows_are_listed;
 pub use frame_options::Listings;
-pub use frame_range::{Listing, RowFault, listing_of};
+pub use frame_range::{Listing, listing_of};
 pub use frame_rows::write_rows;
 pub use item_at::{ActiveTransition, Held, holder, overlap_at};
 pub use items::media_at;
 pub use laws::{bare_is_listed, listings_are_worked, rates_are_written, spots_are_clips};
 pub use listing_writer::write_listings;
-pub use numbers::put_signed;
+pub use otio_model::{Children, Clip, Item, Timeline};
 pub use picture::{KeyRef, MixKind, Picture};
 pub use picture_text::{print_show, put_key, put_show};
-pub use shows::{Clock, clock_of, root_kind, show, show_at};
+pub use sequences::Text;
+pub use shows::{Clock, clock_of, show, show_at};
+pub use smpte_tc::RecordPoint;
 pub use stats::put_rate_text;
+pub use tick_time::Rate;

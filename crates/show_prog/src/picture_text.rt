@@ -11,8 +11,7 @@ ghost use Rattle.show_prog.specs.Pictures.{image_of, key_of, kind_of};
 ghost use Rattle.show_prog.specs.Texts.{image_text, key_text, kind_text, three};
 
 use crate::picture::{KeyRef, MixKind, Picture};
-use dev_io::{Out, OutBuffer, WriteFault};
-use itoa::Buffer;
+use dev_io::{Out, OutBuffer, WriteFault, put_signed};
 use json_text::{put_escaped, put_string};
 use sequences::Text;
 
@@ -158,13 +157,4 @@ fn put_weight<W: Out>(buffer: &mut OutBuffer, out: &mut W, num: i128, den: i128)
     put_signed(buffer, out, num);
     buffer.put(out, b"/");
     put_signed(buffer, out, den);
-}
-
-// Hands over a number in decimal digits, with `-` where it is negative.
-fn put_signed<W: Out>(buffer: &mut OutBuffer, out: &mut W, number: i128)
-    ensures { HandsOver W.known W.faults out.old out.new buffer.old buffer.new
-        (signed_decimal number) }
-{
-    let mut digits = Buffer::new();
-    buffer.put(out, digits.format(number).as_bytes());
 }

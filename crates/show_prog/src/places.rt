@@ -1,18 +1,18 @@
-//! The way to an item, one link a level, and how places are written.
+//! The way to an item, one link for each level, and how places are written.
 
 ghost use Rattle.std.specs.Prelude.{◌≡◌, ◌∷◌, ◌++◌, []};
 ghost use Rattle.dev_io.specs.Buffer.{HandsOver};
-ghost use Rattle.show_prog.specs.Places.{lead_text, place_of, place_text};
+ghost use Rattle.otio_model.specs.PlaceTexts.{place_text};
+ghost use Rattle.show_prog.specs.Places.{lead_text, place_of};
 
-use crate::numbers::put_number;
-use dev_io::{Out, OutBuffer};
+use dev_io::{Out, OutBuffer, put_number};
 
-/// The way from the root to a composition. It takes no memory.
+/// The way from the root to an item. It takes no memory.
 #[derive(Drop)]
 pub(crate) enum Way<'a> {
     /// To the root itself.
     Root,
-    /// To the child of this index, of the composition that another way leads to.
+    /// To the child of an index, in the composition that another way leads to.
     Child(&'a Way<'a>, usize),
 }
 
@@ -23,13 +23,18 @@ pub(crate) fn child_way<'a>(outer: &'a Way<'a>, index: usize) -> Way<'a>
     Way::Child(&*outer, index)
 }
 
-/// Hands over the place of the child of an index.
-pub(crate) fn put_place<W: Out>(buffer: &mut OutBuffer, out: &mut W, way: &Way<'_>, index: usize)
+/// Hands over the place that a way leads to.
+pub(crate) fn put_place<W: Out>(buffer: &mut OutBuffer, out: &mut W, way: &Way<'_>)
     ensures { HandsOver W.known W.faults out.old out.new buffer.old buffer.new
-        (place_text (place_of way.now ++ index ∷ [])) }
+        (place_text (place_of way.now)) }
 {
-    put_lead(buffer, out, way);
-    put_number(buffer, out, index);
+    match way {
+        Way::Root => buffer.put(out, b"."),
+        Way::Child(outer, index) => {
+            put_lead(buffer, out, outer);
+            put_number(buffer, out, *index as u64);
+        }
+    }
 }
 
 // Hands over the indexes of a way, with `/` after each.
@@ -41,7 +46,7 @@ fn put_lead<W: Out>(buffer: &mut OutBuffer, out: &mut W, way: &Way<'_>)
         Way::Root => {}
         Way::Child(outer, index) => {
             put_lead(buffer, out, outer);
-            put_number(buffer, out, *index);
+            put_number(buffer, out, *index as u64);
             buffer.put(out, b"/");
         }
     }

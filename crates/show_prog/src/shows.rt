@@ -3,7 +3,6 @@
 ghost use Rattle.std.specs.Prelude.{◌≡◌, ◌<◌, ◌^◌, ◌-ℤ◌, ◌*ℤ◌, ◌≤ℤ◌, pos, true, false, IfOk, OnErr, length};
 ghost use Rattle.otio_model.specs.Counts.{count, count_of};
 ghost use Rattle.otio_model.specs.Trees.{items_of};
-ghost use Rattle.coord.specs.Programs as programs;
 ghost use Rattle.coord.specs.Programs.{program, child_shows};
 ghost use Rattle.coord.specs.Soundness.{IsFaultless, IsFaultlessItem};
 ghost use Rattle.show_prog.specs.Clocks.{IsClockOf};
@@ -14,7 +13,7 @@ ghost use Rattle.show_prog.specs.Pictures.{image_of};
 use crate::items::show_item;
 use crate::picture::Picture;
 use coord::{record_rate, start_frame};
-use otio_model::{Item, ItemOf, Timeline};
+use otio_model::{Item, Timeline};
 use std::alloc::{AllocError, Global};
 
 /// How the record frames of a timeline are counted. It is found once, and then serves each
@@ -49,16 +48,6 @@ fn instant(start: i128, ticks: i128, frame: i128) -> Option<i128>
     }
 }
 
-/// The kind of a root child: of a track its own, else `Video`. It takes no memory.
-pub fn root_kind(item: &Item) -> &str
-    ensures { result.now ≡ programs.kind_of item.now }
-{
-    match item {
-        ItemOf::Track(track) => track.kind.as_str(),
-        _ => "Video",
-    }
-}
-
 // What a root child shows, Blank outside its length.
 fn show_root<'a>(alloc: Global, item: &'a Item, ticks: i128) -> Result<Picture<'a>, AllocError>
     requires few { count_of item.now < 2 ^ 32 }
@@ -71,7 +60,7 @@ fn show_root<'a>(alloc: Global, item: &'a Item, ticks: i128) -> Result<Picture<'
         return Ok(Picture::Blank);
     }
     if ticks < item.length_or_zero() {
-        show_item(alloc, item, root_kind(item), ticks)
+        show_item(alloc, item, item.root_kind(), ticks)
     } else {
         Ok(Picture::Blank)
     }

@@ -1,20 +1,18 @@
 //! The numbers of a timeline.
 
-ghost use Rattle.std.specs.Prelude.{◌≡◌, ◌<◌, ◌≤◌, ◌^◌, codes, decimal};
-ghost use Rattle.std.specs.Int.{div_ceil};
+ghost use Rattle.std.specs.Prelude.{◌<◌, ◌^◌, codes, decimal};
 ghost use Rattle.std.specs.Fmt.{signed_decimal};
 ghost use Rattle.dev_io.specs.Buffer.{HandsOver};
 ghost use Rattle.otio_model.specs.Counts.{count};
 ghost use Rattle.coord.specs.Keys.{frame_rate};
-ghost use Rattle.coord.specs.Programs as programs;
 ghost use Rattle.show_prog.specs.Counted.{counts};
 ghost use Rattle.show_prog.specs.ListingTexts.{counts_text, number_line, rate_text};
-ghost use Rattle.show_prog.specs.ListingTexts.{stats_text, whole_frames};
+ghost use Rattle.show_prog.specs.ListingTexts.{stats_text};
 
 use crate::counting::{Counts, count_children};
-use crate::numbers::{put_large, put_number, put_signed};
+use crate::frame_range::whole_frames;
 use coord::{record_rate, start_frame};
-use dev_io::{Out, OutBuffer};
+use dev_io::{Out, OutBuffer, put_large, put_number, put_signed};
 use otio_model::Timeline;
 use tick_time::Rate;
 
@@ -28,31 +26,6 @@ pub(crate) fn put_stats<W: Out>(buffer: &mut OutBuffer, out: &mut W, timeline: &
     put_start(buffer, out, start_frame(timeline));
     put_length(buffer, out, whole_frames(timeline));
     put_counts(buffer, out, count_children(&timeline.tracks.children));
-}
-
-// How many record frames the longest root child takes, rounded up to whole ones.
-fn whole_frames(timeline: &Timeline) -> u128
-    requires { count timeline.now.tracks.children < 2 ^ 32 }
-    ensures { result ≡ whole_frames timeline.now }
-{
-    let ticks = frame_ticks(timeline);
-    frames_of(timeline.tracks.children.longest_ticks(), ticks)
-}
-
-// The ticks of a record frame.
-fn frame_ticks(timeline: &Timeline) -> u128
-    ensures value { result ≡ programs.frame_ticks (programs.record_rate timeline.now) }
-    ensures some { 1 ≤ result }
-{
-    record_rate(timeline).frame_ticks() as u128
-}
-
-// How many whole frames of so many ticks hold a length.
-fn frames_of(length: u128, ticks: u128) -> u128
-    requires { 1 ≤ ticks }
-    ensures { result ≡ div_ceil length ticks }
-{
-    length.div_ceil(ticks)
 }
 
 // Hands over the line of the record rate.
@@ -112,6 +85,6 @@ fn put_count<W: Out>(buffer: &mut OutBuffer, out: &mut W, word: &[u8], number: u
 {
     buffer.put(out, word);
     buffer.put(out, b" ");
-    put_number(buffer, out, number);
+    put_number(buffer, out, number as u64);
     buffer.put(out, b"\n");
 }

@@ -6,8 +6,7 @@ ghost use Rattle.json_text.specs.StringTexts.{quoted};
 ghost use Rattle.otio_model.specs.Trees.{items_of};
 ghost use Rattle.show_prog.specs.ListingTexts.{line, track_line, track_lines};
 
-use crate::numbers::put_number;
-use dev_io::{Out, OutBuffer};
+use dev_io::{Out, OutBuffer, put_number};
 use json_text::put_string;
 use otio_model::{Children, Item, ItemOf, Track};
 use sequences::Text;
@@ -43,7 +42,7 @@ fn put_track<W: Out>(buffer: &mut OutBuffer, out: &mut W, index: usize, track: &
         (quoted track.now.kind ++ (codes " " ++ quoted track.now.name))) }
 {
     buffer.put(out, b"track ");
-    put_number(buffer, out, index);
+    put_number(buffer, out, index as u64);
     buffer.put(out, b" ");
     put_text(buffer, out, &track.kind);
     buffer.put(out, b" ");

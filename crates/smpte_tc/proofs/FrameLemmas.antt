@@ -1,5 +1,5 @@
 -- The frame number that a label names is what reading the label answers.
-use Rattle.std.proofs.Common.{◌≡◌, ℕ, ℤ, pos, ◌<◌, ◌≤◌, w64, to_z, of_z, FitsSigned, Bool, true, false, cond, List, [], Option, Some, None, option_map, Result, Ok, Err, length, get_or, slice_get, bytes_eq, inl, inr, refl, sym, ap, ◌∙◌, arith}
+use Rattle.std.proofs.Common.{◌≡◌, ℕ, ℤ, pos, ◌≤◌, w64, to_z, of_z, FitsSigned, Bool, true, false, cond, List, [], Option, Some, None, option_map, Result, Ok, Err, length, get_or, slice_get, bytes_eq, inl, inr, refl, sym, ap, ◌∙◌, arith}
 use Rattle.std.specs.List.{position, position_or_len}
 use Rattle.std.specs.Result.{result_ok}
 use Rattle.std.proofs.lemmas.Bool.{false≢true}
@@ -17,7 +17,7 @@ use Rattle.smpte_tc.specs.Modes.{mode_of, IsMode}
 use Rattle.smpte_tc.specs.Answers.{ninth, IsMark, means_drop, Reads, ReadsAt}
 use Rattle.smpte_tc.specs.Frames.{is_mark, label_index, index_by, label_frame, label_frame_at}
 use Rattle.smpte_tc.proofs.OneReading.{one_reading}
-use Rattle.smpte_tc.proofs.RoundTrip.{read_small, IsSmall}
+use Rattle.smpte_tc.proofs.RoundTrip.{IsSmall}
 use Rattle.smpte_tc.proofs.WrittenLabels.{mode_fair}
 
 -- where a text stands in a list, there is a first place of it

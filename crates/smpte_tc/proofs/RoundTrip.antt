@@ -2,7 +2,7 @@
 use Rattle.std.proofs.Common.{◌≡◌, ◌==◌, ℕ, ℤ, pos, ◌≤◌, ◌<◌, ◌≤ℤ◌, Bool, true, false, cond, Option, Some, None, Result, Ok, Err, List, length, slice_get, slice_set, nat_le, unsigned_abs, if◌then◌else◌, refl, sym, ap, subst, ◌∙◌, arith}
 use Rattle.std.proofs.lemmas.Int.{ints}
 use Rattle.std.proofs.lemmas.Option.{slice_get_within}
-use Rattle.std.proofs.lemmas.Bool.Decides.{nat_tests}
+use Rattle.std.proofs.lemmas.Bool.{leb-true}
 use Rattle.tick_time.specs.declared.rates.Rate.{Rate}
 use Rattle.tick_time.specs.Rates.{nominal, relative_count}
 use Rattle.smpte_tc.specs.declared.modes.Mode.{Mode}
@@ -41,15 +41,12 @@ either_within : (thousand : Bool) (relative whole : Option ℤ) (n : ℤ) → (r
 either_within true relative whole n r w h = r h
 either_within false relative whole n r w h = w h
 
-le_is : (a b : ℕ) → nat_le a b ≡ true → a ≤ b
-le_is a b e = grind (arith, nat_tests)
-
 -- the nominal count of a rate lies from 1 to 60
 count_within : (num den n : ℤ) → pos 1 ≤ℤ num → nominal num den ≡ Some n → IsCount n
 count_within num den n positive h =
     either_within (unsigned_abs den == 1001) (relative_count (unsigned_abs num)) (cond (unsigned_abs den == 1) (cond (nat_le (unsigned_abs num) 60) (Some num) None) None) n
     (λ r. relative_within (unsigned_abs num == 15000) (unsigned_abs num == 24000) (unsigned_abs num == 30000) (unsigned_abs num == 48000) (unsigned_abs num == 60000) n r)
-    (λ w. whole_within (unsigned_abs den == 1) (nat_le (unsigned_abs num) 60) num n positive (le_is (unsigned_abs num) 60) w)
+    (λ w. whole_within (unsigned_abs den == 1) (nat_le (unsigned_abs num) 60) num n positive (leb-true (unsigned_abs num) 60) w)
     h
 
 -- a mode with its mark

@@ -11,7 +11,6 @@ mod laws;
 mod modes;
 mod numbers;
 mod points;
-mod rates;
 mod timecode;
 
 pub use faults::TcFault;
@@ -20,7 +19,8 @@ pub use laws::{
     bytes_of_labels, counts_of_days, labels_of_numbers, labels_read_again, numbers_of_labels,
     one_answer, read_written, write_read,
 };
+pub use modes::{Mode, mode_of};
 pub use numbers::whole_number;
 pub use points::{RecordPoint, frame_at, frame_of_label, one_point, point_of};
-pub use rates::rate_of;
+pub use tick_time::rate_of;
 pub use timecode::{label, label_frame, read};

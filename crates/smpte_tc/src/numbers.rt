@@ -1,8 +1,9 @@
 // Whole numbers among the words.
-ghost use Rattle.std.specs.Prelude.{◌↔◌, ◌≤◌, ℕ, All, IsTrue, MatchOption};
-ghost use Rattle.std.specs.Str.Parse.{AllDigits};
+ghost use Rattle.std.specs.Prelude.{◌↔◌, ℕ, IsTrue, MatchOption};
 ghost use Rattle.smpte_tc.specs.Words.{IsWholeNumber};
 ghost use Rattle.smpte_tc.specs.Digits.{IsPlain, IsWhole};
+
+use tick_time::are_digits;
 
 /// How many digits a whole number has at most.
 const MOST_DIGITS: usize = 18;
@@ -37,19 +38,4 @@ fn is_plain(bytes: &[u8]) -> bool
         [b'0', _, ..] => false,
         _ => true,
     }
-}
-
-// Whether each byte is a decimal digit.
-#[tactic(auto, using(tick_time::proofs::DigitBytes::digits_of, tick_time::proofs::DigitBytes::of_digits))]
-fn are_digits(bytes: &[u8]) -> bool
-    ensures { IsTrue result ↔ AllDigits 10 bytes.now }
-{
-    are_within(bytes, b'0', b'9')
-}
-
-// Whether each byte lies between these two.
-fn are_within(bytes: &[u8], low: u8, high: u8) -> bool
-    ensures { IsTrue result ↔ All (λ b. (low ≤ b) × (b ≤ high)) bytes.now }
-{
-    bytes.iter().all(|b| low <= *b && *b <= high)
 }

@@ -3,7 +3,7 @@ use Rattle.std.proofs.Common.{◌≡◌, ◌≢◌, ◌≤◌, ℕ, List, Result
 use Rattle.limits.specs.Limits.{most_items}
 use Rattle.json_value.specs.declared.Json.{Json}
 use Rattle.otio_model.specs.declared.objects.Object.{Object}
-use Rattle.schema_rows.specs.Upgrades.{upgraded}
+use Rattle.schema_up.specs.Upgrades.{upgraded}
 use Rattle.schema_rows.specs.Counts.{count_of}
 use Rattle.schema_rows.specs.Faults.{IsFirstFault}
 use Rattle.schema_rows.specs.Stands.{Stands}

@@ -28,9 +28,9 @@ fault_refused fault bytes (Broken reason) (inr h) told = (fault, h, told.1)
 fault_refused fault bytes NoMemory h told = tt
 
 -- how it is refused that what was taken is too long
-pub long_refused : (front rest : List ℕ) (refusal : Refusal) → most_bytes < length front
+pub long_script-is_refused : (front rest : List ℕ) (refusal : Refusal) → most_bytes < length front
     → IsTold Large refusal → IsRefused (RefusesScript (front ++ rest)) refusal
-long_refused front rest refusal long told =
+long_script-is_refused front rest refusal long told =
     let h : most_bytes < length (front ++ rest) = omega (arith, long, length-append front rest) in
     fault_refused Large (front ++ rest) refusal (inr h) told
 

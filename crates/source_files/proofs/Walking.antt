@@ -1,11 +1,11 @@
 -- From one file to the next.
-use Rattle.std.proofs.Common.{◌≡◌, ◌<◌, ◌+◌, ℕ, zero, suc, List, [], ◌∷◌, ◌++◌, Some, None, Ok, Err, refl, sym, ap, subst, ◌∙◌, map, take, drop, length, get_or, arith}
+use Rattle.std.proofs.Common.{◌≡◌, ◌<◌, ◌+◌, ℕ, zero, suc, List, [], ◌∷◌, ◌++◌, Some, None, Ok, Err, refl, sym, ap, subst, ◌∙◌, map, take, drop, length, get_or, arith, inl, inr}
 use Rattle.std.specs.declared.option.Option.{Option}
 use Rattle.std.proofs.lemmas.List.{take_more}
 use Rattle.dev_io.specs.Known.{KnownFiles}
 use Rattle.dev_io.specs.Calls.{Tells}
-use Rattle.source_files.specs.Order.{EachIs}
-use Rattle.source_files.specs.Reading.{Held, Source, source_of, IsRead, IsUnread, StopsAt, EndsWith, HaveRead, HasStopped, ReadsSource}
+use Rattle.source_files.specs.Order.{EachIs, IsAmong}
+use Rattle.source_files.specs.Reading.{Held, Source, source_of, IsRead, IsUnread, StopsAt, EndsWith, HaveRead, HasStopped, ReadsSource, names_of}
 use Rattle.source_files.specs.declared.file_kinds.Source as code
 use Rattle.source_files.specs.declared.file_kinds.Content.{Content}
 use Rattle.source_files.specs.declared.read_faults.Refusal.TheVariants.{Memory}
@@ -173,3 +173,12 @@ suits_among Is xs i x contents more content l e m h r =
     (subst (λ c. EachIs Is (map source_of (take i xs) ++ source_of (get_or xs i x) ∷ []) c) (sym m)
     (each_more Is (map source_of (take i xs)) contents (source_of (get_or xs i x)) content h
     (subst (λ y. Is (source_of y) content) e r)))
+
+-- the name of a file is among those of all
+pub named_among : (xs : List code.Source) (i : ℕ) (x d : code.Source) (name : List ℕ)
+    → i < length xs → x ≡ get_or xs i d → name ≡ x.name.now
+    → IsAmong (names_of (map source_of xs)) name
+named_among [] i x d name l e n = absurd (omega (arith, l))
+named_among (y ∷ xs) zero x d name l e n = inl (n ∙ ap (λ (s : code.Source). s.name.now) e)
+named_among (y ∷ xs) (suc i) x d name l e n =
+    inr (named_among xs i x d name (omega (arith, l)) e n)

@@ -22,7 +22,7 @@ use Rattle.otio_model.specs.declared.objects.Object.{Object, out-Object}
 use Rattle.otio_model.specs.declared.objects.Object.TheOpen.{Object-F}
 use Rattle.otio_model.specs.declared.objects.Collection.{Collection}
 use Rattle.otio_model.specs.declared.timelines.Timeline.{Timeline}
-use Rattle.schema_rows.specs.Upgrades.{upgraded}
+use Rattle.schema_up.specs.Upgrades.{upgraded}
 use Rattle.schema_rows.specs.Counts.{count_of}
 use Rattle.schema_rows.specs.Stands.{Stands}
 use Rattle.schema_rows.specs.Faults.{IsFirstFault}

@@ -1,5 +1,5 @@
 -- What reading files gives: what they hold, or why the first that isn't read is not.
-use Rattle.std.specs.Prelude.{◌≡◌, ℕ, List, [], ◌∷◌, ◌++◌, Some, None, Result, Ok, Err}
+use Rattle.std.specs.Prelude.{◌≡◌, ℕ, List, [], ◌∷◌, ◌++◌, Some, None, Result, Ok, Err, map}
 use Rattle.std.specs.declared.option.Option.{Option}
 use Rattle.dev_io.specs.Known.{KnownFiles, LastFailure, NoFailure, OpenHeld, OpenMissing, ReadOf}
 use Rattle.dev_io.specs.Causes.{Rose}
@@ -26,6 +26,10 @@ pub record Source : Type 0 where
 
 abbrev pub source_of : code.Source → Source
 source_of source = record { name = source.name.now; kind = source.kind }
+
+-- the names of files
+abbrev pub names_of : List Source → List (List ℕ)
+names_of sources = map (λ source. source.name) sources
 
 -- the file holds this
 pub record IsRead (held : Held) (source : Source) (content : Content) : Type 0 where

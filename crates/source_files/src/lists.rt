@@ -56,8 +56,8 @@ pub fn read_list<F: Files>(alloc: Global, rate: Rate, files: &mut F) -> Result<E
     Err(ReadFault::Refused(list_refusal(EdlFault::Large)))
 }
 
-/// The list that is left of the file in hand, and its notes. Each piece is judged before the next is
-/// read, and its notes are kept, not its bytes.
+/// The list that is left of the file in hand, and its notes. Each piece is judged before the next
+/// is read, and its notes are kept, not its bytes.
 #[tactic(auto, using(crate::proofs::Taking::same_at_first))]
 pub fn read_noted_list<F: Files>(
     alloc: Global,

@@ -3,7 +3,7 @@ ghost use Rattle.std.specs.Prelude.{◌≡◌, ◌≢◌, ◌≤◌, ℕ, List, 
 ghost use Rattle.dev_io.specs.Calls.{Tells};
 ghost use Rattle.limits.specs.Limits.{most_items};
 ghost use Rattle.json_value.specs.declared.Json.{Json as JsonValue};
-ghost use Rattle.schema_rows.specs.Upgrades.{upgraded};
+ghost use Rattle.schema_up.specs.Upgrades.{upgraded};
 ghost use Rattle.schema_rows.specs.Counts.{count_of};
 ghost use Rattle.schema_rows.specs.Faults.{IsFirstFault};
 ghost use Rattle.schema_rows.specs.Numerals.{HasNumerals};
@@ -20,8 +20,9 @@ use crate::read_faults::{ReadFault, Refusal};
 use dev_io::Files;
 use json_value::Json;
 use otio_model::{Object, Timeline};
-use schema_rows::{SchemaFault, upgrade};
+use schema_rows::SchemaFault;
 use schema_tab::object_of;
+use schema_up::upgrade;
 use std::alloc::Global;
 use std::mem;
 

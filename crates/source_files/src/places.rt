@@ -1,11 +1,10 @@
 //! Places in messages.
 
-ghost use Rattle.std.specs.Prelude.{◌≡◌, ◌<◌, Some, length, slice_get, decimal};
+ghost use Rattle.std.specs.Prelude.{◌≡◌, ◌<◌, Some, length, slice_get};
 ghost use Rattle.dev_io.specs.Buffer.{HandsOver};
 ghost use Rattle.source_files.specs.Places.{place_text};
 
-use dev_io::{Out, OutBuffer};
-use itoa::Buffer;
+use dev_io::{Out, OutBuffer, put_number};
 use otio_model::Place;
 
 /// Hands over a place: its indexes from the root on with `/` between them, and `.` for the root
@@ -23,14 +22,6 @@ pub fn put_place<W: Out>(buffer: &mut OutBuffer, out: &mut W, place: &Place)
         buffer.put(out, b"/");
         put_number(buffer, out, u64::from(index_at(place, at)));
     }
-}
-
-/// Hands over a number in decimal digits.
-pub fn put_number<W: Out>(buffer: &mut OutBuffer, out: &mut W, number: u64)
-    ensures { HandsOver W.known W.faults out.old out.new buffer.old buffer.new (decimal number) }
-{
-    let mut digits = Buffer::new();
-    buffer.put(out, digits.format(number).as_bytes());
 }
 
 // The index at that depth.

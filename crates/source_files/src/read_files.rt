@@ -1,9 +1,9 @@
 // Reading files in their order.
 ghost use Rattle.std.specs.Prelude.{◌≡◌, IfOk, IfErr, map};
 ghost use Rattle.dev_io.specs.Calls.{Tells};
-ghost use Rattle.source_files.specs.Order.{EachIs};
+ghost use Rattle.source_files.specs.Order.{EachIs, IsAmong};
 ghost use Rattle.source_files.specs.Formats.{Holds, Refuses, IsCalm, Suits};
-ghost use Rattle.source_files.specs.Reading.{Raised, RaisedAt, ReadsSource, HaveRead, HasStopped, source_of};
+ghost use Rattle.source_files.specs.Reading.{Raised, RaisedAt, ReadsSource, HaveRead, HasStopped, names_of, source_of};
 ghost use Rattle.source_files.specs.Hand.{ReadsHand};
 ghost use Rattle.source_files.specs.declared.file_kinds.Kind.TheVariants.{List as ListAt, NotedList as NotedListAt};
 
@@ -24,7 +24,7 @@ use tick_time::Rate;
 /// read as before the next is opened; the first that isn't there, can't be read or isn't what it is
 /// read as ends the reading, and nothing after its fault is read.
 ///
-/// An error tells the name of that file and why. Out of memory may come at any file. What was read
+/// An error says the name of that file and why. Out of memory may come at any file. What was read
 /// of a file that is refused isn't freed.
 pub fn read_sources<'a, F: Files>(
     alloc: Global,
@@ -40,6 +40,8 @@ pub fn read_sources<'a, F: Files>(
     ensures suits { IfOk result (λ contents.
         EachIs (λ source content. Suits source.kind content)
         (map source_of sources.now) contents.items) }
+    ensures named { IfErr result (λ stop.
+        IsAmong (names_of (map source_of sources.now)) stop.name.now) }
     ensures cause { RaisedAt result (F.faults files.old) (F.faults files.new) }
 {
     let mut contents = Vec::new(alloc);

@@ -4,8 +4,8 @@ ghost use Rattle.std.specs.Prelude.{◌≡◌};
 ghost use Rattle.dev_io.specs.Buffer.{HandsOver};
 ghost use Rattle.source_files.specs.Reasons.{detail_text, number_text, item_text, field_text, line_at_text, reason_text};
 
-use crate::places::{put_number, put_place};
-use dev_io::{Out, OutBuffer};
+use crate::places::put_place;
+use dev_io::{Out, OutBuffer, put_number};
 use otio_model::Place;
 use sequences::Text;
 

@@ -1,3 +1,4 @@
 pub mod First
+pub mod KeyWords
 pub mod Lines
 pub mod ReelNames

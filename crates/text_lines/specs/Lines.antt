@@ -62,3 +62,8 @@ trimmed text = reverse (trimmed_front (reverse (trimmed_front text)))
 -- no space or tab stands at either end of the text
 abbrev pub IsTight : List ℕ → Type 0
 IsTight text = trimmed text ≡ text
+
+-- nothing stands on the line, or `#` stands first
+abbrev pub is_comment : List ℕ → Bool
+is_comment [] = true
+is_comment (b ∷ bytes) = b == 35

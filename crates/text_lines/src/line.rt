@@ -1,6 +1,6 @@
 // The lines of a text.
 ghost use Rattle.std.specs.Prelude.{◌≡◌, ◌<◌, ◌∷◌, [], length, MatchOption, IfSome};
-ghost use Rattle.text_lines.specs.Lines.{lines_of, without_return};
+ghost use Rattle.text_lines.specs.Lines.{lines_of, without_return, is_comment as is_comment_line};
 
 use crate::part::{after, before, first_byte};
 use crate::text::strip_back;
@@ -36,5 +36,15 @@ pub fn strip_return(line: &[u8]) -> &[u8]
     match strip_back(line, b"\r") {
         Some(front) => front,
         None => line,
+    }
+}
+
+/// Whether a line is a comment, empty or one that begins with `#`.
+pub fn is_comment(line: &[u8]) -> bool
+    ensures { result ≡ is_comment_line line.now }
+{
+    match line {
+        [] => true,
+        [first, ..] => *first == b'#',
     }
 }

@@ -1,11 +1,19 @@
 // Tests on a text: what it is, what it begins with, what it ends with.
 ghost use Rattle.std.specs.Prelude.{◌≡◌, ◌↔◌, ◌++◌, List, ℕ, IsTrue, MatchOption};
+ghost use Rattle.std.specs.Str.{bytes_eq};
 
 /// Whether the bytes are this text, byte by byte: letters in another case are other bytes.
 pub fn is_text(bytes: &[u8], text: &[u8]) -> bool
     ensures { IsTrue result ↔ (bytes.now ≡ text.now) }
 {
     bytes == text
+}
+
+/// Whether a word is this one, byte by byte, as a table of key words asks.
+pub fn is_word(word: &[u8], text: &[u8]) -> bool
+    ensures { result ≡ bytes_eq word.now text.now }
+{
+    word == text
 }
 
 /// What follows a text that the bytes begin with; none where they don't begin with it.

@@ -1,7 +1,7 @@
 //! Old objects of each kind, and what stands beside them.
 
 use crate::values::{are_the_same, value_of};
-use schema_rows::upgrade;
+use schema_up::upgrade;
 use std::alloc::{AllocError, Global};
 use std::process::Abort;
 use std::test::Fail;

@@ -28,3 +28,6 @@ pub mod RateBounds
 pub mod Negatives
 pub mod Exponents
 pub mod Holdings
+pub mod NearestEven
+pub mod RateWordLemmas
+pub mod FrameSpans

@@ -1,37 +1,23 @@
 -- A small power less so many places.
-use Rattle.std.proofs.Common.{◌≡◌, ℕ, ◌+◌, ◌<◌, ◌^◌, pos, ◌≤ℤ◌, ◌-ℤ◌, FitsSigned, arith}
+use Rattle.std.proofs.Common.{◌≡◌, ℕ, ◌<◌, ◌^◌, ℤ, pos, ◌≤ℤ◌, ◌-ℤ◌, Bool, true, false, FitsSigned, arith}
 use Rattle.std.proofs.lemmas.Int.{ints}
 use mir.Syntax.{w128}
-use mir.Val.{hbits}
+use Rattle.tick_time.specs.Numerals.{signed}
+use Rattle.tick_time.specs.Decimals.{scale}
 
-pub opposite_fits : (n : ℕ) → n < 1000 → FitsSigned w128 (pos 0 -ℤ pos n)
-opposite_fits n few = omega (arith, ints)
+-- an exponent less so many places
+pub offset_is : (down : Bool) (power places : ℕ) (e z : ℤ) → e ≡ signed down power → z ≡ pos places
+    → (e -ℤ z) ≡ scale down power places
+offset_is false power places e z h k = omega (arith, ints, h, k)
+offset_is true power places e z h k = omega (arith, ints, h, k)
 
-module _ (n places : ℕ) (few : n < 1000) (some : places < 2 ^ 64) where
-  pub down_fits : FitsSigned w128 ((pos 0 -ℤ pos n) -ℤ pos places)
-  down_fits = omega (arith, ints)
+module _ (e z : ℤ) (places : ℕ) (is : z ≡ pos places) (some : places < 2 ^ 64)
+    (low : (pos 0 -ℤ pos 1000) ≤ℤ e) (high : e ≤ℤ pos 1000) where
+  pub offset_fits : FitsSigned w128 (e -ℤ z)
+  offset_fits = omega (arith, ints)
 
-  pub up_fits : FitsSigned w128 (pos n -ℤ pos places)
-  up_fits = omega (arith, ints)
+  pub offset_low : (pos 0 -ℤ pos 36893488147419103232) ≤ℤ (e -ℤ z)
+  offset_low = omega (arith, ints)
 
-  pub down_low : (pos 0 -ℤ pos 36893488147419103232) ≤ℤ ((pos 0 -ℤ pos n) -ℤ pos places)
-  down_low = omega (arith, ints)
-
-  pub down_high : ((pos 0 -ℤ pos n) -ℤ pos places) ≤ℤ pos 1000
-  down_high = omega (arith, ints)
-
-  pub up_low : (pos 0 -ℤ pos 36893488147419103232) ≤ℤ (pos n -ℤ pos places)
-  up_low = omega (arith, ints)
-
-  pub up_high : (pos n -ℤ pos places) ≤ℤ pos 1000
-  up_high = omega (arith, ints)
-
-pub down_is : (n places : ℕ)
-    → ((pos 0 -ℤ pos n) -ℤ pos places) ≡ (pos 0 -ℤ pos (n + places))
-down_is n places = omega (arith, ints)
-
-pub places_small : (places : ℕ) → places < 2 ^ 64 → places < 2 ^ hbits w128
-places_small places some = omega arith
-
-pub places_fit : (places : ℕ) → places < 2 ^ 64 → FitsSigned w128 (pos places)
-places_fit places some = omega (arith, ints)
+  pub offset_high : (e -ℤ z) ≤ℤ pos 1000
+  offset_high = omega (arith, ints)

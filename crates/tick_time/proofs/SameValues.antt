@@ -1,11 +1,13 @@
--- A rate and a time are determined by their numbers.
-use Rattle.std.proofs.Common.{◌≡◌, ◌≤ℤ◌, ◌-ℤ◌, ◌*◌, ◌%◌, ℤ, pos, IsTrue, unsigned_abs, ap, subst, arith}
+-- Rates, times and spans are determined by their numbers.
+use Rattle.std.proofs.Common.{◌≡◌, ◌≤ℤ◌, ◌-ℤ◌, ◌*◌, ◌%◌, ℤ, pos, IsTrue, unsigned_abs, sym, ◌∙◌, ap, subst, arith}
 use Rattle.std.proofs.lemmas.Int.{ints}
 use Rattle.std.proofs.Props.{props}
 use Rattle.limits.specs.Limits.{most_ticks}
+use Rattle.tick_time.specs.Frames.{IsFrames}
 use Rattle.tick_time.specs.Rates.{IsLowest, per_millionth, is_rate, unit}
 use Rattle.tick_time.specs.Times.{IsWhole}
 use Rattle.tick_time.specs.declared.rates.Rate.{Rate}
+use Rattle.tick_time.specs.declared.spans.Span.{Span}
 use Rattle.tick_time.specs.declared.times.Time.{Time}
 
 -- what is known of a rate besides its fraction
@@ -71,3 +73,24 @@ time_built n r m s p q h k =
 -- two times are the same where their ticks and rates are
 pub same_time : (t u : Time) → t.ticks ≡ u.ticks → t.rate ≡ u.rate → t ≡ u
 same_time t u h k = time_built t.ticks t.rate u.ticks u.rate (time_facts t) (time_facts u) h k
+
+-- a count of frames of a rate is one time
+pub same_frames : (rate : Rate) (n : ℤ) (t u : Time) → IsFrames rate n t → IsFrames rate n u → t ≡ u
+same_frames rate n t u i j = same_time t u (i.ticks ∙ sym j.ticks) (i.kept ∙ sym j.kept)
+
+abbrev pub built_span : (start len : Time) → pos 0 ≤ℤ len.ticks → Span
+built_span start len f = record { start = start; len = len; forward = f }
+
+Forward-prop : (len : Time) → IsProp (pos 0 ≤ℤ len.ticks)
+Forward-prop len = hlevel props
+
+pub span_built : (a b c d : Time) (p : pos 0 ≤ℤ b.ticks) (q : pos 0 ≤ℤ d.ticks) → a ≡ c → b ≡ d
+    → built_span a b p ≡ built_span c d q
+span_built a b c d p q h k =
+    subst (λ (x : Time). built_span a b p ≡ built_span x d q) h
+    (subst (λ (y : Time). (f : pos 0 ≤ℤ y.ticks) → built_span a b p ≡ built_span a y f) k
+    (λ f. ap (built_span a b) (Forward-prop b p f)) q)
+
+-- two spans are the same where their starts and their lengths are
+pub same_span : (s t : Span) → s.start ≡ t.start → s.len ≡ t.len → s ≡ t
+same_span s t h k = span_built s.start s.len t.start t.len s.forward t.forward h k

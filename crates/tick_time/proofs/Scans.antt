@@ -1,5 +1,5 @@
 -- Where the digits at a text's front end, and what more digits do.
-use Rattle.std.proofs.Common.{◌≡◌, ℕ, zero, suc, ◌+◌, ◌<◌, ◌≤◌, ◌≢◌, Bool, true, false, List, [], ◌∷◌, ◌++◌, length, refl, sym, ◌∙◌, ap, arith, take, drop, get_or, append_assoc, ◌⊎◌, inl, inr}
+use Rattle.std.proofs.Common.{◌≡◌, ℕ, ◌+◌, ◌<◌, ◌≤◌, ◌≢◌, Bool, true, false, List, [], ◌∷◌, ◌++◌, length, refl, sym, ◌∙◌, ap, arith, take, drop, get_or, append_assoc, ◌⊎◌, inl, inr}
 use Rattle.std.specs.Prelude.{◌==◌}
 use Rattle.std.specs.Char.{digit_value, is_ascii_digit}
 use Rattle.std.specs.List.{prefix_len}
@@ -10,6 +10,7 @@ use Rattle.std.proofs.lemmas.Str.{digit_value_digit}
 use Rattle.std.proofs.lemmas.Str.Parse.{digit_from_value}
 use Rattle.std.proofs.lemmas.Int.Digits.{digits_value-lt}
 use Rattle.std.proofs.Math.Nat.{pow-le-pow_right}
+pub use Rattle.limits.proofs.ListLemmas.{count-none_or_more}
 use Rattle.tick_time.specs.Numerals.{after_zeros, significant, StopsDigits}
 use Rattle.tick_time.proofs.Pushes.{push, significant-le}
 
@@ -30,16 +31,12 @@ one_more true xs y e (inl none) = omega (arith, significant-le xs)
 one_more true xs y e (inr some) = let is : y ≡ 48 = grind (arith, nat_tests) in omega (arith, ((push xs y).zero_behind is some).1)
 one_more false xs y e _ = let ne : y ≢ 48 = grind (arith, nat_tests) in omega (arith, ((push xs y).other ne).1, significant-le xs)
 
-none_or_some : (n : ℕ) → (n ≡ 0) ⊎ (0 < n)
-none_or_some zero = inl refl
-none_or_some (suc n) = inr (omega arith)
-
 -- more digits leave no fewer significant ones
 pub significant_more : (xs ys : List ℕ) → significant xs ≤ significant (xs ++ ys)
 significant_more xs [] = rw append-nil (omega arith)
 significant_more xs (y ∷ ys) =
     let e : xs ++ (y ∷ ys) ≡ (xs ++ (y ∷ [])) ++ ys = sym (append_assoc xs (y ∷ []) ys) in
-    rw e (omega (arith, significant_more (xs ++ (y ∷ [])) ys, one_more (y == 48) xs y refl (none_or_some (length (after_zeros xs)))))
+    rw e (omega (arith, significant_more (xs ++ (y ∷ [])) ys, one_more (y == 48) xs y refl (count-none_or_more (length (after_zeros xs)))))
 
 pub front_long : (read ds : List ℕ) (i : ℕ) → i < length ds → 38 < significant ((read ++ take i ds) ++ (get_or ds i 0 ∷ [])) → 38 < significant (read ++ ds)
 front_long read ds i lt long =

@@ -7,3 +7,6 @@ pub mod Decimals
 pub mod Tallies
 pub mod Texts
 pub mod Frames
+pub mod FixedRates
+pub mod Rounding
+pub mod RateWords

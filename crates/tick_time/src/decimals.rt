@@ -5,7 +5,7 @@ ghost use Rattle.std.specs.Str.Parse.{AllDigits, digits_value};
 ghost use Rattle.tick_time.specs.Numerals.{Numeral, Spells, IsNumeral, IsSame, IsTooLong, fraction, Fraction, signed};
 ghost use Rattle.tick_time.specs.Decimals.{decimal_value, scale};
 
-use crate::digits::small_number;
+use crate::digits::number_of;
 use crate::faults::TimeFault;
 use crate::numerals::split_numeral;
 use crate::tallies::Tally;
@@ -58,6 +58,7 @@ impl Decimal {
 }
 
 // The power of ten that an exponent and so many decimals leave.
+#[tactic(auto, using(crate::proofs::Offsets::offset_is, crate::proofs::Offsets::offset_low, crate::proofs::Offsets::offset_high))]
 fn offset(down: bool, power: &[u8], places: usize) -> i128
     requires power { AllDigits 10 power.now }
     requires few { length power.now ≤ 3 }
@@ -65,12 +66,27 @@ fn offset(down: bool, power: &[u8], places: usize) -> i128
     ensures low { (pos 0 -ℤ pos 36893488147419103232) ≤ℤ result }
     ensures high { result ≤ℤ pos 1000 }
 {
-    let number = small_number(power);
-    if down {
-        -number - places as i128
-    } else {
-        number - places as i128
-    }
+    exponent_of(down, power) - place_count(places)
+}
+
+// An exponent of at most three digits, as a number.
+#[tactic(auto, using(crate::proofs::Scans::below_thousand))]
+fn exponent_of(down: bool, power: &[u8]) -> i128
+    requires power { AllDigits 10 power.now }
+    requires few { length power.now ≤ 3 }
+    ensures value { result ≡ signed down (digits_value 10 power.now) }
+    ensures low { (pos 0 -ℤ pos 1000) ≤ℤ result }
+    ensures high { result ≤ℤ pos 1000 }
+{
+    let number = i128::from(number_of(power));
+    if down { -number } else { number }
+}
+
+// How many decimals there are, as a number that can be taken off.
+fn place_count(places: usize) -> i128
+    ensures { result ≡ pos places }
+{
+    places as i128
 }
 
 // The decimal of these digits, with the zeros behind them, times a power of ten.

@@ -60,13 +60,13 @@ fn is_signed(text: &[u8]) -> bool
     ensures { IsTrue result ↔ IsSigned text.now }
 {
     match text {
-        [b'+' | b'-', digits @ ..] => are_digits(digits),
-        _ => are_digits(text),
+        [b'+' | b'-', digits @ ..] => are_some_digits(digits),
+        _ => are_some_digits(text),
     }
 }
 
 // Whether a text is one digit or more.
-fn are_digits(text: &[u8]) -> bool
+fn are_some_digits(text: &[u8]) -> bool
     ensures { IsTrue result ↔ AreDigits text.now }
 {
     let (digits, rest) = split_digits(text);

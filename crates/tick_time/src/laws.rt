@@ -1,6 +1,10 @@
 //! Laws of what is read again and of `==`, each on a function that makes the calls it speaks of.
 
-ghost use Rattle.std.specs.Prelude.{◌≡◌, ◌↔◌, IsTrue, IsOk, IfOk};
+ghost use Rattle.std.specs.Prelude.{◌≡◌, ◌↔◌, ◌≤◌, ℕ, ℤ, List, IsTrue, IsOk, IfOk};
+ghost use Rattle.tick_time.specs.Decimals.{IsHalfEven, IsNearestEven};
+ghost use Rattle.tick_time.specs.RateWords.{IsRateWord};
+ghost use Rattle.tick_time.specs.Rounding.{half_even, from_millionths};
+ghost use Rattle.tick_time.specs.declared.rates.Rate.{Rate as AnyRate};
 
 use crate::decimals::Decimal;
 use crate::faults::TimeFault;
@@ -59,3 +63,16 @@ pub fn equal_times(time: &Time, other: &Time) -> bool
 {
     *time == *other
 }
+
+/// Law: both ways to calculate a rounded number give the nearest whole number, and the even one of
+/// two. It does nothing.
+pub fn rounds_to_nearest()
+    ensures fraction { (a b : ℕ) → 1 ≤ b → IsNearestEven a b (half_even a b) }
+    ensures millionths { (z : ℤ) → IsHalfEven (record { top = z; bottom = 1000000 }) (from_millionths z) }
+{}
+
+/// Law: a word is at most one rate. It does nothing.
+pub fn one_rate()
+    ensures { (word : List ℕ) (one other : AnyRate) → IsRateWord word one →
+        IsRateWord word other → one ≡ other }
+{}

@@ -136,6 +136,7 @@ impl Rate {
     }
 
     /// The larger of two rates.
+    #[tactic(auto, using(crate::proofs::RateBounds::num_low, crate::proofs::RateBounds::first_larger, crate::proofs::RateBounds::second_larger))]
     pub(crate) fn larger(self, other: Rate) -> Rate
         ensures { result ≡ larger self other }
     {
@@ -155,18 +156,8 @@ fn unit_of(num: i64, den: i64) -> i128
     705_600_000_000 * i128::from(den) / i128::from(num)
 }
 
-/// The finest rate, whose unit is one tick.
-pub(crate) fn finest_rate() -> Rate
-    ensures num { result.num ≡ pos per_millionth }
-    ensures den { result.den ≡ pos 1 }
-{
-    Rate {
-        num: 705_600_000_000,
-        den: 1,
-    }
-}
-
 // A numerator times the other denominator.
+#[tactic(auto, using(crate::proofs::Products::cross_fits, crate::proofs::Products::cross_is))]
 fn cross(num: i64, den: i64) -> i128
     requires num_low { pos 1 ≤ℤ num }
     requires num_high { num ≤ℤ pos 705600000000 }
@@ -259,6 +250,7 @@ fn relative_text_of(num: i64) -> &'static str
 }
 
 // The millionths of a rate.
+#[tactic(auto, using(crate::proofs::Products::millionths_fit, crate::proofs::Products::millionths_small, crate::proofs::Products::millionths_are))]
 fn rate_size(num: i64, den: i64) -> i128
     requires num_low { pos 1 ≤ℤ num }
     requires num_high { num ≤ℤ pos 705600000000 }
@@ -271,6 +263,7 @@ fn rate_size(num: i64, den: i64) -> i128
 }
 
 // A million over a denominator.
+#[tactic(auto, using(crate::proofs::Products::over_is, crate::proofs::Products::over_fits, crate::proofs::Products::over_low, crate::proofs::Products::over_high))]
 fn million_over(den: i64) -> i128
     requires { pos 1 ≤ℤ den }
     ensures value { result ≡ pos (1000000 / unsigned_abs den) }

@@ -3,6 +3,7 @@
 ghost use Rattle.std.specs.Prelude.{◌≡◌, ℕ, ◌+◌, ◌*◌, ◌%◌, ◌^◌, ◌<◌, ◌≤◌, ℤ, pos, ◌-ℤ◌, ◌+ℤ◌, ◌≤ℤ◌, MatchOption};
 ghost use Rattle.tick_time.specs.Numerals.{signed};
 ghost use Rattle.tick_time.specs.Decimals.{decimal_value, raised, lowered, IsNearestEven, IsRounded, IsHuge, millionths_top};
+ghost use Rattle.tick_time.specs.Rounding as rounding;
 
 use crate::decimals::Decimal;
 use crate::tallies::power_of_ten;
@@ -99,18 +100,43 @@ fn lowered_size(digits: u128, shift: u128) -> u128
     }
 }
 
-// A fraction rounded half to even.
-fn half_even(top: u128, bottom: u128) -> u128
-    requires top { top < 100000000000000000000000000000000000000 }
+/// A fraction of numbers from 0 on, rounded to the nearest whole number, and to the even one of two.
+#[tactic(auto, using(crate::proofs::NearestEven::half_even_is_nearest))]
+pub fn half_even(top: u128, bottom: u128) -> u128
+    requires top { top ≤ 100000000000000000000000000000000000000 }
     requires positive { 1 ≤ bottom }
     requires bottom { bottom ≤ 100000000000000000000000000000000000000 }
-    ensures { IsNearestEven top bottom result }
+    ensures value { result ≡ rounding.half_even top bottom }
+    ensures nearest { IsNearestEven top bottom result }
 {
     let whole = top / bottom;
     let rest = top % bottom;
-    if 2 * rest > bottom || (2 * rest == bottom && whole % 2 == 1) {
-        whole + 1
+    if 2 * rest < bottom {
+        return whole;
+    }
+    if bottom < 2 * rest {
+        return whole + 1;
+    }
+    whole + whole % 2
+}
+
+// Whether a division by a million with this quotient and this rest is rounded down, half to even.
+fn is_rounded_down(quotient: i128, rest: i128) -> bool
+    ensures { result ≡ rounding.is_rounded_down quotient rest }
+{
+    rest < 500_000 || (rest <= 500_000 && quotient.unsigned_abs() % 2 == 0)
+}
+
+/// So many millionths, of either sign, as a whole number, rounded half to even.
+pub fn from_millionths(millionths: i128) -> i128
+    requires low { (pos 0 -ℤ pos 1000000000000000000) ≤ℤ millionths }
+    requires high { millionths ≤ℤ pos 1000000000000000000 }
+    ensures { result ≡ rounding.from_millionths millionths }
+{
+    let quotient = millionths.div_euclid(1_000_000);
+    if is_rounded_down(quotient, millionths.rem_euclid(1_000_000)) {
+        quotient
     } else {
-        whole
+        quotient + 1
     }
 }

@@ -11,7 +11,8 @@ ghost use Rattle.tick_time.specs.Times.{IsInRange, IsWhole};
 
 use crate::decimals::Decimal;
 use crate::faults::TimeFault;
-use crate::rates::{Rate, finest_rate};
+use crate::fixed_rates::finest_rate;
+use crate::rates::Rate;
 use crate::rounding::millionths;
 use crate::texts::millionths_text;
 use arrayvec::ArrayString;
@@ -53,6 +54,7 @@ impl Eq for Time {
 
 #[tactic(auto, using(crate::proofs::Wholes::wholes))]
 impl Time {
+    ghost use Rattle.tick_time.specs.Frames.{IsFrames, in_ticks};
     ghost use Rattle.tick_time.specs.Sums.{larger, IsNear, IsTimeOf, IsBeyond};
 
     /// The time of a value of a rate, a number of frames: its millionths, rounded half to even, are
@@ -78,7 +80,18 @@ impl Time {
         ensures fault { IfErr result (λ fault. (fault ≡ TimeFault.Range) ×
             (IsInRange (n *ℤ pos (frame rate.num rate.den)) → ⊥)) }
     {
-        time_of_ticks(frame_count_ticks(i128::from(n), rate.frame_ticks()), rate)
+        time_of_ticks(ticks_of_frames(n, &rate), rate)
+    }
+
+    /// The time of whole frames of the rate that lie at most a million seconds from 0.
+    pub fn of_frames(n: i64, rate: Rate) -> Time
+        requires range { IsInRange (in_ticks rate n) }
+        ensures { IsFrames rate n result }
+    {
+        match Time::frames(n, rate) {
+            Ok(time) => time,
+            Err(_) => unreachable!(),
+        }
     }
 
     /// The time of these ticks, at the rate where they are a whole number of its units, else at the
@@ -161,7 +174,15 @@ fn time_of_ticks(ticks: i128, rate: Rate) -> Result<Time, TimeFault>
     }
 }
 
-// The ticks of so many frames.
+// The ticks of so many frames of a rate.
+fn ticks_of_frames(n: i64, rate: &Rate) -> i128
+    ensures { result ≡ n *ℤ pos (frame rate.now.num rate.now.den) }
+{
+    frame_count_ticks(i128::from(n), rate.frame_ticks())
+}
+
+// So many times the ticks of a frame.
+#[tactic(auto, using(crate::proofs::Products::frames_fit))]
 fn frame_count_ticks(count: i128, piece: i128) -> i128
     requires low { (pos 0 -ℤ pos 10000000000000000000) ≤ℤ count }
     requires high { count ≤ℤ pos 10000000000000000000 }
@@ -173,6 +194,7 @@ fn frame_count_ticks(count: i128, piece: i128) -> i128
 }
 
 // The ticks of so many units of a rate.
+#[tactic(auto, using(crate::proofs::Products::units_fit))]
 fn unit_ticks(units: i128, rate: &Rate) -> i128
     requires { unsigned_abs units ≤ 1000000000000000000000000 }
     ensures { result ≡ units *ℤ pos (unit rate.now.num rate.now.den) }

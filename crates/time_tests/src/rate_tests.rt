@@ -1,7 +1,6 @@
 //! Words and the rates that they are.
 
-use smpte_tc::rate_of;
-use tick_time::Rate;
+use tick_time::{Rate, rate_of};
 
 // The fraction of a rate.
 fn fraction_of(rate: Rate) -> (i64, i64) {

@@ -2,10 +2,10 @@
 
 use crate::word_tests::{Wanted, asks, is_refused};
 use command_words::{Command, Flattening, Joining, ToolAsked, TrackKind, Window};
-use smpte_tc::{RecordPoint, rate_of};
+use smpte_tc::RecordPoint;
 use std::alloc::Global;
 use std::process::Abort;
-use tick_time::Rate;
+use tick_time::{Rate, rate_of};
 
 // `tool` without an option.
 fn plain_tool() -> ToolAsked {

@@ -265,67 +265,44 @@ const LISTS: [(&str, i64, bool, bool); 5] = [
     ("convert --from edl --to edl x.edl", 24, false, false),
 ];
 
-// That a line asks for a list of a list, at a rate of this numerator.
-fn asks_for_list(rt: &impl Abort, alloc: Global, line: &str, num: i64, drop: bool, wide: bool) {
-    asks(rt, alloc, line, &Wanted::List(num, drop, wide));
-}
-
 #[test]
 fn lines_ask_for_lists(rt: HostRuntime) {
     for &(line, num, drop, wide) in LISTS.iter() {
-        asks_for_list(&rt, rt.alloc(), line, num, drop, wide);
+        asks(&rt, rt.alloc(), line, &Wanted::List(num, drop, wide));
     }
 }
 
-// That a line asks for a list of a timeline, with this media list.
-fn asks_for_timeline_as_list(
-    rt: &impl Abort,
-    alloc: Global,
-    line: &str,
-    drop: bool,
-    wide: bool,
-    media: Option<&str>,
-) {
-    asks(rt, alloc, line, &Wanted::TimelineToList(drop, wide, media));
-}
-
-#[test]
-fn lines_ask_for_timelines_as_lists(rt: HostRuntime) {
-    let alloc = rt.alloc();
-    asks_for_timeline_as_list(&rt, alloc, "convert --to edl x.otio", false, false, None);
-    asks_for_timeline_as_list(&rt, alloc, "convert -o l.edl x", false, false, None);
-    asks_for_timeline_as_list(
-        &rt,
-        alloc,
-        "convert --from otio --to edl a.edl",
-        false,
-        false,
-        None,
-    );
-    asks_for_timeline_as_list(
-        &rt,
-        alloc,
+/// Lines that ask for a list of a timeline: whether in drop-frame, whether wide, and with which
+/// media list.
+const TIMELINE_LISTS: [(&str, bool, bool, Option<&str>); 6] = [
+    ("convert --to edl x.otio", false, false, None),
+    ("convert -o l.edl x", false, false, None),
+    ("convert --from otio --to edl a.edl", false, false, None),
+    (
         "convert --wide --to edl a.json --media m",
         false,
         true,
         Some("m"),
-    );
-    asks_for_timeline_as_list(
-        &rt,
-        alloc,
-        "convert --media - x -o .edl --drop",
-        true,
-        false,
-        Some("-"),
-    );
-    asks_for_timeline_as_list(
-        &rt,
-        alloc,
+    ),
+    ("convert --media - x -o .edl --drop", true, false, Some("-")),
+    (
         "convert --rate 25 --to edl --drop x --wide",
         true,
         true,
         None,
-    );
+    ),
+];
+
+#[test]
+fn lines_ask_for_timelines_as_lists(rt: HostRuntime) {
+    for &(line, drop, wide, media) in TIMELINE_LISTS.iter() {
+        asks(
+            &rt,
+            rt.alloc(),
+            line,
+            &Wanted::TimelineToList(drop, wide, media),
+        );
+    }
 }
 
 /// Lines that ask for a JSON text.
@@ -421,37 +398,40 @@ fn lines_ask_for_objects_and_outputs(rt: HostRuntime) {
     asks(&rt, alloc, "convert -o l.edl a.edl", &Wanted::AnyList);
 }
 
-// That a line asks for the frames of a timeline.
-fn asks_for_frames(
-    rt: &impl Abort,
-    alloc: Global,
-    line: &str,
-    child: Option<u64>,
-    start: Option<RecordPoint>,
-    count: Option<u32>,
-) {
-    let asked = FramesAsked {
-        child,
-        start,
-        count,
-    };
+/// Lines that ask for frames: of which child, from which point on, and how many.
+const FRAMES: [(&str, Option<u64>, Option<RecordPoint>, Option<u32>); 5] = [
+    ("frames -", None, None, None),
+    ("frames --child 0 x.otio", Some(0), None, None),
+    ("frames x --count 1000000", None, None, Some(1_000_000)),
+    (
+        "frames --start 86442 --count 1 -o y x",
+        None,
+        Some(RecordPoint::Frame(86_442)),
+        Some(1),
+    ),
+    (
+        "frames --output l.edl x --start 99:00:00;00 --child 999999999999999999",
+        Some(999_999_999_999_999_999),
+        Some(RecordPoint::Label(*b"99:00:00;00")),
+        None,
+    ),
+];
+
+// That a line asks for these frames of a timeline.
+fn asks_for_frames(rt: &impl Abort, alloc: Global, line: &str, asked: FramesAsked) {
     asks(rt, alloc, line, &Wanted::This(Command::Frames(asked)));
 }
 
 #[test]
 fn lines_ask_for_frames(rt: HostRuntime) {
-    let alloc = rt.alloc();
-    asks_for_frames(&rt, alloc, "frames -", None, None, None);
-    asks_for_frames(&rt, alloc, "frames --child 0 x.otio", Some(0), None, None);
-    let most = Some(1_000_000);
-    asks_for_frames(&rt, alloc, "frames x --count 1000000", None, None, most);
-    let line = "frames --start 86442 --count 1 -o y x";
-    let start = Some(RecordPoint::Frame(86_442));
-    asks_for_frames(&rt, alloc, line, None, start, Some(1));
-    let line = "frames --output l.edl x --start 99:00:00;00 --child 999999999999999999";
-    let child = Some(999_999_999_999_999_999);
-    let start = Some(RecordPoint::Label(*b"99:00:00;00"));
-    asks_for_frames(&rt, alloc, line, child, start, None);
+    for &(line, child, start, count) in FRAMES.iter() {
+        let asked = FramesAsked {
+            child,
+            start,
+            count,
+        };
+        asks_for_frames(&rt, rt.alloc(), line, asked);
+    }
 }
 
 /// Lines that ask for no frames.
@@ -493,47 +473,31 @@ fn other_lines_ask_for_no_frames(rt: HostRuntime) {
     }
 }
 
-// That a line asks for a script's edits: of a list at a rate of this numerator, or of a timeline.
-fn asks_for_edit(
-    rt: &impl Abort,
-    alloc: Global,
-    line: &str,
-    num: Option<i64>,
-    script: &str,
-    media: Option<&str>,
-) {
-    asks(rt, alloc, line, &Wanted::Edit(num, script, media));
-}
-
-#[test]
-fn lines_ask_for_edits(rt: HostRuntime) {
-    let alloc = rt.alloc();
-    asks_for_edit(&rt, alloc, "edit --script s x.otio", None, "s", None);
-    asks_for_edit(
-        &rt,
-        alloc,
-        "edit x --script - --media m",
-        None,
-        "-",
-        Some("m"),
-    );
-    asks_for_edit(
-        &rt,
-        alloc,
+/// Lines that ask for a script's edits: of a list at a rate of which numerator, or of a timeline,
+/// with which script and which media list.
+const EDITS: [(&str, Option<i64>, &str, Option<&str>); 5] = [
+    ("edit --script s x.otio", None, "s", None),
+    ("edit x --script - --media m", None, "-", Some("m")),
+    (
         "edit --script s --media - --rate 25 -o y x",
         None,
         "s",
         Some("-"),
-    );
-    asks_for_edit(&rt, alloc, "edit a.edl --script s", Some(24), "s", None);
-    asks_for_edit(
-        &rt,
-        alloc,
+    ),
+    ("edit a.edl --script s", Some(24), "s", None),
+    (
         "edit --rate 29.97 --media m --script a.edl b.edl",
         Some(30_000),
         "a.edl",
         Some("m"),
-    );
+    ),
+];
+
+#[test]
+fn lines_ask_for_edits(rt: HostRuntime) {
+    for &(line, num, script, media) in EDITS.iter() {
+        asks(&rt, rt.alloc(), line, &Wanted::Edit(num, script, media));
+    }
 }
 
 /// Lines that ask for no edits.
@@ -563,55 +527,42 @@ fn other_lines_ask_for_no_edits(rt: HostRuntime) {
     }
 }
 
-// That a line asks for a list that is conformed, with this media list.
-fn asks_for_conformed_list(
-    rt: &impl Abort,
-    alloc: Global,
-    line: &str,
-    num: i64,
-    listed: bool,
-    media: Option<&str>,
-) {
-    asks(rt, alloc, line, &Wanted::Conformed(num, listed, media));
-}
-
-#[test]
-fn lines_ask_for_conformed_lists(rt: HostRuntime) {
-    let alloc = rt.alloc();
-    asks_for_conformed_list(&rt, alloc, "convert a.edl", 24, false, None);
-    asks_for_conformed_list(
-        &rt,
-        alloc,
+/// Lines that ask for a list that is conformed: at a rate of which numerator, whether its frames
+/// are listed, and with which media list.
+const CONFORMED: [(&str, i64, bool, Option<&str>); 6] = [
+    ("convert a.edl", 24, false, None),
+    (
         "convert --to otio --media m a.edl --drop",
         24,
         false,
         Some("m"),
-    );
-    asks_for_conformed_list(
-        &rt,
-        alloc,
+    ),
+    (
         "convert --from edl --rate 25 --media - x -o y",
         25,
         false,
         Some("-"),
-    );
-    asks_for_conformed_list(
-        &rt,
-        alloc,
-        "convert --from edl - --media m",
-        24,
-        false,
-        Some("m"),
-    );
-    asks_for_conformed_list(&rt, alloc, "frames a.edl", 24, true, None);
-    asks_for_conformed_list(
-        &rt,
-        alloc,
+    ),
+    ("convert --from edl - --media m", 24, false, Some("m")),
+    ("frames a.edl", 24, true, None),
+    (
         "frames --rate 29.97 --media m a.edl",
         30_000,
         true,
         Some("m"),
-    );
+    ),
+];
+
+#[test]
+fn lines_ask_for_conformed_lists(rt: HostRuntime) {
+    for &(line, num, listed, media) in CONFORMED.iter() {
+        asks(
+            &rt,
+            rt.alloc(),
+            line,
+            &Wanted::Conformed(num, listed, media),
+        );
+    }
 }
 
 #[test]
@@ -712,40 +663,20 @@ fn clap_refuses_the_words(rt: HostRuntime) {
     is_taken(&rt, rt.alloc(), "convert -o - x");
 }
 
-// That a line asks for a drill of this seed and this count.
-fn asks_for_drill(
-    rt: &impl Abort,
-    alloc: Global,
-    line: &str,
-    seed: u64,
-    count: u32,
-    target: Option<&str>,
-) {
-    asks(rt, alloc, line, &Wanted::Drill(seed, count, target));
-}
+/// Lines that ask for a drill: its seed, its count, and its output.
+const DRILLS: [(&str, u64, u32, Option<&str>); 5] = [
+    ("drill 0 0", 0, 0, None),
+    ("drill 18446744073709551615 10000", u64::MAX, 10_000, None),
+    ("drill -o out.txt 7 2000", 7, 2_000, Some("out.txt")),
+    ("drill 7 --output - 1", 7, 1, Some("-")),
+    ("drill -- 24 5", 24, 5, None),
+];
 
 #[test]
 fn lines_ask_for_drills(rt: HostRuntime) {
-    let alloc = rt.alloc();
-    asks_for_drill(&rt, alloc, "drill 0 0", 0, 0, None);
-    asks_for_drill(
-        &rt,
-        alloc,
-        "drill 18446744073709551615 10000",
-        u64::MAX,
-        10_000,
-        None,
-    );
-    asks_for_drill(
-        &rt,
-        alloc,
-        "drill -o out.txt 7 2000",
-        7,
-        2_000,
-        Some("out.txt"),
-    );
-    asks_for_drill(&rt, alloc, "drill 7 --output - 1", 7, 1, Some("-"));
-    asks_for_drill(&rt, alloc, "drill -- 24 5", 24, 5, None);
+    for &(line, seed, count, target) in DRILLS.iter() {
+        asks(&rt, rt.alloc(), line, &Wanted::Drill(seed, count, target));
+    }
 }
 
 /// Lines that ask for no drill.

@@ -38,10 +38,7 @@ fn keep(patches: &mut Vec<Patch>, patch: Patch)
     requires { vec_len patches.old < vec_capacity patches.old }
     ensures items { patches.new.items ≡ patches.old.items ++ patch ∷ [] }
 {
-    match patches.push(patch) {
-        Ok(()) => {}
-        Err(_) => unreachable!(),
-    }
+    patches.push(patch).unwrap();
 }
 
 impl Log {

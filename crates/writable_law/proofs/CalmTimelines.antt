@@ -1,9 +1,11 @@
--- A timeline that a value stands for is writable, the transitions of a writable one stand where
--- they may, and what is written of it stands for it.
-use Rattle.std.proofs.Common.{◌≡◌, ◌||◌, ℕ, Bool, true, false, List, [], ◌∷◌, Option, Some, None}
+-- A timeline that was read is writable, the transitions of a writable one stand where they may, and
+-- what is written of it reads back as that timeline.
+use Rattle.std.proofs.Common.{◌≡◌, ℕ, Bool, true, false, List, [], ◌∷◌, Option, Some, None}
 use Rattle.std.proofs.Common.{refl, sym, ap, subst, ◌∙◌}
 use Rattle.std.specs.Prelude.{slice_get, option_and_then}
 use Rattle.std.specs.List.{list_any}
+pub use Rattle.std.proofs.lemmas.Bool.{or_from as none_of}
+pub use Rattle.schema_write.proofs.OldLemmas.{timeline_out}
 use Rattle.otio_model.specs.declared.compositions.ItemOf.{ItemOf}
 use Rattle.otio_model.specs.declared.compositions.StackOf.{StackOf}
 use Rattle.otio_model.specs.declared.compositions.TrackOf.{TrackOf}
@@ -24,12 +26,8 @@ use Rattle.object_law.proofs.Contents.{read_is_writable}
 use Rattle.object_law.proofs.PatchedTimelines.{item_in}
 use Rattle.object_law.proofs.Writables.{object_given}
 use Rattle.object_law.proofs.OldWritten.{object_old}
-use Rattle.schema_rows.specs.Upgrades.{upgraded}
+use Rattle.schema_up.specs.Upgrades.{upgraded}
 use Rattle.schema_write.specs.OldForms.{HasOldForm}
-
-pub none_of : (a b : Bool) → a ≡ false → b ≡ false → (a || b) ≡ false
-none_of true b p q = p
-none_of false b p q = q
 
 pub stack_items : (s : StackOf Listed) → W.IsStack s → W.AreItems (items_of s.children)
 stack_items s (W.stack_of _ o effects markers none items) = items
@@ -129,18 +127,14 @@ stands_calm t value object u s e = timeline_calm t (stands_writable t value obje
 
 -- ---- what is written
 
-pub timeline_out : (t : Timeline) → out-Object (ObjectOfTimeline t) ≡ Object-F.Timeline t
-unfolding roll-Object denote.Hole.Carrier.roll out-Object denote.Hole.Carrier.out
-timeline_out t = refl
-
--- what is written of a writable timeline in the older family, where it has a form there, and then
--- upgraded stands for it
+-- what is written of a writable timeline in the older family, where it has a form there, reads back
+-- as that timeline once it is upgraded
 pub stands_old : (t : Timeline) → W.IsTimeline t → HasOldForm (ObjectOfTimeline t)
     → Stands (upgraded (old_json_of (ObjectOfTimeline t))) (ObjectOfTimeline t)
 stands_old t h free = object_old (ObjectOfTimeline t)
     (W.timeline (ObjectOfTimeline t) t (timeline_out t) h) free
 
--- what is written of a writable timeline stands for it
+-- what is written of a writable timeline reads back as that timeline
 pub stands_again : (t : Timeline) → W.IsTimeline t
     → Stands (json_of (ObjectOfTimeline t)) (ObjectOfTimeline t)
 stands_again t h =

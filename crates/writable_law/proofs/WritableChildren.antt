@@ -3,6 +3,7 @@ use Rattle.std.proofs.Common.{◌≡◌, refl, sym, ap, subst, ◌||◌, ◌&&�
 use Rattle.std.proofs.Common.{ℤ, pos, ◌-ℤ◌, List, [], ◌∷◌, ◌++◌, Some, arith}
 use Rattle.std.specs.Prelude.{int_le}
 use Rattle.std.proofs.lemmas.Int.{ints}
+use Rattle.std.proofs.lemmas.Bool.{and_parts as both_true}
 use Rattle.tick_time.specs.declared.rates.Rate.{Rate}
 use Rattle.tick_time.specs.declared.spans.Span.{Span}
 use Rattle.tick_time.specs.Times.{IsSpeed, is_speed}
@@ -116,10 +117,6 @@ third false true true e = refl
 third false true false e = absurd (cc e)
 third false false c e = absurd (cc e)
 third true b c e = absurd (cc e)
-
-both_true : (a b : Bool) → (a && b) ≡ true → (a ≡ true) × (b ≡ true)
-both_true true b e = (refl, e)
-both_true false b e = absurd (cc e)
 
 speed_is : (n : ℤ) → is_speed n ≡ true → IsSpeed n
 speed_is n e =

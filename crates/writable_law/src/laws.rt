@@ -15,7 +15,7 @@ ghost use Rattle.edits.specs.Cuts.{back};
 ghost use Rattle.edits.specs.Edits.{fitted};
 ghost use Rattle.edits.specs.Refusals.{is_wrong_fit};
 ghost use Rattle.schema_rows.specs.Stands.{Stands};
-ghost use Rattle.schema_rows.specs.Upgrades.{upgraded};
+ghost use Rattle.schema_up.specs.Upgrades.{upgraded};
 ghost use Rattle.schema_write.specs.Objects.{json_of, old_json_of};
 ghost use Rattle.schema_write.specs.OldForms.{HasOldForm};
 ghost use Rattle.object_law.specs.Writable.{IsUpgraded, AreItems, IsItem, IsTimeline};

@@ -5,8 +5,8 @@ use Rattle.drill.proofs.clips.clips.Goals as goal
 
 pub clips-preserved : goal.clips-preserved
 clips-preserved c =
-    one_made c.args.count c.clips.index c.args.generator.now.state c.clips.generator.state
-    c.clip.new.generator.state c.clips.made.items c.push.new.self.items c.in_ok-item.item
+    one_made c.args.count c.clips.index c.args.random.now.state c.clips.random.state
+    c.clip.new.random.state c.clips.made.items c.push.new.self.items c.in_ok-item.item
     c.clips-test.true c.clips.invariant c.in_ok-item.ensures.clip c.in_ok-item.ensures.state
     c.in_ok-push.ensures.items
 
@@ -14,6 +14,6 @@ pub returns-clause-clips : goal.returns-clause-clips
 returns-clause-clips c =
     let n = c.clips.index in
     let same : n ≡ c.args.count = omega (arith, c.clips-test.false, c.clips.auto.index-end) in
-    all_made c.args.count c.args.generator.now.state c.clips.generator.state c.clips.made.items
-    (subst (λ i. AreMade c.args.count i c.args.generator.now.state c.clips.generator.state
+    all_made c.args.count c.args.random.now.state c.clips.random.state c.clips.made.items
+    (subst (λ i. AreMade c.args.count i c.args.random.now.state c.clips.random.state
     c.clips.made.items) same c.clips.invariant)

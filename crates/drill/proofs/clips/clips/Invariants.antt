@@ -3,4 +3,4 @@ use Rattle.drill.proofs.clips.clips.Given as goal
 
 abbrev pub invariant-clips : goal.invariant-clips
 invariant-clips l =
-    AreMade l.count l.index l.fn.generator.state l.generator.state l.made.items
+    AreMade l.count l.index l.fn.random.state l.random.state l.made.items

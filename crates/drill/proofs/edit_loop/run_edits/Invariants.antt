@@ -4,5 +4,5 @@ use Rattle.drill.proofs.edit_loop.run_edits.Given as goal
 
 abbrev pub invariant-edits : goal.invariant-edits
 invariant-edits l =
-    HasDrilled (Some l.media) l.index l.fn.generator.state l.generator.state l.accepted l.fn.log
-    l.fn.timeline l.log l.timeline
+    HasDrilled (Some l.media) l.index l.fn.random.state l.random.state l.accepted l.fn.edited.log
+    l.fn.edited.timeline l.edited.log l.edited.timeline

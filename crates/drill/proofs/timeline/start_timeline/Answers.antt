@@ -6,7 +6,7 @@ use Rattle.drill.proofs.timeline.start_timeline.Goals as goal
 pub returns-clause-timeline : goal.returns-clause-timeline
 returns-clause-timeline c =
     let of = c.of-2.ensures in
-    started c.args.generator.now.state c.of-2.result c.start.result c.in_ok-items.items
+    started c.args.random.now.state c.of-2.result c.start.result c.in_ok-items.items
     c.in_ok-track.field-0 c.in_ok-tracks.tracks c.start.ensures c.in_ok-items.ensures.clips
     c.in_ok-track.ensures c.in_ok-tracks.ensures (of.metadata ∙ c.new-metadata.ensures)
     (of.name ∙ c.in_ok-name.ensures) of.global_start_time of.tracks
@@ -14,4 +14,4 @@ returns-clause-timeline c =
 
 pub returns-clause-editable : goal.returns-clause-editable
 returns-clause-editable c =
-    start_editable c.args.generator.now.state c.of-2.result (returns-clause-timeline c)
+    start_editable c.args.random.now.state c.of-2.result (returns-clause-timeline c)

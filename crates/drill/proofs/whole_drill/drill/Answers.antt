@@ -8,7 +8,7 @@ go_through-requires-clause-ready c =
 
 pub returns-in-Ok-clause-drill : goal.returns-in-Ok-clause-drill
 returns-in-Ok-clause-drill c =
-    has_drilled c.args.seed c.args.count _ c.in_ok-timeline.timeline c.go_through.new.timeline
-    c.new-log.result c.go_through.new.log _
+    has_drilled c.args.seed c.args.count _ c.in_ok-timeline.timeline c.go_through.new.edited.timeline
+    c.new-log.result c.go_through.new.edited.log _
     c.in_ok-timeline.ensures.timeline c.in_ok-timeline.ensures.state c.new-log.ensures.past
     c.new-log.ensures.future c.in-Ok.ensures.gone

@@ -1,35 +1,36 @@
-use Rattle.std.proofs.Common.{arith, of_z, refl, to_z}
-use mir.Syntax.{w64}
-use Rattle.std.proofs.lemmas.Int.{ints}
+use Rattle.std.proofs.Common.{refl, [], ◌∙◌}
+use Rattle.std.proofs.lemmas.Int.{to_z-of_z}
 use Rattle.otio_model.specs.declared.edit_types.Edit.TheVariants as A
 use Rattle.edits.specs.Refusals.{at_once}
-use Rattle.edit_ops.proofs.Kept.{begun_at}
-use Rattle.edit_ops.proofs.Maps.{fault_start, plan_start}
+use Rattle.edit_ops.proofs.Answering.{answer-refused}
+use Rattle.edit_ops.proofs.Counting.{slice-counted}
+use Rattle.edit_ops.proofs.Kept.{taken-at_frame}
 use Rattle.edit_ops.proofs.list_edits.plan_slice.Goals as goal
 
-pub slice_at-requires-clause-begun : goal.slice_at-requires-clause-begun
-slice_at-requires-clause-begun c = (
-  c.args.at,
-  begun_at _ _ (to_z w64 (of_z w64 c.args.at))
-      c.args.at _ _ c.in-Ok.ensures.begun
-      (omega (arith, ints, c.ranges.at)),
+pub plan_cuts-requires-clause-there : goal.plan_cuts-requires-clause-there
+plan_cuts-requires-clause-there c = c.in-Ok.ensures.held.begun.there
+
+pub plan_cuts-requires-clause-rate : goal.plan_cuts-requires-clause-rate
+plan_cuts-requires-clause-rate c =
+    c.slot_from-slot.ensures.rate ∙ c.in-Ok.ensures.held.begun.counts
+
+pub plan_cuts-requires-clause-edit : goal.plan_cuts-requires-clause-edit
+plan_cuts-requires-clause-edit c = (
+  A.Slice c.args.place c.args.at,
+  [],
+  slice-counted c.args.timeline.now c.args.place c.args.at _ _ _ _ _ _ _ _ _
+      (taken-at_frame c.args.at c.ranges.at c.in-Ok.ensures.held) c.slot_from-slot.ensures.from
+      c.slot_from-slot.ensures.to c.slot_from-slot.ensures.ticks c.new.ensures.items,
 )
 
-pub returns-in-Ok-clause-plan : goal.returns-in-Ok-clause-plan
-returns-in-Ok-clause-plan c =
-    plan_start _ c.args.timeline.now c.args.place _ _ c.args.at
-    (λ at. A.Slice c.args.place at) c.slice_at.ensures.plan
-    (begun_at _ _ (to_z w64 (of_z w64 c.args.at)) c.args.at _ _ c.in-Ok.ensures.begun
-    (omega (arith, ints, c.ranges.at)))
+pub returns-in-Ok : goal.returns-in-Ok
+returns-in-Ok c = c.plan_cuts.ensures _ _
+    (slice-counted c.args.timeline.now c.args.place c.args.at _ _ _ _ _ _ _ _ _
+    (taken-at_frame c.args.at c.ranges.at c.in-Ok.ensures.held) c.slot_from-slot.ensures.from
+    c.slot_from-slot.ensures.to c.slot_from-slot.ensures.ticks c.new.ensures.items)
 
-pub returns-in-Ok-clause-fault : goal.returns-in-Ok-clause-fault
-returns-in-Ok-clause-fault c =
-    fault_start _ c.args.timeline.now c.args.place _ _ c.args.at
-    (λ at. A.Slice c.args.place at) c.slice_at.ensures.fault
-    (begun_at _ _ (to_z w64 (of_z w64 c.args.at)) c.args.at _ _ c.in-Ok.ensures.begun
-    (omega (arith, ints, c.ranges.at)))
-
-pub returns-in-Err-clause-fault : goal.returns-in-Err-clause-fault
-returns-in-Err-clause-fault c = λ free. at_once (c.in-Err.ensures.fault
-    (A.Slice c.args.place c.args.at) refl
-    (omega (arith, ints, c.ranges.at)))
+pub returns-in-Err : goal.returns-in-Err
+returns-in-Err c =
+    let at = c.ranges.at in
+    answer-refused _ _ _ (λ _. at_once ((simp to_z-of_z at c.in-Err.ensures.fault)
+    (A.Slice c.args.place c.args.at) refl refl refl))

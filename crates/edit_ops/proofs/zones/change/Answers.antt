@@ -6,7 +6,17 @@ use Rattle.edit_ops.proofs.zones.change.Goals as goal
 
 pub returns : goal.returns
 returns c =
-    change_as c.args.total c.args.from c.args.ticks c.args.to (to_z w128 (of_z w128 c.args.total))
-    (to_z w128 (of_z w128 c.args.to)) c.ticks_before.result _ c.ticks_before.ensures.value
-    (omega (arith, ints, c.ranges.total)) (omega (arith, ints, c.ranges.to))
-    (omega (arith, ints, c.ranges.from, c.ranges.ticks, c.ticks_before.ensures.low))
+    let q = c.args.slot in
+    change_as c.args.total q.from q.ticks q.to (to_z w128 (of_z w128 c.args.total))
+    (to_z w128 (of_z w128 q.to)) c.ticks_before.result _ c.ticks_before.ensures.value
+    (omega (arith, ints, c.ranges.total))
+    (omega (arith, ints, q.from_low, q.forward, q.to_high))
+    (omega (
+      arith,
+      ints,
+      q.from_low,
+      q.from_high,
+      q.low,
+      q.high,
+      c.ticks_before.ensures.low,
+    ))

@@ -10,10 +10,10 @@ returns-in-Err-clause-fault c =
     misfit_in M.Fit c.args.item (to_z w128 (of_z w128 c.args.room)) c.args.room c.in-Err.fault
     (omega (arith, ints, c.ranges.room)) c.in-Err.ensures.fault
 
-pub returns-in-Ok-sized-clause-made : goal.returns-in-Ok-sized-clause-made
-returns-in-Ok-sized-clause-made c =
-    fit_as c.args.item c.in-Ok.fast c.in-Ok-sized.made c.args.room
+pub returns-in-Ok-made-clause-made : goal.returns-in-Ok-made-clause-made
+returns-in-Ok-made-clause-made c =
+    fit_as c.args.item c.in-Ok.fast c.in-Ok-made.made c.args.room
     (to_z w128 (of_z w128 c.args.room)) (to_z w128 (of_z w128 c.args.room))
     (to_z w128 (of_z w128 c.start_ticks-start.result)) c.args.rate c.in-Ok.ensures.right
     c.in-Ok.ensures.made (omega (arith, ints, c.ranges.room)) (omega (arith, ints, c.ranges.room))
-    (omega (arith, ints, c.start_ticks-start.ensures.value)) c.in-Ok-sized.ensures
+    (omega (arith, ints, c.start_ticks-start.ensures.value)) c.in-Ok-made.ensures

@@ -1,4 +1,4 @@
--- The children behind the index up to there are transitions.
+-- The children after the index up to there are transitions.
 use Rattle.otio_model.specs.Trees.{items_of}
 use Rattle.edit_plans.proofs.Beside.{Skipped}
 use Rattle.edit_plans.proofs.neighbours.after_item.Given as goal

@@ -1,6 +1,6 @@
 use Rattle.std.proofs.Common.{arith}
 use Rattle.std.proofs.lemmas.Int.{ints}
-use Rattle.edit_plans.proofs.ZoneLemmas.{short_all, front_far, back_far, between_made}
+use Rattle.edit_plans.proofs.ZoneLemmas.{short_all, front_far, between_made}
 use Rattle.edit_plans.proofs.replaced_children.between.Goals as goal
 
 pub front_items-requires-clause-short : goal.front_items-requires-clause-short
@@ -8,17 +8,14 @@ front_items-requires-clause-short c = short_all c.args.list.now c.requires.fault
 
 pub returns-in-Err-clause-far : goal.returns-in-Err-clause-far
 returns-in-Err-clause-far c = λ e n.
-    front_far c.args.list.now c.args.from c.args.to _ (c.in-Err.ensures.far e)
-    (omega (arith, ints, c.ranges.from)) n
-
-pub returns-in-Err-back_items-clause-far : goal.returns-in-Err-back_items-clause-far
-returns-in-Err-back_items-clause-far c = λ e n.
-    back_far c.args.list.now c.args.from c.args.to _ (c.in-Err-back_items.ensures.far e)
-    (omega (arith, ints, c.ranges.to)) n
+    let z = c.args.zone in
+    front_far c.args.list.now z.from z.to _ (c.in-Err.ensures.far e)
+    (omega (arith, ints, z.low, z.forward, z.high)) n
 
 pub returns-in-Ok-joined-clause-made : goal.returns-in-Ok-joined-clause-made
 returns-in-Ok-joined-clause-made c =
-    between_made c.args.rate c.args.list.now c.args.from c.args.to _ _ c.in-Ok.front.items
+    let z = c.args.zone in
+    between_made c.args.rate c.args.list.now z.from z.to _ _ c.in-Ok.front.items
     c.args.put.items c.in-Ok-back_items.back.items c.in-Ok-joined.all.items c.in-Ok.ensures.made
-    c.in-Ok-back_items.ensures.made c.in-Ok-joined.ensures (omega (arith, ints, c.ranges.from))
-    (omega (arith, ints, c.ranges.to))
+    c.in-Ok-back_items.ensures c.in-Ok-joined.ensures
+    (omega (arith, ints, z.low, z.forward, z.high)) (omega (arith, ints, z.low, z.forward, z.high))

@@ -3,9 +3,11 @@ use mir.Syntax.{w128}
 use Rattle.std.proofs.lemmas.Int.{ints}
 use Rattle.otio_model.specs.Trees.{items_of}
 use Rattle.otio_model.proofs.LengthLimits.{few_enough}
-use Rattle.edit_plans.proofs.ZoneLemmas.{kept_more, kept_less, kept_end, kept_faultless}
+use Rattle.pieces.proofs.StripLemmas.{near_start}
+use Rattle.edit_plans.proofs.ZoneLemmas.{kept_more, kept_less, kept_end, kept_faultless, kept_long}
+use Rattle.edit_plans.proofs.ZoneLemmas.{kept_near}
 use Rattle.edit_plans.proofs.replaced_children.kept.Goals as goal
-use Rattle.edit_plans.proofs.replaced_children.kept.Goals.{then-not-is_stripped+in_ok-copy+in_ok-push}
+use Rattle.edit_plans.proofs.replaced_children.kept.Goals.{then-not-is_stripped+in_ok-add_copy}
 use Rattle.edit_plans.proofs.replaced_children.kept.Goals.{else-not-is_stripped}
 
 pub overflow_add-index-end : goal.overflow_add-index-end
@@ -14,8 +16,10 @@ overflow_add-index-end c =
 
 pub is_stripped-requires-clause-high : goal.is_stripped-requires-clause-high
 is_stripped-requires-clause-high c =
-    let high = c.children.invariant.is.high in
-    omega (arith, ints, few_enough c.args.children.now c.requires.few, c.requires.there, high)
+    let few = few_enough c.args.children.now c.requires.few in
+    near_start _ c.children.kept.items _ _ _ _ _ c.children.invariant.is
+    (kept_long (items_of c.args.children.now) c.args.stretch.at c.args.stretch.count
+    c.requires.faultless (omega (arith, few, c.requires.there)))
 
 pub sound_ticks-start-requires : goal.sound_ticks-start-requires
 sound_ticks-start-requires c =
@@ -23,15 +27,19 @@ sound_ticks-start-requires c =
 
 pub overflow_add-start : goal.overflow_add-start
 overflow_add-start c =
+    let few = few_enough c.args.children.now c.requires.few in
+    let near = kept_near (items_of c.args.children.now) c.children.kept.items c.args.stretch.at
+    c.args.stretch.count c.children.index _ _ _ _ c.child-item.result.now c.children.invariant
+    (omega arith) c.child-item.ensures
+    (kept_long (items_of c.args.children.now) c.args.stretch.at c.args.stretch.count
+    c.requires.faultless (omega (arith, few, c.requires.there))) in
     let low = c.children.invariant.is.low in
-    let high = c.children.invariant.is.high in
     omega (
       arith,
       ints,
-      few_enough c.args.children.now c.requires.few,
-      c.requires.there,
+      near,
       low,
-      high,
+      c.sound_ticks-start.ensures.value,
       c.sound_ticks-start.ensures.low,
       c.sound_ticks-start.ensures.high,
     )
@@ -39,31 +47,28 @@ overflow_add-start c =
 pub children-preserved : goal.children-preserved
 children-preserved c =
     let few = few_enough c.args.children.now c.requires.few in
+    let near = kept_near (items_of c.args.children.now) c.children.kept.items c.args.stretch.at
+    c.args.stretch.count c.children.index _ _ _ _ c.child-item.result.now c.children.invariant
+    (omega arith) c.child-item.ensures
+    (kept_long (items_of c.args.children.now) c.args.stretch.at c.args.stretch.count
+    c.requires.faultless (omega (arith, few, c.requires.there))) in
     let low = c.children.invariant.is.low in
-    let high = c.children.invariant.is.high in
     elim c.if-not-is_stripped.branch [
-      | then-not-is_stripped+in_ok-copy+in_ok-push w ↦
+      | then-not-is_stripped+in_ok-add_copy w ↦
           kept_more (items_of c.args.children.now) c.children.kept.items
           c.if-not-is_stripped.kept.items _ _ c.children.index _ _
           (to_z w128 c.children.start-bits) (to_z w128 c.if-not-is_stripped.start-bits)
-          c.child-item.result.now w.in_ok-copy.copy c.is_stripped.result c.children.invariant
+          c.child-item.result.now c.is_stripped.result c.children.invariant
           (omega arith) c.child-item.ensures c.is_stripped.ensures w.if-not-is_stripped.true
-          w.in_ok-copy.ensures (ap vec_items w.kept-is ∙ w.in_ok-push.ensures.items)
+          (ap vec_items w.kept-is ∙ w.in_ok-add_copy.ensures)
           (omega (
             arith,
             ints,
-            few,
-            c.requires.there,
+            near,
             low,
-            high,
             w.start-is,
             w.sound_ticks-start.ensures.value,
-            w.sound_ticks-start.ensures.high,
-          ))
-          (omega (
-            arith,
-            ints,
-            w.sound_ticks-start.ensures.value,
+            w.sound_ticks-start.ensures.low,
             w.sound_ticks-start.ensures.high,
           ))
       | else-not-is_stripped w ↦
@@ -77,8 +82,8 @@ children-preserved c =
 
 pub returns-clause-faultless : goal.returns-clause-faultless
 returns-clause-faultless c =
-    kept_faultless (items_of c.args.children.now) c.children.kept.items c.args.number c.args.at
-    c.args.from c.args.to c.requires.faultless
-    (kept_end (items_of c.args.children.now) c.children.kept.items c.args.at c.args.number
-    c.children.index _ _ c.args.from c.args.to _ c.children.invariant (omega arith)
-    (omega (arith, ints, c.ranges.from)) (omega (arith, ints, c.ranges.to)))
+    kept_faultless (items_of c.args.children.now) c.children.kept.items c.args.stretch.count
+    c.args.stretch.at c.args.from c.args.to c.requires.faultless
+    (kept_end (items_of c.args.children.now) c.children.kept.items c.args.stretch.at
+    c.args.stretch.count c.children.index _ _ c.args.from c.args.to _ c.children.invariant
+    (omega arith) (omega (arith, ints, c.ranges.from)) (omega (arith, ints, c.ranges.to)))

@@ -1,4 +1,4 @@
--- What is passed, and what is to be asked.
+-- What is passed, and what is still to be tested.
 use Rattle.std.proofs.Common.{drop}
 use Rattle.otio_model.specs.Trees.{items_of}
 use Rattle.edit_plans.proofs.Passing.{Passing}

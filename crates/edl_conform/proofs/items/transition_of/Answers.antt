@@ -14,7 +14,7 @@ returns c =
       metadata = c.new.ensures;
       name = c.empty.ensures;
       kind = refl;
-      before = (c.frames.result, refl, c.frames.ensures);
-      after = (c.frames-2.result, refl, subst (λ n. IsFrames c.args.rate n c.frames-2.result) cast c.frames-2.ensures);
+      before = (c.of_frames.result, refl, c.of_frames.ensures);
+      after = (c.of_frames-2.result, refl, subst (λ n. IsFrames c.args.rate n c.of_frames-2.result) cast c.of_frames-2.ensures);
       rest = c.new-2.ensures;
     }

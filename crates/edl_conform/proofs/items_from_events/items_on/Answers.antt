@@ -11,8 +11,8 @@ use Rattle.edl_conform.proofs.items_from_events.items_on.Goals.{then-is_on+in_ok
 pub events-preserved : goal.events-preserved
 events-preserved c =
     let e = c.event-item.result in
-    let rate = c.args.rate in
-    let media = option_copied c.args.media in
+    let rate = c.args.media.now.rate in
+    let media = option_copied c.args.media.now.rows in
     let first = to_z w64 (of_z w64 c.args.first) in
     let at = to_z w64 c.events.at-bits in
     let all = on_channel c.args.channel c.args.events.now in
@@ -35,11 +35,11 @@ events-preserved c =
 
 pub returns : goal.returns
 returns c =
-    let media = option_copied c.args.media in
+    let media = option_copied c.args.media.now.rows in
     let b = c.ranges.first in
     let first : to_z w64 (of_z w64 c.args.first) ≡ c.args.first = omega (arith, ints, b) in
     let all = on_channel c.args.channel c.args.events.now in
-    subst (λ z. AreItems c.args.rate media None z all c.events.items.items) first
-    (step_end c.args.rate media (to_z w64 (of_z w64 c.args.first)) (to_z w64 c.events.at-bits)
+    subst (λ z. AreItems c.args.media.now.rate media None z all c.events.items.items) first
+    (step_end c.args.media.now.rate media (to_z w64 (of_z w64 c.args.first)) (to_z w64 c.events.at-bits)
     c.args.channel all c.args.events.now c.events.event-index (option_copied c.events.before)
     c.events.items.items c.events-test.false c.events.invariant)

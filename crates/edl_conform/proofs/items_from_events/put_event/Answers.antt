@@ -15,27 +15,28 @@ item_of-requires-clause-lasts c =
     let e = c.args.event.now in
     let a : FitsSigned w64 e.rec_out = search rules in
     let b : FitsSigned w64 e.rec_in = search rules in
-    subst (λ n. IsInRange (n *ℤ pos (frame c.args.rate.num c.args.rate.den)))
-    (sym (kept_length c.args.rate e.rec_in e.rec_out b a c.requires.event.long))
+    subst (λ n. IsInRange (n *ℤ pos (frame c.args.media.now.rate.num c.args.media.now.rate.den)))
+    (sym (kept_length c.args.media.now.rate e.rec_in e.rec_out b a c.requires.event.long))
     c.requires.event.long.range
 
 pub returns : goal.returns
 returns c =
     let e = c.args.event.now in
-    let rate = c.args.rate in
-    let media = option_copied c.args.media in
+    let rate = c.args.media.now.rate in
+    let media = option_copied c.args.media.now.rows in
     let a : FitsSigned w64 e.rec_out = search rules in
     let b : FitsSigned w64 e.rec_in = search rules in
     let cast = kept_length rate e.rec_in e.rec_out b a c.requires.event.long in
     let from : to_z w64 (of_z w64 e.rec_in) ≡ e.rec_in = omega (arith, ints, b) in
-    let at_in = c.ranges.at in
-    let at : to_z w64 (of_z w64 c.args.at) ≡ c.args.at = omega (arith, ints, at_in) in
+    let at_in : FitsSigned w64 c.args.reached.now.at = search rules in
+    let at : to_z w64 (of_z w64 c.args.reached.now.at) ≡ c.args.reached.now.at =
+    omega (arith, ints, at_in) in
     let old = c.args.items.now.items in
     let spaced = c.put_space.new.items.items in
-    adds_event rate media (option_copied c.args.before) c.args.at e c.in_ok-item.item old spaced
+    adds_event rate media (option_copied c.args.reached.now.before) c.args.reached.now.at e c.in_ok-item.item old spaced
     c.put_lead.new.items.items c.push.new.self.items
     (subst (λ z. AddsSpace rate z e.rec_in old spaced) at
-    (subst (λ z. AddsSpace rate (to_z w64 (of_z w64 c.args.at)) z old spaced) from
+    (subst (λ z. AddsSpace rate (to_z w64 (of_z w64 c.args.reached.now.at)) z old spaced) from
     c.in_ok-put_space.ensures))
     c.in_ok-put_lead.ensures
     (subst (λ n. IsItem rate media e.to n c.in_ok-item.item) cast c.in_ok-item.ensures)

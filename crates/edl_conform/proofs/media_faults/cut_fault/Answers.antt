@@ -1,4 +1,4 @@
-use Rattle.std.proofs.Common.{◌≡◌, ◌∙◌, to_z, of_z, arith}
+use Rattle.std.proofs.Common.{◌≡◌, ◌∙◌, to_z, of_z, arith, rules, FitsSigned}
 use Rattle.std.specs.Int.{w64}
 use Rattle.std.specs.Option.{option_copied}
 use Rattle.std.proofs.lemmas.Int.{ints}
@@ -8,12 +8,12 @@ use Rattle.edl_conform.proofs.media_faults.cut_fault.Goals as goal
 pub returns : goal.returns
 returns c =
     let row = c.reel_row-row.ensures.row in
-    let n = c.args.frames in
-    let side = c.args.side.now in
-    let fits = c.ranges.frames in
+    let n = c.args.to.now.frames in
+    let side = c.args.to.now.side.now in
+    let fits : FitsSigned w64 n = search rules in
     let frames : to_z w64 (of_z w64 n) ≡ n = omega (arith, ints, fits) in
-    let media = option_copied c.args.media in
-    let rate = c.args.rate in
+    let media = option_copied c.args.media.now.rows in
+    let rate = c.args.media.now.rate in
     c.first_reason.ensures
     ∙ same_reason c.args.line _ _ _ _ _ _
     (of_one _ _ _ (c.is_unlisted.ensures n) c.alone.ensures)

@@ -8,7 +8,7 @@ returns-in-Some c =
     let e = c.event-item.result in
     let all = c.args.events.now in
     let i = c.events.event-index in
-    found c.args.rate (option_copied c.args.media) all (drop i all) (drop (i + 1) all) e
+    found c.args.media.now.rate (option_copied c.args.media.now.rows) all (drop i all) (drop (i + 1) all) e
     c.in-Some.fault (next_at all i e c.events-test.true c.event-item.is)
     (sym c.event_fault.ensures ∙ c.in-Some.is) c.events.invariant
 
@@ -17,6 +17,6 @@ events-preserved c =
     let e = c.event-item.result in
     let all = c.args.events.now in
     let i = c.events.event-index in
-    passes c.args.rate (option_copied c.args.media) all (drop i all) (drop (i + 1) all) e
+    passes c.args.media.now.rate (option_copied c.args.media.now.rows) all (drop i all) (drop (i + 1) all) e
     (next_at all i e c.events-test.true c.event-item.is)
     (sym c.event_fault.ensures ∙ c.in-None.is) c.events.invariant

@@ -5,5 +5,5 @@ use Rattle.edl_conform.proofs.media_faults.first_fault.Given as goal
 
 abbrev pub invariant-events : goal.invariant-events
 invariant-events l =
-    first_fault l.rate (option_copied l.media) (drop l.event-index l.events)
-    ≡ first_fault l.rate (option_copied l.media) l.events
+    first_fault l.media.rate (option_copied l.media.rows) (drop l.event-index l.events)
+    ≡ first_fault l.media.rate (option_copied l.media.rows) l.events

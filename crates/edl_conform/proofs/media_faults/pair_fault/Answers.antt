@@ -1,4 +1,4 @@
-use Rattle.std.proofs.Common.{◌≡◌, ◌∙◌, to_z, of_z, arith}
+use Rattle.std.proofs.Common.{◌≡◌, ◌∙◌, to_z, of_z, arith, rules, FitsSigned}
 use Rattle.std.specs.Int.{w64}
 use Rattle.std.specs.Option.{option_copied}
 use Rattle.std.proofs.lemmas.Int.{ints}
@@ -7,16 +7,16 @@ use Rattle.edl_conform.proofs.media_faults.pair_fault.Goals as goal
 
 pub returns : goal.returns
 returns c =
-    let media = option_copied c.args.media in
-    let rate = c.args.rate in
+    let media = option_copied c.args.media.now.rows in
+    let rate = c.args.media.now.rate in
     let to_row = c.reel_row-to_row.ensures.row in
     let from_row = c.reel_row-from_row.ensures.row in
-    let to = c.args.to.now in
-    let from = c.args.from.now in
-    let n = c.args.to_frames in
-    let m = c.args.from_frames in
-    let fits_to = c.ranges.to_frames in
-    let fits = c.ranges.from_frames in
+    let to = c.args.to.now.side.now in
+    let from = c.args.from.now.side.now in
+    let n = c.args.to.now.frames in
+    let m = c.args.from.now.frames in
+    let fits_to : FitsSigned w64 n = search rules in
+    let fits : FitsSigned w64 m = search rules in
     let last : to_z w64 (of_z w64 n) ≡ n = omega (arith, ints, fits_to) in
     let first : to_z w64 (of_z w64 m) ≡ m = omega (arith, ints, fits) in
     c.first_reason.ensures

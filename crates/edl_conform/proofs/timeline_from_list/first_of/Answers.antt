@@ -4,7 +4,7 @@ use Rattle.std.specs.Prelude.{AllPairs}
 use Rattle.std.proofs.lemmas.Int.{ints}
 use Rattle.edl_list.specs.Formed.{AreInOrder}
 use Rattle.edl_frames.specs.Conformed.{first_record}
-use Rattle.edl_conform.proofs.EventRanges.{first_is}
+use Rattle.edl_law.proofs.EventRanges.{first_is}
 use Rattle.edl_conform.proofs.timeline_from_list.first_of.Goals as goal
 
 pub returns : goal.returns

@@ -77,7 +77,7 @@ returns-clause-items t c =
     let set = c.number.ensures.items
     ∙ spot_set _ _ _ _ _ c.mend.new.self y s c.index_mut-piece.ensures.value m.same in
     rw set (outer _ _ (λ l. listed
-    (replaced c.args.at c.args.count c.args.list.now.items (items_of l)))
+    (replaced c.args.stretch.at c.args.stretch.count c.args.list.now.items (items_of l)))
     w c.children_mut.ensures.value c.replace_at.ensures.items)
 
 pub returns-clause-taken : goal.returns-clause-taken

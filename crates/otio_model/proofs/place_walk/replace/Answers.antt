@@ -18,7 +18,7 @@ number-requires c =
         c.requires.there,
         c.requires.room.fits,
         ap length same,
-        length_replaced c.args.at c.args.count c.args.list.now.items xs
+        length_replaced c.args.stretch.at c.args.stretch.count c.args.list.now.items xs
             (omega (arith, c.requires.there, ap length same)),
         ap length c.replace_pieces.ensures.items,
         c.args.list.now.ok,
@@ -43,7 +43,7 @@ invariant_of-children c =
         arith,
         c.requires.there,
         ap length same,
-        length_replaced c.args.at c.args.count c.args.list.now.items xs
+        length_replaced c.args.stretch.at c.args.stretch.count c.args.list.now.items xs
             (omega (arith, c.requires.there, ap length same)),
         ap length c.number.ensures.items,
         ap length c.replace_pieces.ensures.items,
@@ -58,5 +58,5 @@ invariant_of-children c =
 pub returns-clause-items : goal.returns-clause-items
 returns-clause-items c =
     ap listed (c.number.ensures.items ∙ c.replace_pieces.ensures.items
-    ∙ ap (replaced c.args.at c.args.count c.args.list.now.items)
+    ∙ ap (replaced c.args.stretch.at c.args.stretch.count c.args.list.now.items)
     (sym (shown _ _ c.children.view_is)))

@@ -2,6 +2,7 @@ use Rattle.std.proofs.Common.{length, subst, sym, ◌∙◌}
 use Rattle.std.specs.Option.{option_copied}
 use Rattle.otio_tools.specs.Several.{AreInputs, named_inputs, names_now}
 use Rattle.otio_tools.proofs.SeveralFiles.{are_inputs, each_joining, each_some, names_length, parts_editable, stop_calm, stopped_held, worked_held}
+use Rattle.otio_tools.proofs.Reporting.{unopened_among}
 use Rattle.otio_tools.proofs.cat_and_tool.judged_several.Goals as goal
 
 pub parted_inputs-inputs-requires : goal.parted_inputs-inputs-requires
@@ -61,3 +62,8 @@ pub returns-in-Err-clause-calm : goal.returns-in-Err-clause-calm
 returns-in-Err-clause-calm c = λ n.
     stop_calm (option_copied c.as_ref.result) (named_inputs (names_now c.args.names.now)
     c.parted_inputs-inputs.result.0.items) c.in-Err.stop n c.in-Err.ensures.stopped
+
+pub returns-in-Err-clause-named : goal.returns-in-Err-clause-named
+returns-in-Err-clause-named c =
+    unopened_among (option_copied c.as_ref.result) (names_now c.args.names.now)
+    c.parted_inputs-inputs.result.0.items c.in-Err.stop c.in-Err.ensures.stopped

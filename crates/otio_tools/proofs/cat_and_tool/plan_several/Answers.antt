@@ -5,6 +5,7 @@ use Rattle.otio_tools.specs.Asked.{input_named, media_source}
 use Rattle.otio_tools.specs.Several.{names_now}
 use Rattle.otio_tools.specs.Texts.{text_at}
 use Rattle.otio_tools.proofs.SeveralFiles.{several_planned, several_stopped}
+use Rattle.otio_tools.proofs.Reporting.{several_named, several_unread}
 use Rattle.otio_tools.proofs.cat_and_tool.plan_several.Goals as goal
 
 pub returns-in-Ok-read_sources-clause-told : goal.returns-in-Ok-read_sources-clause-told
@@ -33,3 +34,23 @@ returns-clause-told g c = λ target.
     c.as_slice-2.ensures.value)
     (c.in-Ok.ensures ∙ ap (λ n. c.args.name.now ∷ names_now n) c.as_slice.ensures.value)
     c.in-Err.ensures.stopped
+
+pub returns-in-Ok-read_sources-clause-named : goal.returns-in-Ok-read_sources-clause-named
+returns-in-Ok-read_sources-clause-named g c =
+    several_named c.args.command c.args.name.now (other_names c.args.others)
+    (names_now c.in-Ok.names.items) c.judged_several.result c.requires.several
+    c.requires.scripted
+    (c.in-Ok.ensures ∙ ap (λ n. c.args.name.now ∷ names_now n) c.as_slice.ensures.value)
+    (rw c.as_slice-in-Ok-read_sources.ensures.value at c.judged_several.ensures.named)
+
+pub returns-clause-named : goal.returns-clause-named
+returns-clause-named g c =
+    let media = text_at c.args.others.media in
+    several_unread c.args.command c.args.name.now (other_names c.args.others)
+    (map source_of c.as_slice-3.result.now) (names_now c.in-Ok.names.items)
+    c.in-Err.stop.name.now c.requires.several c.requires.scripted
+    (ap (map source_of) c.as_slice-3.ensures.value ∙ c.in-Ok-sources_of.ensures
+    ∙ ap (λ n. map (input_named c.args.command) (names_now n) ++ media_source media)
+    c.as_slice-2.ensures.value)
+    (c.in-Ok.ensures ∙ ap (λ n. c.args.name.now ∷ names_now n) c.as_slice.ensures.value)
+    c.in-Err.ensures.named

@@ -9,6 +9,7 @@ use Rattle.otio_tools.proofs.PullWords.{few_handles}
 use Rattle.otio_tools.proofs.Working.{leaves_usage, no_edit, scripted}
 use Rattle.otio_tools.specs.Run.{streams}
 use Rattle.otio_tools.specs.declared.Status.TheVariants.{Usage}
+use Rattle.otio_tools.proofs.Reporting.{drill_reported}
 use Rattle.otio_tools.proofs.command.run.Goals as goal
 
 -- ---- words that ask for nothing
@@ -199,3 +200,23 @@ returns-in-Err-Memory-clause-drilled g c =
     unread_drills words all c.complain_of_memory.result c.args.desk.now
     c.complain_of_memory.ensures.status c.requires.empty
     (stays_same (g.W.Out.known c.args.out.now)) c.complain_of_memory.ensures.message
+
+-- ---- the messages
+
+pub returns-in-Ok-OnFiles-clause-reported : goal.returns-in-Ok-OnFiles-clause-reported
+returns-in-Ok-OnFiles-clause-reported g c =
+    let words = map (λ w. string_bytes w) c.args.words.now.items in
+    c.serve.ensures.reported words (task_is _ _ _ c.in-Ok-OnFiles.field-0-is
+    (rw c.as_slice.ensures.value at c.in-Ok-OnFiles.ensures))
+
+pub returns-in-Ok-Drill-clause-reported : goal.returns-in-Ok-Drill-clause-reported
+returns-in-Ok-Drill-clause-reported g c =
+    let words = map (λ w. string_bytes w) c.args.words.now.items in
+    drill_reported words _ _ _ _ _ _ c.serve_drill.result _ c.serve_drill.ensures
+
+pub returns-in-Err-Usage-clause-reported : goal.returns-in-Err-Usage-clause-reported
+returns-in-Err-Usage-clause-reported g c = c.say.ensures
+
+pub returns-in-Err-Memory-clause-reported : goal.returns-in-Err-Memory-clause-reported
+returns-in-Err-Memory-clause-reported g c =
+    rw c.complain_of_memory.ensures.status c.complain_of_memory.ensures.message

@@ -3,6 +3,7 @@ use Rattle.otio_tools.proofs.RunEnds.{carried, carried_still, carried_calm, neve
 use Rattle.otio_tools.proofs.Working.{leaves, untouched}
 use Rattle.std.proofs.Common.{◌∙◌}
 use Rattle.otio_tools.specs.Texts.{text_at}
+use Rattle.otio_tools.proofs.Reporting.{carried_reported}
 use Rattle.otio_tools.proofs.command.serve.Goals as goal
 
 pub returns-clause-ends : goal.returns-clause-ends
@@ -43,3 +44,10 @@ returns-clause-calm g c =
     carried_calm (text_at c.args.request.target) _ _ _ c.plan-planned.result c.carry_out.result
     c.plan-planned.ensures.cause
     c.carry_out.ensures.carried
+
+pub returns-clause-reported : goal.returns-clause-reported
+returns-clause-reported g c = λ words asked.
+    carried_reported words c.args.request.command c.args.request.name.now
+    (other_names c.args.request.others) (text_at c.args.request.target) _ _ _
+    c.plan-planned.result c.carry_out.result asked c.plan-planned.ensures.named
+    c.plan-planned.ensures.cause c.carry_out.ensures.carried

@@ -1,4 +1,5 @@
 use Rattle.otio_tools.proofs.Editing.{edit_halted, edit_unopened}
+use Rattle.std.proofs.Common.{inl, inr, refl}
 use Rattle.otio_tools.proofs.planning.edited.Goals as goal
 
 pub returns-in-Err-run_script-clause-told : goal.returns-in-Err-run_script-clause-told
@@ -11,3 +12,9 @@ pub returns-in-Err-clause-told : goal.returns-in-Err-clause-told
 returns-in-Err-clause-told c = λ command named contents parts.
     edit_unopened command c.args.name.now c.args.script.now named contents c.args.content
     c.args.commands _ c.in-Err.refusal parts c.in-Err.ensures.refused
+
+pub returns-in-Err-run_script-clause-named : goal.returns-in-Err-run_script-clause-named
+returns-in-Err-run_script-clause-named c = inr refl
+
+pub returns-in-Err-clause-named : goal.returns-in-Err-clause-named
+returns-in-Err-clause-named c = inl refl

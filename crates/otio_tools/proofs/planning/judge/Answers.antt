@@ -1,39 +1,12 @@
-use Rattle.std.proofs.Common.{Ok, refl, ap}
+use Rattle.std.proofs.Common.{ap}
 use Rattle.source_files.specs.declared.file_kinds.Content.TheVariants as content
 use Rattle.otio_tools.specs.Asked.{kind_of}
 use Rattle.otio_tools.specs.Plan.{media_content}
-use Rattle.otio_tools.specs.declared.planning.Planned.TheVariants as planned
-use Rattle.otio_tools.proofs.PlanLemmas.{again_as, held_as, media_is, objects_as, suits_of_list}
+use Rattle.otio_tools.proofs.PlanLemmas.{held_as, media_is, objects_as, suits_of_list}
 use Rattle.otio_tools.proofs.planning.judge.Goals as goal
-
-pub list_again-requires : goal.list_again-requires
-list_again-requires c = (_, rw c.in-ListToList.is at c.requires.suits)
 
 pub list_to_objects-requires : goal.list_to_objects-requires
 list_to_objects-requires c = (_, rw c.in-ListToObjects.is at c.requires.suits)
-
-pub returns-in-ListToList-clause-owed : goal.returns-in-ListToList-clause-owed
-returns-in-ListToList-clause-owed c = λ file more.
-    again_as c.args.command _ _ _ _ c.args.content (media_content c.args.media) file more
-    c.list_again.result c.in-ListToList.is c.list_again.ensures.owed
-
-pub returns-in-ToObjects-clause-owed : goal.returns-in-ToObjects-clause-owed
-returns-in-ToObjects-clause-owed c = λ file more.
-    held_as c.args.command _ c.args.content (content.Root c.object_in.result)
-    (media_content c.args.media) file more c.object_to_write.result
-    c.in-ToObjects.is c.object_in.ensures (c.object_to_write.ensures.owed file.name)
-
-pub returns-in-ToJson-clause-owed : goal.returns-in-ToJson-clause-owed
-returns-in-ToJson-clause-owed c = λ file more.
-    held_as c.args.command _ c.args.content (content.Value c.value_in.result)
-    (media_content c.args.media) file more (Ok (planned.Value c.value_in.result))
-    c.in-ToJson.is c.value_in.ensures (λ target. refl)
-
-pub returns-in-LogToMedia-clause-owed : goal.returns-in-LogToMedia-clause-owed
-returns-in-LogToMedia-clause-owed c = λ file more.
-    held_as c.args.command _ c.args.content (content.Rows c.rows_in.result)
-    (media_content c.args.media) file more (Ok (planned.Media c.rows_in.result))
-    c.in-LogToMedia.is c.rows_in.ensures (λ target. refl)
 
 pub returns-in-TimelineToList-clause-owed : goal.returns-in-TimelineToList-clause-owed
 returns-in-TimelineToList-clause-owed c = λ file more.
@@ -41,12 +14,6 @@ returns-in-TimelineToList-clause-owed c = λ file more.
     (media_content c.args.media) file more c.timeline_to_list.result
     c.in-TimelineToList.is c.timeline_in.ensures
     (rw (media_is c.args.media) (c.timeline_to_list.ensures.owed file.name))
-
-pub returns-in-Frames-clause-owed : goal.returns-in-Frames-clause-owed
-returns-in-Frames-clause-owed c = λ file more.
-    held_as c.args.command _ c.args.content (content.Film c.timeline_in-in-Frames.result)
-    (media_content c.args.media) file more c.frames_to_write.result
-    c.in-Frames.is c.timeline_in-in-Frames.ensures (c.frames_to_write.ensures.owed file.name)
 
 pub returns-in-ListToObjects-clause-owed : goal.returns-in-ListToObjects-clause-owed
 returns-in-ListToObjects-clause-owed c = λ file more.
@@ -64,12 +31,6 @@ returns-in-ListFrames-clause-owed c = λ file more.
     c.in-ListFrames.is c.list_in.ensures
     (rw (media_is c.args.media) (c.conformed_frames_to_write.ensures.owed file.name))
 
-pub returns-in-Stat-clause-owed : goal.returns-in-Stat-clause-owed
-returns-in-Stat-clause-owed c = λ file more.
-    held_as c.args.command _ c.args.content (content.Film c.timeline_in-in-Stat.result)
-    (media_content c.args.media) file more c.counts_to_write.result
-    c.in-Stat.is c.timeline_in-in-Stat.ensures (c.counts_to_write.ensures.owed file.name)
-
 pub returns-in-ListStat-clause-owed : goal.returns-in-ListStat-clause-owed
 returns-in-ListStat-clause-owed c = λ file more.
     held_as c.args.command _ c.args.content (content.Events c.list_in-in-ListStat.result)
@@ -77,18 +38,9 @@ returns-in-ListStat-clause-owed c = λ file more.
     c.in-ListStat.is c.list_in-in-ListStat.ensures
     (rw (media_is c.args.media) (c.conformed_counts_to_write.ensures.owed file.name))
 
-pub pull_to_write-requires-clause-handles : goal.pull_to_write-requires-clause-handles
-pull_to_write-requires-clause-handles c = rw c.in-Pull.is at c.requires.handles
-
 pub conformed_pull_to_write-requires-clause-handles
     : goal.conformed_pull_to_write-requires-clause-handles
 conformed_pull_to_write-requires-clause-handles c = rw c.in-ListPull.is at c.requires.handles
-
-pub returns-in-Pull-clause-owed : goal.returns-in-Pull-clause-owed
-returns-in-Pull-clause-owed c = λ file more.
-    held_as c.args.command _ c.args.content (content.Film c.timeline_in-in-Pull.result)
-    (media_content c.args.media) file more c.pull_to_write.result
-    c.in-Pull.is c.timeline_in-in-Pull.ensures (c.pull_to_write.ensures.owed file.name)
 
 pub returns-in-ListPull-clause-owed : goal.returns-in-ListPull-clause-owed
 returns-in-ListPull-clause-owed c = λ file more.
@@ -96,3 +48,7 @@ returns-in-ListPull-clause-owed c = λ file more.
     (media_content c.args.media) file more c.conformed_pull_to_write.result
     c.in-ListPull.is c.list_in-in-ListPull.ensures
     (rw (media_is c.args.media) (c.conformed_pull_to_write.ensures.owed file.name))
+
+pub returns-in_default-clause-owed : goal.returns-in_default-clause-owed
+returns-in_default-clause-owed c = λ file more.
+    c.judge_alone.ensures.owed file more (media_content c.args.media)

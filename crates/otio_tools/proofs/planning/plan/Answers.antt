@@ -3,6 +3,10 @@ use Rattle.dev_io.specs.Calls.{Tells}
 use Rattle.command_words.specs.Asked.{other_names}
 use Rattle.otio_tools.specs.Plan.{Plans}
 use Rattle.otio_tools.proofs.SeveralFiles.{asked_as}
+use Rattle.std.proofs.Common.{IfErr, None}
+use Rattle.source_files.specs.Order.{IsAmong}
+use Rattle.source_files.specs.Reading.{names_of}
+use Rattle.otio_tools.specs.Asked.{Asked}
 use Rattle.otio_tools.proofs.planning.plan.Goals as goal
 
 pub returns-else-takes_several-clause-told : goal.returns-else-takes_several-clause-told
@@ -11,3 +15,10 @@ returns-else-takes_several-clause-told g c = λ target.
     (g.F.Files.known c.plan_alone.new.files))
     (asked_as c.args.command c.args.name.now (other_names c.args.others) target
     (sym c.if-takes_several.ensures)) (c.plan_alone.ensures.told target)
+
+pub returns-else-takes_several-clause-named : goal.returns-else-takes_several-clause-named
+returns-else-takes_several-clause-named g c =
+    subst
+    (λ (a : Asked). IfErr c.plan_alone.result (λ stop. IsAmong (names_of a.files) stop.name.now))
+    (asked_as c.args.command c.args.name.now (other_names c.args.others) None
+    (sym c.if-takes_several.ensures)) c.plan_alone.ensures.named

@@ -34,3 +34,9 @@ returns-in-Some-clause-told c = λ media. rw c.in-Some.is (c.edit_planned.ensure
 
 pub returns-in-None-clause-told : goal.returns-in-None-clause-told
 returns-in-None-clause-told c = λ media. rw c.in-None.is (c.judged.ensures.told media)
+
+pub returns-in-Some-clause-named : goal.returns-in-Some-clause-named
+returns-in-Some-clause-named c = rw c.in-Some.is c.edit_planned.ensures.named
+
+pub returns-in-None-clause-named : goal.returns-in-None-clause-named
+returns-in-None-clause-named c = rw c.in-None.is c.judged.ensures.named

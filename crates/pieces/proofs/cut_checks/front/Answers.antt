@@ -7,10 +7,9 @@ use Rattle.pieces.proofs.cut_checks.front.Goals as goal
 pub front_items-requires-clause-short : goal.front_items-requires-clause-short
 front_items-requires-clause-short c = λ i x e. faultless_is_short x (c.requires.faultless i x e)
 
-pub unreachable-requires : goal.unreachable-requires
-unreachable-requires c =
+pub out_of_memory-requires : goal.out_of_memory-requires
+out_of_memory-requires c = λ e.
     let fits = c.ranges.ticks in
-    let given = c.in-Err-Range.ensures.far c.in-Err-Range.field-0-is in
-    let far = simp to_z-of_z at given in
+    let far = simp to_z-of_z at c.in-Err.ensures.far in
     cut_front c.args.list.now c.args.ticks (omega (arith, ints, c.requires.low))
-    (omega (arith, ints, c.requires.high)) far
+    (omega (arith, ints, c.requires.high)) (far e)

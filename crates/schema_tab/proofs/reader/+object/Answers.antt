@@ -9,12 +9,12 @@ use Rattle.schema_rows.specs.Numerals.{HasNumerals}
 use Rattle.schema_rows.specs.Readings.{known, item_fields, object_fields, effect_reading, marker_reading, medium_reading}
 use Rattle.schema_rows.specs.Families.{child, member, medium}
 use Rattle.schema_rows.specs.Stands.{Gives_rows}
-use Rattle.schema_rows.specs.Faults.{Refuses_reading, wrong, in_span, in_time, in_stack, in_child, in_member, in_medium, newer, in_rows, Refuses_rows}
+use Rattle.schema_rows.specs.Faults.{Refuses_reading, in_span, in_time, in_stack, in_child, in_member, in_medium, newer, in_rows, Refuses_rows}
 use Rattle.schema_tab.proofs.Objects.{foreign_by}
 use Rattle.schema_tab.specs.Depths.{depth}
 use Rattle.schema_tab.proofs.Exits.{item_inside, pair_inside, list_more, list_fails, items_end, objects_end, effects_end, markers_end, second_at, names_more, media_end, row_more, row_fails, row_end}
-use Rattle.schema_tab.proofs.Measures.{depth-Map, looked_up_falls, looked_up_numerals}
-use Rattle.schema_tab.proofs.Members.{row_given, row_refused, row_absent, row_missing, items_refused, objects_refused, effects_refused, markers_refused, media_refused, stack_refused, no_list}
+use Rattle.schema_tab.proofs.Measures.{depth-Map, depth-List, looked_up_falls, looked_up_numerals}
+use Rattle.schema_tab.proofs.Members.{row_given, row_refused, row_absent, row_missing, items_refused, objects_refused, effects_refused, markers_refused, media_refused, stack_refused, gives_as, no_list}
 use Rattle.schema_tab.proofs.Asking.{wrong_field}
 use Rattle.schema_tab.proofs.Whole.{object_read, object_refused, foreign_any}
 use Rattle.schema_tab.proofs.reader.+object.Goals as goal
@@ -76,33 +76,77 @@ pub read_member-returns-in_default : goal.read_member-returns-in_default
 read_member-returns-in_default t c =
     record { value = tt; fault = wrong_field c.args.place.now (row_of c.args.row.now) c.args.value.now R.media c.field_fault.result (ap kind_of c.in-Media.is) c.in_default.not-Map c.field_fault.ensures }
 
-pub read_list-returns-in-Items-clause-fault : goal.read_list-returns-in-Items-clause-fault
-read_list-returns-in-Items-clause-fault t c =
-    items_refused c.read_items.result c.args.place.now (row_of c.args.row.now) c.args.value.now c.in-List.list
-    (ap kind_of c.in-Items.is) c.in-List.is c.read_items.ensures.fault
+pub read_member-read_items-requires : goal.read_member-read_items-requires
+read_member-read_items-requires t c =
+    let is = c.in_ok-list_of-in-Items.ensures.list in
+    (omega (arith, c.decreases, ap depth is, depth-List c.in_ok-list_of-in-Items.field-0.now), subst HasNumerals is c.requires.numerals)
 
-pub read_list-returns-in-Objects-clause-fault : goal.read_list-returns-in-Objects-clause-fault
-read_list-returns-in-Objects-clause-fault t c =
-    objects_refused c.read_objects.result c.args.place.now (row_of c.args.row.now) c.args.value.now c.in-List.list
-    (ap kind_of c.in-Objects.is) c.in-List.is c.read_objects.ensures.fault
+pub read_member-returns-in_err-list_of-in-Items-clause-fault : goal.read_member-returns-in_err-list_of-in-Items-clause-fault
+read_member-returns-in_err-list_of-in-Items-clause-fault t c =
+    let p = err_from_is_err_and c.from_residual-in_err-list_of-in-Items.result c.from_residual-in_err-list_of-in-Items.ensures.1 in
+    rw (p.1, p.2) (no_list _ _ _ R.items _ (ap kind_of c.in-Items.is) (λ wrong. wrong) c.in_err-list_of-in-Items.ensures.fault)
 
-pub read_list-returns-in-Effects-clause-fault : goal.read_list-returns-in-Effects-clause-fault
-read_list-returns-in-Effects-clause-fault t c =
-    effects_refused c.read_effects.result c.args.place.now (row_of c.args.row.now) c.args.value.now c.in-List.list
-    (ap kind_of c.in-Effects.is) c.in-List.is c.read_effects.ensures.fault
+pub read_member-returns-in_ok-list_of-in-Items-clause-value : goal.read_member-returns-in_ok-list_of-in-Items-clause-value
+read_member-returns-in_ok-list_of-in-Items-clause-value t c =
+    gives_as c.read_items.result (kind_of c.args.row.now.kind) R.items c.args.value.now _ (ap kind_of c.in-Items.is) c.in_ok-list_of-in-Items.ensures.list c.read_items.ensures.value
 
-pub read_list-returns-in-Markers-clause-fault : goal.read_list-returns-in-Markers-clause-fault
-read_list-returns-in-Markers-clause-fault t c =
-    markers_refused c.read_markers.result c.args.place.now (row_of c.args.row.now) c.args.value.now c.in-List.list
-    (ap kind_of c.in-Markers.is) c.in-List.is c.read_markers.ensures.fault
+pub read_member-returns-in_ok-list_of-in-Items-clause-fault : goal.read_member-returns-in_ok-list_of-in-Items-clause-fault
+read_member-returns-in_ok-list_of-in-Items-clause-fault t c =
+    items_refused c.read_items.result c.args.place.now (row_of c.args.row.now) c.args.value.now _ (ap kind_of c.in-Items.is) c.in_ok-list_of-in-Items.ensures.list c.read_items.ensures.fault
 
-pub read_list-returns-in_default : goal.read_list-returns-in_default
-read_list-returns-in_default t c = record {
-  value = tt;
-  fault =
-      λ n. wrong c.args.place.now (row_of c.args.row.now) c.args.value.now c.field_fault.result
-      (no_list c.args.row.now.kind c.args.value.now c.requires.listed c.in_default.not-List) (c.field_fault.ensures n);
-}
+pub read_member-read_objects-requires : goal.read_member-read_objects-requires
+read_member-read_objects-requires t c =
+    let is = c.in_ok-list_of-in-Objects.ensures.list in
+    (omega (arith, c.decreases, ap depth is, depth-List c.in_ok-list_of-in-Objects.field-0.now), subst HasNumerals is c.requires.numerals)
+
+pub read_member-returns-in_err-list_of-in-Objects-clause-fault : goal.read_member-returns-in_err-list_of-in-Objects-clause-fault
+read_member-returns-in_err-list_of-in-Objects-clause-fault t c =
+    let p = err_from_is_err_and c.from_residual-in_err-list_of-in-Objects.result c.from_residual-in_err-list_of-in-Objects.ensures.1 in
+    rw (p.1, p.2) (no_list _ _ _ R.objects _ (ap kind_of c.in-Objects.is) (λ wrong. wrong) c.in_err-list_of-in-Objects.ensures.fault)
+
+pub read_member-returns-in_ok-list_of-in-Objects-clause-value : goal.read_member-returns-in_ok-list_of-in-Objects-clause-value
+read_member-returns-in_ok-list_of-in-Objects-clause-value t c =
+    gives_as c.read_objects.result (kind_of c.args.row.now.kind) R.objects c.args.value.now _ (ap kind_of c.in-Objects.is) c.in_ok-list_of-in-Objects.ensures.list c.read_objects.ensures.value
+
+pub read_member-returns-in_ok-list_of-in-Objects-clause-fault : goal.read_member-returns-in_ok-list_of-in-Objects-clause-fault
+read_member-returns-in_ok-list_of-in-Objects-clause-fault t c =
+    objects_refused c.read_objects.result c.args.place.now (row_of c.args.row.now) c.args.value.now _ (ap kind_of c.in-Objects.is) c.in_ok-list_of-in-Objects.ensures.list c.read_objects.ensures.fault
+
+pub read_member-read_effects-requires : goal.read_member-read_effects-requires
+read_member-read_effects-requires t c =
+    let is = c.in_ok-list_of-in-Effects.ensures.list in
+    (omega (arith, c.decreases, ap depth is, depth-List c.in_ok-list_of-in-Effects.field-0.now), subst HasNumerals is c.requires.numerals)
+
+pub read_member-returns-in_err-list_of-in-Effects-clause-fault : goal.read_member-returns-in_err-list_of-in-Effects-clause-fault
+read_member-returns-in_err-list_of-in-Effects-clause-fault t c =
+    let p = err_from_is_err_and c.from_residual-in_err-list_of-in-Effects.result c.from_residual-in_err-list_of-in-Effects.ensures.1 in
+    rw (p.1, p.2) (no_list _ _ _ R.effects _ (ap kind_of c.in-Effects.is) (λ wrong. wrong) c.in_err-list_of-in-Effects.ensures.fault)
+
+pub read_member-returns-in_ok-list_of-in-Effects-clause-value : goal.read_member-returns-in_ok-list_of-in-Effects-clause-value
+read_member-returns-in_ok-list_of-in-Effects-clause-value t c =
+    gives_as c.read_effects.result (kind_of c.args.row.now.kind) R.effects c.args.value.now _ (ap kind_of c.in-Effects.is) c.in_ok-list_of-in-Effects.ensures.list c.read_effects.ensures.value
+
+pub read_member-returns-in_ok-list_of-in-Effects-clause-fault : goal.read_member-returns-in_ok-list_of-in-Effects-clause-fault
+read_member-returns-in_ok-list_of-in-Effects-clause-fault t c =
+    effects_refused c.read_effects.result c.args.place.now (row_of c.args.row.now) c.args.value.now _ (ap kind_of c.in-Effects.is) c.in_ok-list_of-in-Effects.ensures.list c.read_effects.ensures.fault
+
+pub read_member-read_markers-requires : goal.read_member-read_markers-requires
+read_member-read_markers-requires t c =
+    let is = c.in_ok-list_of-in-Markers.ensures.list in
+    (omega (arith, c.decreases, ap depth is, depth-List c.in_ok-list_of-in-Markers.field-0.now), subst HasNumerals is c.requires.numerals)
+
+pub read_member-returns-in_err-list_of-in-Markers-clause-fault : goal.read_member-returns-in_err-list_of-in-Markers-clause-fault
+read_member-returns-in_err-list_of-in-Markers-clause-fault t c =
+    let p = err_from_is_err_and c.from_residual-in_err-list_of-in-Markers.result c.from_residual-in_err-list_of-in-Markers.ensures.1 in
+    rw (p.1, p.2) (no_list _ _ _ R.markers _ (ap kind_of c.in-Markers.is) (λ wrong. wrong) c.in_err-list_of-in-Markers.ensures.fault)
+
+pub read_member-returns-in_ok-list_of-in-Markers-clause-value : goal.read_member-returns-in_ok-list_of-in-Markers-clause-value
+read_member-returns-in_ok-list_of-in-Markers-clause-value t c =
+    gives_as c.read_markers.result (kind_of c.args.row.now.kind) R.markers c.args.value.now _ (ap kind_of c.in-Markers.is) c.in_ok-list_of-in-Markers.ensures.list c.read_markers.ensures.value
+
+pub read_member-returns-in_ok-list_of-in-Markers-clause-fault : goal.read_member-returns-in_ok-list_of-in-Markers-clause-fault
+read_member-returns-in_ok-list_of-in-Markers-clause-fault t c =
+    markers_refused c.read_markers.result c.args.place.now (row_of c.args.row.now) c.args.value.now _ (ap kind_of c.in-Markers.is) c.in_ok-list_of-in-Markers.ensures.list c.read_markers.ensures.fault
 
 pub read_items-read_object-requires : goal.read_items-read_object-requires
 read_items-read_object-requires t c =
@@ -166,7 +210,7 @@ read_effects-loop-value-preserved t c =
 
 pub read_effects-returns-clause-value : goal.read_effects-returns-clause-value
 read_effects-returns-clause-value t c =
-    effects_end c.args.place.now c.args.list.now c.as_slice-values.result.now c.loop-value.value-index c.loop-value.effects.items _ c.as_slice-values.ensures (omega (arith, c.loop-value-test.false)) (c.of-2.ensures ∙ c.of.ensures) c.loop-value.invariant
+    effects_end c.args.place.now c.args.list.now c.as_slice-values.result.now c.loop-value.value-index c.loop-value.effects.items _ c.as_slice-values.ensures (omega (arith, c.loop-value-test.false)) c.of.ensures c.loop-value.invariant
 
 pub read_markers-read_object-requires : goal.read_markers-read_object-requires
 read_markers-read_object-requires t c =

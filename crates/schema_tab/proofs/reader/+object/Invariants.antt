@@ -20,9 +20,6 @@ decreases-read_row l = 8 * members_depth l.members.now + 2
 abbrev pub decreases-read_member : goal.decreases-read_member
 decreases-read_member l = 8 * depth l.value.now + 7
 
-abbrev pub decreases-read_list : goal.decreases-read_list
-decreases-read_list l = 8 * depth l.value.now + 6
-
 abbrev pub decreases-read_items : goal.decreases-read_items
 decreases-read_items l = 8 * list_depth l.list.now + 5
 

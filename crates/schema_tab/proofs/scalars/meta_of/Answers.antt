@@ -1,6 +1,6 @@
 use Rattle.std.proofs.Common.{refl, sym, ◌∙◌}
 use Rattle.schema_rows.specs.Rows as R
-use Rattle.schema_rows.specs.Rows.{row_of, kind_of}
+use Rattle.schema_rows.specs.Rows.{row_of}
 use Rattle.schema_rows.specs.Stands.{meta}
 use Rattle.schema_tab.proofs.Asking.{wrong_field}
 use Rattle.schema_tab.proofs.scalars.meta_of.Goals as goal

@@ -1,6 +1,6 @@
 use Rattle.std.proofs.Common.{refl}
 use Rattle.schema_rows.specs.Rows as R
-use Rattle.schema_rows.specs.Rows.{row_of, kind_of}
+use Rattle.schema_rows.specs.Rows.{row_of}
 use Rattle.schema_rows.specs.Stands.{number}
 use Rattle.schema_rows.specs.Faults.{no_speed}
 use Rattle.schema_tab.proofs.Asking.{wrong_field, own_numeral}

@@ -1,6 +1,6 @@
 use Rattle.std.proofs.Common.{refl, inl}
 use Rattle.schema_rows.specs.Rows as R
-use Rattle.schema_rows.specs.Rows.{row_of, kind_of}
+use Rattle.schema_rows.specs.Rows.{row_of}
 use Rattle.schema_rows.specs.Stands.{rate}
 use Rattle.schema_rows.specs.Faults.{long, no_rate}
 use Rattle.schema_tab.proofs.Asking.{wrong_field, own_numeral}

@@ -5,10 +5,10 @@ use Rattle.schema_tab.proofs.scalars.span_from.Goals as goal
 
 pub returns-then-len-lt0-clause-fault : goal.returns-then-len-lt0-clause-fault
 returns-then-len-lt0-clause-fault c =
-    let fits : FitsSigned w128 c.in-Some.len.ticks = search rules in
+    let fits : FitsSigned w128 c.range_in.result.0.ticks = search rules in
     let test = simp to_z-of_z at c.if-len-lt0.true in
-    let below : c.in-Some.len.ticks <ℤ pos 0 = grind (arith, ints) in
-    λ n. ((c.in-Some.start, c.in-Some.len, c.in-Some.ensures, below), c.range_fault.ensures n)
+    let below : c.range_in.result.0.ticks <ℤ pos 0 = grind (arith, ints) in
+    λ n. ((c.range_in.result.1, c.range_in.result.0, c.range_in.ensures, below), c.range_fault.ensures n)
 
-pub returns-else-len-lt0-clause-value : goal.returns-else-len-lt0-clause-value
-returns-else-len-lt0-clause-value c = (_, c.in-Some.ensures, refl)
+pub returns-clause-value : goal.returns-clause-value
+returns-clause-value c = (_, c.range_in.ensures, refl)

@@ -3,7 +3,12 @@ use Rattle.schema_rows.specs.Rows.{row_of, kind_of}
 use Rattle.schema_rows.specs.declared.schemas.TheConstants as C
 use Rattle.schema_rows.specs.Stands.{Gives_fields}
 use Rattle.schema_tab.proofs.Asking.{wrong_field, span_read, span_refused}
+use Rattle.schema_tab.proofs.KindLemmas.{range_values}
 use Rattle.schema_tab.proofs.scalars.span_of.Goals as goal
+
+pub span_from-requires : goal.span_from-requires
+span_from-requires c =
+    let g : Gives_fields C.RANGES c.args.value.now c.in-Some.fields = rw c.in-Some.is at c.requires.found in range_values g
 
 pub returns-in-Some : goal.returns-in-Some
 returns-in-Some c =

@@ -1,7 +1,7 @@
 use Rattle.std.proofs.Common.{ap, ◌∙◌}
 use Rattle.schema_rows.specs.declared.values.Value.TheVariants as V
 use Rattle.schema_rows.specs.Rows as R
-use Rattle.schema_rows.specs.Rows.{row_of, kind_of}
+use Rattle.schema_rows.specs.Rows.{row_of}
 use Rattle.schema_rows.specs.Stands.{text}
 use Rattle.schema_tab.proofs.Asking.{wrong_field}
 use Rattle.schema_tab.proofs.scalars.text_of.Goals as goal

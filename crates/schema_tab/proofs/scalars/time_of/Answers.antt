@@ -3,7 +3,12 @@ use Rattle.schema_rows.specs.Rows.{row_of, kind_of}
 use Rattle.schema_rows.specs.declared.schemas.TheConstants as C
 use Rattle.schema_rows.specs.Stands.{Gives_fields}
 use Rattle.schema_tab.proofs.Asking.{wrong_field, time_read, time_refused}
+use Rattle.schema_tab.proofs.KindLemmas.{time_values}
 use Rattle.schema_tab.proofs.scalars.time_of.Goals as goal
+
+pub time_from-requires : goal.time_from-requires
+time_from-requires c =
+    let g : Gives_fields C.TIMES c.args.value.now c.in-Some.fields = rw c.in-Some.is at c.requires.found in time_values g
 
 pub returns-in-Some : goal.returns-in-Some
 returns-in-Some c =

@@ -1,4 +1,4 @@
-use Rattle.std.proofs.Common.{◌∙◌, sym, ap, map, length, ◌∷◌, ◌++◌, filter, not}
+use Rattle.std.proofs.Common.{◌∙◌, ap, map, ◌∷◌, ◌++◌, filter, not}
 use Rattle.std.specs.Str.{bytes_eq}
 use Rattle.json_value.specs.declared.Json.{Str, Map}
 use Rattle.schema_rows.specs.Rows.{row_of}

@@ -8,4 +8,6 @@ use Rattle.show_prog.proofs.frame_rows.put_lines.Given as goal
 abbrev pub invariant-children : goal.invariant-children
 invariant-children g l =
     let stand = standing g.W.Out.known g.W.Out.faults in
-    Puts (stand l.fn.out l.fn.buffer) (stand l.out l.buffer) (lines_at l.timeline (range_with_len l.fn.selection.children.first (l.child - l.fn.selection.children.first)) l.frame)
+    let first = l.fn.selection.children.first in
+    Puts (stand l.fn.out l.fn.buffer) (stand l.out l.buffer)
+    (lines_at l.fn.selection.timeline.now (range_with_len first (l.child - first)) l.frame)

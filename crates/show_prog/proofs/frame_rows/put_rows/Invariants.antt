@@ -7,4 +7,6 @@ use Rattle.show_prog.proofs.frame_rows.put_rows.Given as goal
 abbrev pub invariant-frames : goal.invariant-frames
 invariant-frames g l =
     let stand = standing g.W.Out.known g.W.Out.faults in
-    Puts (stand l.fn.out l.fn.buffer) (stand l.out l.buffer) (rows l.timeline (indexes l.selection.children) l.from l.index)
+    let s = l.fn.selection in
+    Puts (stand l.fn.out l.fn.buffer) (stand l.out l.buffer)
+    (rows s.timeline.now (indexes s.children) l.from l.index)

@@ -11,7 +11,9 @@ invariant-parts g l =
     record {
       within : l.sent ≤ l.listing.count;
       later : out.faults l.fn.out ≤ out.faults l.out;
-      told : Tells (Adds (rows l.timeline (indexes l.selection.children) l.listing.from l.sent)) (out.known l.fn.out) (out.known l.out);
+      told : Tells
+          (Adds (rows l.timeline (indexes l.selection.children) l.listing.from l.sent))
+          (out.known l.fn.out) (out.known l.out);
     }
 
 abbrev pub decreases-parts : goal.decreases-parts

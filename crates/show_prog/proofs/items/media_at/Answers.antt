@@ -5,16 +5,16 @@ use Rattle.show_prog.proofs.items.media_at.Goals as goal
 
 pub returns-clause-value : goal.returns-clause-value
 returns-clause-value c =
-    let k = c.start_of.ensures in let m = c.media_ticks.ensures in let r = c.speed.ensures.range in let l = c.requires.low in let h = c.requires.high in
-    let sum : to_z w128 (of_z w128 (to_z w128 (of_z w128 c.start_of.result) +ℤ to_z w128 (of_z w128 c.media_ticks.result))) ≡ c.start_of.result +ℤ c.media_ticks.result = omega (arith, ints) in
+    let k = c.start_of.ensures in let m = c.media_offset.ensures in let r = c.speed.ensures.range in let l = c.requires.low in let h = c.requires.high in
+    let sum : to_z w128 (of_z w128 (to_z w128 (of_z w128 c.start_of.result) +ℤ to_z w128 (of_z w128 c.media_offset.result))) ≡ c.start_of.result +ℤ c.media_offset.result = omega (arith, ints) in
     let a : to_z w128 (of_z w128 c.args.ticks) ≡ c.args.ticks = omega (arith, ints) in
     let b : to_z w64 (of_z w64 c.speed.result) ≡ c.speed.result = omega (arith, ints, r.low, r.high) in
     sum ∙ ap₂ (λ (x y : ℤ). x +ℤ y) k.value (m.value ∙ ap₂ (λ x y. int_div_euclid (x *ℤ y) (pos 1000000)) a (b ∙ c.speed.ensures.value))
 
 pub returns-clause-low : goal.returns-clause-low
 returns-clause-low c =
-    let a = c.start_of.ensures.low in let b = c.media_ticks.ensures.least in omega (arith, ints)
+    let a = c.start_of.ensures.low in let b = c.media_offset.ensures.least in omega (arith, ints)
 
 pub returns-clause-high : goal.returns-clause-high
 returns-clause-high c =
-    let a = c.start_of.ensures.high in let b = c.media_ticks.ensures.most in omega (arith, ints)
+    let a = c.start_of.ensures.high in let b = c.media_offset.ensures.most in omega (arith, ints)

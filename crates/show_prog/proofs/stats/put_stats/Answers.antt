@@ -14,5 +14,5 @@ returns g c =
     let start = puts_as _ (simp to_z-of_z at c.put_start.ensures)
     (ap (λ (z : ℤ). number_line (codes "start") (signed_decimal z)) c.start_frame.ensures) in
     let length = puts_as _ c.put_length.ensures
-    (ap (λ (n : ℕ). number_line (codes "length") (decimal n)) c.whole_frames.ensures) in
+    (ap (λ (n : ℕ). number_line (codes "length") (decimal n)) c.whole_frames.ensures.value) in
     puts_then rate (puts_then start (puts_then length (puts_as _ c.put_counts.ensures (ap counts_text c.count_children.ensures.value))))

@@ -1,4 +1,4 @@
-use Rattle.std.proofs.Common.{◌≡◌, rules, arith}
+use Rattle.std.proofs.Common.{rules}
 use Rattle.smpte_tc.specs.Answers.{means_drop}
 use Rattle.smpte_tc.proofs.RoundTrip.{read_small}
 use Rattle.smpte_tc.proofs.FrameLemmas.{frame_read, frame_refused, same_back}

@@ -8,7 +8,7 @@ use Rattle.source_files.specs.declared.read_faults.Refusal.TheVariants.{Memory}
 use Rattle.source_files.proofs.Taking.{same_at_first, taken_more, takes_all, same_more}
 use Rattle.source_files.proofs.Handing.{judged, refused, failed}
 use Rattle.source_files.proofs.ScriptLemmas.{gathered_none, gathered_more}
-use Rattle.source_files.proofs.LogLemmas.{long_refused}
+use Rattle.source_files.proofs.LogLemmas.{long_log-is_refused}
 use Rattle.source_files.proofs.logs.read_log.Goals as goal
 
 pub pieces-init : goal.pieces-init
@@ -60,5 +60,5 @@ returns-clause-told g c =
     let bytes = c.pieces.bytes.items in
     refused MediaList IsLog RefusesLog IsCalmLog bytes _ _ c.log_refusal.result
     i.same i.fed
-    (λ rest. long_refused bytes rest c.log_refusal.result (omega arith)
+    (λ rest. long_log-is_refused bytes rest c.log_refusal.result (omega arith)
     c.log_refusal.ensures)

@@ -5,7 +5,7 @@ use Rattle.otio_model.specs.declared.objects.Object.{Object}
 use Rattle.json_value.specs.declared.Json.{Json}
 use Rattle.source_files.specs.Formats.{IsJson, IsObject, IsCalmJson, RefusesJson, RefusesObject}
 use Rattle.source_files.proofs.Handing.{judged_further, fault_further}
-use Rattle.schema_rows.specs.Upgrades.{upgraded}
+use Rattle.schema_up.specs.Upgrades.{upgraded}
 use Rattle.source_files.proofs.ObjectLemmas.{object_judged, stands_for}
 use Rattle.source_files.proofs.objects.read_object.Goals as goal
 

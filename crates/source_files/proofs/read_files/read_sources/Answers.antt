@@ -2,7 +2,7 @@ use Rattle.std.proofs.Common.{◌∙◌}
 use Rattle.source_files.specs.Formats.{Suits}
 use Rattle.source_files.specs.Reading.{Source}
 use Rattle.source_files.specs.declared.file_kinds.Content.{Content}
-use Rattle.source_files.proofs.Walking.{read_among, suits_among, stopped_among, full_among}
+use Rattle.source_files.proofs.Walking.{full_among, named_among, read_among, stopped_among, suits_among}
 use Rattle.source_files.proofs.read_files.read_sources.Goals as goal
 
 pub returns-in-Err-push-clause-stopped : goal.returns-in-Err-push-clause-stopped
@@ -18,6 +18,16 @@ returns-in-Err-clause-stopped g c =
     c.sources.contents.items c.stop_at-in-Err.result c.in-Err.fault _ _ _ c.sources-test.true
     c.source-item.is c.sources.invariant.read c.in-Err.ensures.told c.stop_at-in-Err.ensures.name
     c.stop_at-in-Err.ensures.fault
+
+pub returns-in-Err-push-clause-named : goal.returns-in-Err-push-clause-named
+returns-in-Err-push-clause-named g c =
+    named_among c.args.sources.now c.sources.source-index c.source-item.result _ _
+    c.sources-test.true c.source-item.is c.stop_at.ensures.name
+
+pub returns-in-Err-clause-named : goal.returns-in-Err-clause-named
+returns-in-Err-clause-named g c =
+    named_among c.args.sources.now c.sources.source-index c.source-item.result _ _
+    c.sources-test.true c.source-item.is c.stop_at-in-Err.ensures.name
 
 pub sources-preserved : goal.sources-preserved
 sources-preserved g c =

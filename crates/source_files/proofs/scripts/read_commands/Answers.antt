@@ -7,7 +7,7 @@ use Rattle.source_files.specs.Formats.{IsCommands, RefusesScript, IsCalmScript}
 use Rattle.source_files.specs.declared.read_faults.Refusal.TheVariants.{Memory}
 use Rattle.source_files.proofs.Taking.{same_at_first, taken_more, takes_all, same_more}
 use Rattle.source_files.proofs.Handing.{judged, refused, failed}
-use Rattle.source_files.proofs.ScriptLemmas.{gathered_none, gathered_more, long_refused}
+use Rattle.source_files.proofs.ScriptLemmas.{gathered_none, gathered_more, long_script-is_refused}
 use Rattle.source_files.proofs.scripts.read_commands.Goals as goal
 
 pub pieces-init : goal.pieces-init
@@ -59,5 +59,5 @@ returns-clause-told g c =
     let bytes = c.pieces.bytes.items in
     refused (Vec Command) IsCommands RefusesScript IsCalmScript bytes _ _ c.script_refusal.result
     i.same i.fed
-    (λ rest. long_refused bytes rest c.script_refusal.result (omega arith)
+    (λ rest. long_script-is_refused bytes rest c.script_refusal.result (omega arith)
     c.script_refusal.ensures)

@@ -1,0 +1,6 @@
+-- What is known on the way to a plan.
+pub mod Asked
+pub mod Changes
+pub mod Founds
+pub mod Motions
+pub mod Seats

@@ -1,0 +1,5 @@
+use Rattle.std.proofs.Common.{refl}
+use Rattle.schema_up.proofs.upgraded_objects.missing.Goals as goal
+
+pub returns : goal.returns
+returns c = rw (c.in_ok-put.ensures.put, c.new-members.ensures, c.in_ok-of-2.ensures, c.in_ok-of.ensures) refl

@@ -1,0 +1,1 @@
+-- What cuts and edits show.
