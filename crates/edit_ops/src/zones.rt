@@ -95,9 +95,9 @@ fn put_zone(
     }
 }
 
-/// The patch that puts items into a zone of a track. The fault is that of a track that isn't pinned,
-/// of a result that is too long or of one of too many items, and [`EditFault::Memory`] where memory
-/// runs out.
+/// The patch that puts items into a zone of a track. The fault is that of a track that isn't
+/// pinned, of a result that is too long or of one of too many items, and [`EditFault::Memory`]
+/// where memory runs out.
 pub(crate) fn plan_zone(
     alloc: Global,
     timeline: &Timeline,

@@ -100,8 +100,8 @@ fn spare_behind(frame: i128, item: &Item, head: i128) -> i128
 }
 
 /// How far a slide goes: as far as wanted, but the item before keeps a tick or more, and its tail
-/// goes no further than its unused media. `by` is how far is wanted; it and the result are in ticks,
-/// positive to later. `frame` is the ticks of a record frame.
+/// goes no further than its unused media. `by` is how far is wanted; it and the result are in
+/// ticks, positive to later. `frame` is the ticks of a record frame.
 pub fn slide_by(frame: i128, before: &Item, by: i128) -> i128
     requires frame { pos 1 ≤ℤ frame }
     requires before { IsCuttable before.now }
@@ -142,8 +142,8 @@ fn ripple_tail(frame: i128, item: &Item, head: i128, by: i128) -> i128
     )
 }
 
-/// How far a ripple moves the edges of an item: as far as wanted, but a tick or more is left, and no
-/// edge goes further than its unused media. `by` is how far is wanted; it and the result are in
+/// How far a ripple moves the edges of an item: as far as wanted, but a tick or more is left, and
+/// no edge goes further than its unused media. `by` is how far is wanted; it and the result are in
 /// ticks. `frame` is the ticks of a record frame.
 pub fn ripple_by(frame: i128, item: &Item, by: Moves) -> Moves
     requires frame { pos 1 ≤ℤ frame }
@@ -235,9 +235,9 @@ fn trim_tail(frame: i128, item: &Item, head: i128, behind: Option<&Item>, by: i1
     )
 }
 
-/// How far a trim moves the edges of an item, where these stand next to it: as far as wanted, but no
-/// edge goes further than the gap there or than its unused media, and a tick or more is left. At the
-/// end of the track no gap holds the tail. `by` is how far is wanted; it and the result are in
+/// How far a trim moves the edges of an item, where these stand next to it: as far as wanted, but
+/// no edge goes further than the gap there or than its unused media, and a tick or more is left. At
+/// the end of the track no gap holds the tail. `by` is how far is wanted; it and the result are in
 /// ticks. `frame` is the ticks of a record frame.
 pub fn trim_by(
     frame: i128,

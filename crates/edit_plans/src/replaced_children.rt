@@ -89,8 +89,8 @@ fn between(
 }
 
 /// Copies of these children without the transitions that a zone strips: those whose overlap has an
-/// instant of it, or whose cut lies in it, both ends included. The zone goes from `from` to `to`, in
-/// ticks from the start of the first of these children. An error comes where memory runs out.
+/// instant of it, or whose cut lies in it, both ends included. The zone goes from `from` to `to`,
+/// in ticks from the start of the first of these children. An error comes where memory runs out.
 pub fn kept(
     alloc: Global,
     children: &Children,

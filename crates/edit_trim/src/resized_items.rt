@@ -272,7 +272,8 @@ fn one_gap(making: Making, ticks: i128) -> Result<Vec<Item>, RangedFault>
 
 /// A new gap of so many ticks; none where they aren't more than 0.
 pub(crate) fn gap_of(making: Making, ticks: i128) -> Result<Vec<Item>, RangedFault>
-    ensures made { IfOk result (λ list. all_made making.rate (edges.gap_of ticks) ≡ Some list.items) }
+    ensures made { IfOk result
+        (λ list. all_made making.rate (edges.gap_of ticks) ≡ Some list.items) }
     ensures few { IfOk result (λ list. length_of list.items ≤ 1) }
     ensures far { IfErr result
         (λ fault. fault ≡ RangedFault.Range → has_far (edges.gap_of ticks) ≡ true) }

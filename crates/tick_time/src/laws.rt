@@ -68,7 +68,8 @@ pub fn equal_times(time: &Time, other: &Time) -> bool
 /// two. It does nothing.
 pub fn rounds_to_nearest()
     ensures fraction { (a b : ℕ) → 1 ≤ b → IsNearestEven a b (half_even a b) }
-    ensures millionths { (z : ℤ) → IsHalfEven (record { top = z; bottom = 1000000 }) (from_millionths z) }
+    ensures millionths { (z : ℤ) → IsHalfEven (record { top = z; bottom = 1000000 })
+        (from_millionths z) }
 {}
 
 /// Law: a word is at most one rate. It does nothing.

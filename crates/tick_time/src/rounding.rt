@@ -100,7 +100,8 @@ fn lowered_size(digits: u128, shift: u128) -> u128
     }
 }
 
-/// A fraction of numbers from 0 on, rounded to the nearest whole number, and to the even one of two.
+/// A fraction of numbers from 0 on, rounded to the nearest whole number, and to the even one of
+/// two.
 #[tactic(auto, using(crate::proofs::NearestEven::half_even_is_nearest))]
 pub fn half_even(top: u128, bottom: u128) -> u128
     requires top { top ≤ 100000000000000000000000000000000000000 }
