@@ -63,18 +63,14 @@ fn clip_in(item: &Item) -> Option<&Clip>
 }
 
 // The first clip among children and those below them.
-#[tactic(auto, using(crate::proofs::Clips::clip_first, crate::proofs::Clips::clip_next, crate::proofs::Clips::clip_here, crate::proofs::Clips::clip_end))]
 #[cycle(clip)]
 fn first_clip(children: &Children) -> Option<&Clip>
     ensures { option_copied result ≡ programs.first_clip children.now }
 {
-    'children: for index in 0..children.len() {
-        match clip_in(children.child(index)) {
-            Some(clip) => return Some(clip),
-            None => {}
-        }
+    match children.first_with_clip() {
+        Some(index) => clip_in(children.child(index)),
+        None => None,
     }
-    None
 }
 
 /// The record rate: that of the start, else of the media of the first clip, else 24.

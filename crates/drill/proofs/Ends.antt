@@ -1,16 +1,16 @@
 -- From the timeline that a drill begins with to its end.
-use Rattle.std.proofs.Common.{◌≡◌, ◌<◌, ◌≤◌, ◌^◌, ◌+◌, ◌-◌, refl, ap, subst, ◌∙◌, false, ℕ, List, [], Some, arith}
+use Rattle.std.proofs.Common.{◌≡◌, ◌<◌, ◌≤◌, ◌^◌, ◌+◌, ◌-◌, refl, ap, subst, ◌∙◌, Bool, false, ℕ, List, [], Some, arith}
 use Rattle.otio_model.specs.Counts.{count as count_below}
 use Rattle.otio_model.specs.Timelines.{bare}
 use Rattle.otio_model.specs.declared.timelines.Timeline.{Timeline}
 use Rattle.coord.specs.Soundness.{IsSound}
 use Rattle.coord.proofs.SpareLemmas.{sound_bare}
 use Rattle.undo_log.specs.Histories.{History}
-use Rattle.undo_log.specs.States.{State, state_of}
+use Rattle.undo_log.specs.States.{state_of}
+use Rattle.media_rows.specs.Rows.{MediaRows}
 use Rattle.media_rows.specs.declared.row.MediaRow.{MediaRow}
 use Rattle.edit_script.specs.Keeping.{IsEditable}
 use Rattle.edit_script.specs.Steps.{IsReady}
-use Rattle.script_law.specs.Shown.{opened}
 use Rattle.script_law.proofs.Starting.{start_editable, start_kept, start_state}
 use Rattle.edl_list.specs.declared.list.EventList.{EventList}
 use Rattle.edl_frames.specs.Carried.{IsListOf}
@@ -20,7 +20,7 @@ use Rattle.drill.specs.Rounds.{Drills, Round}
 use Rattle.drill.specs.Rewinding.{rewound}
 use Rattle.drill.specs.Turns.{round_of}
 use Rattle.drill.specs.Sums.{back_sum}
-use Rattle.drill.specs.Lists.{Conforms, IsListed}
+use Rattle.drill.specs.Lists.{IsListed}
 use Rattle.drill.specs.declared.list_outcome.Listed.{Listed}
 use Rattle.drill.specs.declared.list_outcome.Listed.TheVariants as L
 use Rattle.drill.specs.declared.tally.Carried.{Carried}
@@ -43,9 +43,9 @@ pub ready_few : (h : History) (t : Timeline) → IsReady h t
 ready_few h t r = r.editable.now.few
 
 -- the memory that a timeline keeps to spare doesn't matter for its list
-list_bare : (t : Timeline) (list : EventList) → IsListOf t (Some rows) false false list
-    → IsListOf (bare t) (Some rows) false false list
-list_bare t list i = record {
+pub list-kept_bare : (t : Timeline) (media : MediaRows) (drop wide : Bool) (list : EventList)
+    → IsListOf t media drop wide list → IsListOf (bare t) media drop wide list
+list-kept_bare t media drop wide list i = record {
   title = i.title;
   rate = i.rate;
   mode = i.mode;
@@ -58,7 +58,7 @@ listed_bare : (t : Timeline) (l : Listed) → IsListed t rows l → IsListed (ba
 listed_bare t (L.List events again) i = record {
   carried = i.carried;
   list = i.list;
-  is = list_bare t i.list i.is;
+  is = list-kept_bare t (Some rows) false false i.list i.is;
   count = i.count;
   timeline = i.timeline;
 }

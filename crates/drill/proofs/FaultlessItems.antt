@@ -174,25 +174,25 @@ pub record IsPart (rate : Rate) (n : ℤ) (x : ItemOf Listed) : Type 0 where
   pub long : length_of x ≡ Some ticks_are
   pub is : pos ticks_are ≡ n *ℤ pos (ticks rate)
 
+leaf_part : {rate : Rate} {n : ℤ} (x : ItemOf Listed) (m : ℕ) → fault_of x ≡ None
+    → children_of x ≡ None → length_of x ≡ Some m → pos m ≡ n *ℤ pos (ticks rate) → IsPart rate n x
+leaf_part x m fault leaf long is =
+    record { fault = fault; leaf = leaf; ticks_are = m; long = long; is = is }
+
 clip_part : (rate : Rate) (row : Option MediaRow) (side : Side) (reel : List ℕ) (day : ℕ) (n : ℤ)
     (x : ItemOf Listed) → IsClip rate row side reel n x → side_speed rate side ≤ 1000 * 1000000
     → day * ticks rate ≤ most_ticks → Ends day side.src_in n (side_speed rate side)
     → IsPart rate n x
 clip_part rate row side reel day n x i slow short e =
-    subst (IsPart rate n) (sym i.is) (record {
-      fault = no_fault (Clip i.clip) l.ticks_are refl (record {
-        long = l.long;
-        speed = ap (keeps_speed (pos 1000000)) i.effects ∙ keeps (side_speed rate side) slow;
-        few = l.few;
-        available = span_low (clip_range i.clip);
-        low = subst (λ z. pos 0 ≤ℤ z) (sym end_is) w.low;
-        high = subst (λ z. z ≤ℤ most_end) (sym end_is) w.high;
-      });
-      leaf = refl;
-      ticks_are = l.ticks_are;
+    subst (IsPart rate n) (sym i.is) (leaf_part (Clip i.clip) l.ticks_are
+    (no_fault (Clip i.clip) l.ticks_are refl (record {
       long = l.long;
-      is = l.is;
-    })
+      speed = ap (keeps_speed (pos 1000000)) i.effects ∙ keeps (side_speed rate side) slow;
+      few = l.few;
+      available = span_low (clip_range i.clip);
+      low = subst (λ z. pos 0 ≤ℤ z) (sym end_is) w.low;
+      high = subst (λ z. z ≤ℤ most_end) (sym end_is) w.high;
+    })) refl l.long l.is)
   where
     l : Lasts rate n i.clip.source_range (option_map range_of (clip_range i.clip))
     l = lasts rate side.src_in n i.clip.source_range (option_map range_of (clip_range i.clip))
@@ -230,20 +230,15 @@ gap_part rate n x i =
     l.ticks_are most_ticks
     (starts rate (pos 0) n g.source_range (Some (from_zero 0)) i.source ∙ none_of (ticks rate))
     (ap (combined (pos 1000000)) i.effects) l.few in
-    subst (IsPart rate n) (sym i.is) (record {
-      fault = no_fault (Gap g) l.ticks_are refl (record {
-        long = l.long;
-        speed = ap (keeps_speed (pos 1000000)) i.effects;
-        few = l.few;
-        available = omega arith;
-        low = w.low;
-        high = w.high;
-      });
-      leaf = refl;
-      ticks_are = l.ticks_are;
+    subst (IsPart rate n) (sym i.is) (leaf_part (Gap g) l.ticks_are
+    (no_fault (Gap g) l.ticks_are refl (record {
       long = l.long;
-      is = l.is;
-    })
+      speed = ap (keeps_speed (pos 1000000)) i.effects;
+      few = l.few;
+      available = omega arith;
+      low = w.low;
+      high = w.high;
+    })) refl l.long l.is)
 
 pub item_part : (rate : Rate) (media : MediaRows) (side : Side) (day : ℕ) (n : ℤ)
     (x : ItemOf Listed) → IsItem rate media side n x → side_speed rate side ≤ 1000 * 1000000

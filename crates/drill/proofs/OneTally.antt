@@ -1,5 +1,5 @@
 -- A seed and a number of edits have one drill at most.
-use Rattle.std.proofs.Common.{◌≡◌, refl, sym, ap, subst, ◌∙◌, ℕ, ◌+◌, zero, suc, false, List, [], Option, Some, None, length, arith}
+use Rattle.std.proofs.Common.{◌≡◌, sym, ap, subst, ◌∙◌, ℕ, ◌+◌, zero, suc, false, List, [], Option, Some, None, length, arith}
 use Rattle.otio_model.specs.declared.timelines.Timeline.{Timeline}
 use Rattle.otio_model.specs.Timelines.{bare}
 use Rattle.undo_log.specs.States.{State}

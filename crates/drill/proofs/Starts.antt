@@ -1,13 +1,13 @@
 -- A seed has one timeline, the memory that it keeps to spare aside.
-use Rattle.std.proofs.Common.{◌≡◌, sym, ap, subst, ◌∙◌, ℕ, List, [], ◌∷◌, Some}
-use Rattle.tick_time.specs.declared.times.Time.{Time}
+use Rattle.std.proofs.Common.{◌≡◌, sym, ap, ◌∙◌, ℕ, List, [], ◌∷◌, Some}
 use Rattle.otio_model.specs.declared.compositions.ItemOf.{ItemOf}
 use Rattle.otio_model.specs.declared.compositions.Listed.{Listed}
 use Rattle.otio_model.specs.declared.timelines.Timeline.{Timeline}
 use Rattle.otio_model.specs.Timelines.{bare}
 use Rattle.tick_time.specs.FixedRates.{rate_24}
 use Rattle.edit_script.specs.declared.commands.Put.{Put}
-use Rattle.edit_script.proofs.OnceRun.{one_item, one_time}
+use Rattle.tick_time.proofs.SameValues.{same_frames}
+use Rattle.edit_script.proofs.OnceRun.{one_item}
 use Rattle.drill.specs.Media.{rows}
 use Rattle.drill.specs.Starting.{AreItems, IsStart, first_frame, start_clips, timeline_with}
 
@@ -23,6 +23,7 @@ one_list (put ∷ puts) xs ys (x, others, e, item, more) (y, rest, f, again, lef
 pub one_start : (seed : ℕ) (t u : Timeline) → IsStart seed t → IsStart seed u → bare t ≡ bare u
 one_start seed t u i j =
     i.is
-    ∙ ap (λ s. timeline_with s i.items) (one_time rate_24 first_frame i.start j.start i.begins j.begins)
+    ∙ ap (λ s. timeline_with s i.items) (same_frames rate_24 first_frame i.start j.start i.begins
+    j.begins)
     ∙ ap (timeline_with j.start) (one_list (start_clips seed) i.items j.items i.drawn j.drawn)
     ∙ sym j.is

@@ -7,7 +7,7 @@ use Rattle.undo_log.specs.States.{state_of}
 use Rattle.otio_model.specs.declared.timelines.Timeline.{Timeline}
 use Rattle.edit_script.specs.declared.commands.Act.{Act}
 use Rattle.edit_script.specs.declared.commands.Act.TheVariants as A
-use Rattle.edit_script.specs.declared.commands.Command.{Command}
+use Rattle.edit_script.specs.declared.commands.ScriptCommand.{ScriptCommand}
 use Rattle.edit_script.specs.declared.faults.CommandFault.{CommandFault}
 use Rattle.edit_script.specs.declared.faults.CommandFault.TheVariants as F
 use Rattle.media_rows.specs.Rows.{MediaRows}
@@ -15,12 +15,12 @@ use Rattle.edit_script.specs.Runs.{Halts, IsHalted, Runs, Takes, edits, undoes, 
 use Rattle.drill.specs.Turns.{WasTried, WentBack}
 
 -- it is carried out by its command
-pub ran_one : (m : MediaRows) (c : Command) (s r : State) → Runs m (c ∷ []) 1 s r
+pub ran_one : (m : MediaRows) (c : ScriptCommand) (s r : State) → Runs m (c ∷ []) 1 s r
     → Takes m c.act s r
 ran_one m c s r (q, e, t) = subst (λ x. Takes m c.act x r) e t
 
 -- it stops at its command, and nothing is done then
-halted_at : (m : MediaRows) (c d : Command) (n : ℕ) (s r : State) (f : CommandFault)
+halted_at : (m : MediaRows) (c d : ScriptCommand) (n : ℕ) (s r : State) (f : CommandFault)
     → Runs m (c ∷ []) n s r → slice_get (c ∷ []) n ≡ Some d → IsHalted m d r f
     → IsHalted m c s f × (r ≡ s)
 halted_at m c d zero s r f ran next h =
@@ -28,7 +28,7 @@ halted_at m c d zero s r f ran next h =
     (subst (λ x. IsHalted m c x f) ran (subst (λ b. IsHalted m b r f) (sym same) h), ran)
 halted_at m c d (suc n) s r f ran next h = absurd (let e : None ≡ Some d = next in cc e)
 
-pub halted_one : (m : MediaRows) (c : Command) (s r : State) (f : CommandFault)
+pub halted_one : (m : MediaRows) (c : ScriptCommand) (s r : State) (f : CommandFault)
     → Halts m (c ∷ []) s r f → IsHalted m c s f × (r ≡ s)
 halted_one m c s r f h = halted_at m c h.command h.done s r f h.ran h.next h.halted
 

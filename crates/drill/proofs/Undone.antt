@@ -1,8 +1,7 @@
 -- Undoing all edits gives the timeline before the first one.
-use Rattle.std.proofs.Common.{◌≡◌, refl, sym, ap, subst, ◌∙◌, ℕ, zero, suc, List, [], ◌∷◌, Option, Some, None}
+use Rattle.std.proofs.Common.{◌≡◌, refl, sym, ap, ◌∙◌, ℕ, zero, suc, List, [], ◌∷◌, Some, None}
 use Rattle.otio_model.specs.declared.timelines.Timeline.{Timeline}
-use Rattle.otio_model.specs.Timelines.{bare}
-use Rattle.undo_log.specs.States.{State, back, forth, moved, turned, turned_some}
+use Rattle.undo_log.specs.States.{State, moved, turned_some}
 use Rattle.edit_script.specs.declared.commands.Act.{Act}
 use Rattle.media_rows.specs.Rows.{MediaRows}
 use Rattle.edit_script.specs.Runs.{Takes, edits, undoes, redoes}

@@ -1,6 +1,6 @@
 //! The clips and the edits that are drawn.
 
-ghost use Rattle.std.specs.Prelude.{◌≡◌, ◌≤◌, ◌<◌, ◌^◌, ◌+◌, ◌++◌, pos, ◌≤ℤ◌, ◌-ℤ◌, IfOk, OnOk, decimal};
+ghost use Rattle.std.specs.Prelude.{◌≡◌, ◌≤◌, ◌<◌, ◌^◌, ◌+◌, ◌++◌, pos, IfOk, OnOk, decimal};
 ghost use Rattle.drill.specs.Acts as acts;
 ghost use Rattle.drill.specs.Draws as draws;
 

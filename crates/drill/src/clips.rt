@@ -1,6 +1,6 @@
 //! The clips of the timeline.
 
-ghost use Rattle.std.specs.Prelude.{◌≡◌, ◌∷◌, [], Some, IfOk, OnOk};
+ghost use Rattle.std.specs.Prelude.{◌≡◌, Some, IfOk, OnOk};
 ghost use Rattle.tick_time.specs.FixedRates as rates;
 ghost use Rattle.drill.specs.Acts as acts;
 ghost use Rattle.drill.specs.Draws.{after};

@@ -1,6 +1,6 @@
 //! The lines of what a drill reports.
 
-ghost use Rattle.std.specs.Prelude.{◌≡◌, codes, decimal};
+ghost use Rattle.std.specs.Prelude.{codes, decimal};
 ghost use Rattle.std.specs.Fmt.{signed_decimal};
 ghost use Rattle.dev_io.specs.Buffer.{HandsOver};
 ghost use Rattle.dev_io.specs.Calls.{Tells, SendsAll};

@@ -6,7 +6,7 @@ ghost use Rattle.edit_script.specs.Keeping.{HoldsEdits};
 ghost use Rattle.edit_script.specs.Steps.{IsReady};
 ghost use Rattle.drill.specs.Turns.{WasTried, WentBack};
 
-use edit_script::{Act, Command, CommandFault, apply_script};
+use edit_script::{Act, CommandFault, ScriptCommand, apply_script};
 use media_list::MediaList;
 use otio_model::Timeline;
 use std::alloc::{AllocError, Global};
@@ -40,7 +40,7 @@ pub(crate) fn try_act(
     ensures ready { IsReady log.new timeline.new }
     ensures holds { HoldsEdits log.old timeline.old → HoldsEdits log.new timeline.new }
 {
-    let script = [Command { line: 0, act }];
+    let script = [ScriptCommand { line: 0, act }];
     match apply_script(alloc, timeline, log, &script, Some(media)) {
         Ok(()) => Ok(true),
         Err(fault) => refused(fault),
@@ -59,7 +59,7 @@ pub(crate) fn step_back(
     ensures ready { IsReady log.new timeline.new }
     ensures holds { HoldsEdits log.old timeline.old → HoldsEdits log.new timeline.new }
 {
-    let script = [Command {
+    let script = [ScriptCommand {
         line: 0,
         act: Act::Undo,
     }];

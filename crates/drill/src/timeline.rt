@@ -1,6 +1,6 @@
 //! The timeline.
 
-ghost use Rattle.std.specs.Prelude.{◌≡◌, IfOk, OnOk, codes};
+ghost use Rattle.std.specs.Prelude.{◌≡◌, IfOk, OnOk};
 ghost use Rattle.tick_time.specs.FixedRates as rates;
 ghost use Rattle.drill.specs.Media.{rows};
 ghost use Rattle.tick_time.specs.Frames.{IsFrames};

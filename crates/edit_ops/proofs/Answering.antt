@@ -1,5 +1,5 @@
 -- What the plan of an edit comes to, from what a part of it gives.
-use Rattle.std.proofs.Common.{◌≡◌, ◌≢◌, refl, sym, ap, subst, ◌∙◌, ℕ, ℤ, Bool, true, false, FitsSigned, List, Result, Ok, Err, to_z, of_z, arith}
+use Rattle.std.proofs.Common.{◌≡◌, ◌≢◌, refl, sym, ap, subst, ◌∙◌, ℕ, ℤ, FitsSigned, List, Result, Err, to_z, of_z, arith}
 use mir.Syntax.{w64}
 use Rattle.std.specs.Result.{IfErr, IfOk}
 use Rattle.std.proofs.lemmas.Int.{ints}

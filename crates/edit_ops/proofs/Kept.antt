@@ -1,10 +1,11 @@
 -- Instants and lengths, as they are kept in words.
-use Rattle.std.proofs.Common.{◌≡◌, sym, subst, ℕ, ℤ, pos, ◌≤ℤ◌, Bool, FitsSigned, List, to_z, of_z, arith}
+use Rattle.std.proofs.Common.{◌≡◌, ◌∙◌, sym, subst, ℕ, ℤ, pos, ◌≤ℤ◌, Bool, FitsSigned, List, to_z, of_z, arith}
 use mir.Syntax.{w64, w128}
 use Rattle.std.proofs.lemmas.Int.{ints}
 use Rattle.tick_time.specs.declared.rates.Rate.{Rate}
 use Rattle.otio_model.specs.declared.timelines.Timeline.{Timeline}
 use Rattle.edit_ops.specs.Begun.{IsBegun, IsTaken}
+use Rattle.edit_ops.specs.Zoned.{IsTrackAt}
 
 -- a word of 128 bits keeps an instant
 pub word-kept : (z : ℤ) → pos 0 ≤ℤ z → z ≤ℤ pos 10000000000000000000000000000000000000
@@ -29,3 +30,8 @@ pub taken-at_frame : {t : Timeline} {p : List ℕ} {r : Rate} {w a n : ℤ} {gap
     → IsTaken t p at r w a n gap
 taken-at_frame {t} {p} {r} {w} {a} {n} {gap} at fits h =
     subst (λ z. IsTaken t p z r w a n gap) (frame-kept at fits) h
+
+-- the track on which an edit is begun, and its record rate
+pub track-begun : {t : Timeline} {p : List ℕ} {at w : ℤ} {r q : Rate} → q ≡ r → IsBegun t p at r w
+    → IsTrackAt t p q
+track-begun e b = record { there = b.there; counts = e ∙ b.counts }

@@ -16,8 +16,11 @@ use Rattle.edits_law.specs.Editable.{HasEditItem}
 use Rattle.edits.specs.After.{frame_of, list_of, place_of, rate_of}
 use Rattle.edits.specs.Edits.{edited}
 use Rattle.edits.specs.Narrow.{touched}
-use Rattle.edits.specs.Refusals.{cuts_ends, cuts_filling, early_fault, long, pin_fault, test}
+use Rattle.edits.specs.Refusals.{cuts_ends, cuts_filling, early_fault, long, pin_fault, place_fault, test}
 use Rattle.edits.specs.Zones.{touches}
+use Rattle.tick_time.specs.declared.rates.Rate.{Rate}
+use Rattle.edit_ops.specs.declared.slots.Put.{Put}
+use Rattle.edit_ops.specs.declared.slots.Slot.{Slot}
 use Rattle.edit_plans.specs.Filled.{is_wrong}
 use Rattle.edit_plans.specs.declared.gap_fill.FillFault.{FillFault}
 use Rattle.edit_plans.specs.declared.gap_fill.FillFault.TheVariants as G
@@ -37,6 +40,21 @@ pub record IsZoned (t : Timeline) (e : Edit) (place : List ℕ) (from to : ℤ) 
   pub long : ticks ≡ long n
   pub touches : touches (frame_of t) e (list_of t e) ≡ length (touched (list_of t e) from to)
 
+-- the place leads to a track, and this is its record rate
+pub record IsTrackAt (t : Timeline) (place : List ℕ) (rate : Rate) : Type 0 where
+  pub there : place_fault place t ≡ None
+  pub counts : rate ≡ rate_of t
+
+-- the edit is one that puts this into a track; its tests up to the one of pinned lengths come to
+-- what is early
+abbrev pub IsPutBy : Timeline → Put → (Edit → Option EditFault) → Edit → Type 0
+IsPutBy t put early e = (n : List Child)
+    × IsZoned t e put.place put.slot.from put.slot.to n put.new.items put.slot.ticks (early e)
+
+-- no test refuses the edit up to the one of pinned lengths
+abbrev pub unrefused : Edit → Option EditFault
+unrefused e = None
+
 -- how much longer a list of so many ticks is with others between two instants
 abbrev pub change : ℤ → ℤ → ℤ → ℤ → ℤ
 change total from ticks to = ((from +ℤ ticks) +ℤ int_max (pos 0) (total -ℤ to)) -ℤ total
@@ -48,6 +66,9 @@ phase_by whole others = test (not whole) F.Phase others
 -- the edit's cuts at both ends, and then the test of pinned lengths
 abbrev pub cuts_then : Timeline → Edit → ℤ → ℤ → Option EditFault
 cuts_then t e a b = phase_by (cuts_ends (list_of t e) a b) (pin_fault t e)
+
+abbrev pub cut_fault : Timeline → Slot → Edit → Option EditFault
+cut_fault t slot e = cuts_then t e slot.from slot.to
 
 -- what comes in place of an item of so many ticks that is removed
 abbrev pub in_place : RemoveMode → ℤ → List Child

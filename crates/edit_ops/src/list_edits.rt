@@ -10,10 +10,12 @@ ghost use Rattle.edit_ops.specs.Answered.{IsAnswer, put_edit};
 
 use crate::edit_start::begin;
 use crate::item_at::item_held;
-use crate::new_items::{filled, is_empty, item_filling_ticks, item_ticks, left, left_ticks, one};
-use crate::slots::slot_from;
+use crate::new_items::{
+    Filling, Placing, filled, is_empty, item_filling_ticks, item_ticks, left, left_ticks, one,
+};
+use crate::slots::{Put, slot_from};
 use crate::zones::{plan_cuts, plan_zone};
-use otio_model::{Edit, EditFault, FillMode, Item, Patch, Place, RemoveMode, Timeline};
+use otio_model::{Edit, EditFault, Patch, Place, RemoveMode, Timeline};
 use std::alloc::Global;
 
 // How long the zone of an item of so many ticks is that is put over what is there, or before it.
@@ -33,29 +35,33 @@ pub(crate) fn plan_put(
     timeline: &Timeline,
     place: Place,
     at: i64,
-    item: Item,
-    over: bool,
+    placing: Placing,
 ) -> Result<Patch, EditFault>
     requires sound { IsSound timeline.now }
     requires few { count timeline.now.tracks.children < 2 ^ 32 }
-    requires item { IsEditItem item }
-    ensures { IsAnswer timeline.now (put_edit over place at item) result }
+    requires item { IsEditItem placing.item }
+    ensures { IsAnswer timeline.now (put_edit placing.over place at placing.item) result }
 {
     let moment = match begin(timeline, &place, at) {
         Ok(moment) => moment,
         Err(fault) => {
-            drop(item);
+            drop(placing);
             return Err(fault);
         }
     };
-    if is_empty(&item) {
-        drop(item);
+    if is_empty(&placing.item) {
+        drop(placing);
         return Err(EditFault::Empty);
     }
-    let ticks = item_ticks(&item);
-    let slot = slot_from(moment.rate, moment.instant, zone_ticks(over, ticks), ticks);
-    match one(alloc, item) {
-        Ok(put) => plan_cuts(alloc, timeline, place, slot, put),
+    let ticks = item_ticks(&placing.item);
+    let slot = slot_from(
+        moment.rate,
+        moment.instant,
+        zone_ticks(placing.over, ticks),
+        ticks,
+    );
+    match one(alloc, placing.item) {
+        Ok(new) => plan_cuts(alloc, timeline, Put { place, slot, new }),
         Err(_) => Err(EditFault::Memory),
     }
 }
@@ -74,7 +80,8 @@ pub(crate) fn plan_slice(
     match item_held(timeline, &place, at) {
         Ok(hold) => {
             let slot = slot_from(hold.rate, hold.instant, 0, 0);
-            plan_cuts(alloc, timeline, place, slot, Vec::new(alloc))
+            let new = Vec::new(alloc);
+            plan_cuts(alloc, timeline, Put { place, slot, new })
         }
         Err(fault) => Err(fault),
     }
@@ -86,33 +93,32 @@ pub(crate) fn plan_fill(
     timeline: &Timeline,
     place: Place,
     at: i64,
-    mode: FillMode,
-    item: Item,
+    filling: Filling,
 ) -> Result<Patch, EditFault>
     requires sound { IsSound timeline.now }
     requires few { count timeline.now.tracks.children < 2 ^ 32 }
-    requires item { IsEditItem item }
-    ensures { IsAnswer timeline.now (Edit.Fill place at mode item) result }
+    requires item { IsEditItem filling.item }
+    ensures { IsAnswer timeline.now (Edit.Fill place at filling.mode filling.item) result }
 {
     let hold = match item_held(timeline, &place, at) {
         Ok(hold) => hold,
         Err(fault) => {
-            drop(item);
+            drop(filling);
             return Err(fault);
         }
     };
     if !hold.is_gap {
-        drop(item);
+        drop(filling);
         return Err(EditFault::NotGap);
     }
-    if is_empty(&item) {
-        drop(item);
+    if is_empty(&filling.item) {
+        drop(filling);
         return Err(EditFault::Empty);
     }
-    let ticks = item_filling_ticks(mode, &item, hold.ticks);
+    let ticks = item_filling_ticks(filling.mode, &filling.item, hold.ticks);
     let slot = slot_from(hold.rate, hold.from, ticks, ticks);
-    match filled(alloc, mode, item, hold.ticks, hold.rate) {
-        Ok(put) => plan_cuts(alloc, timeline, place, slot, put),
+    match filled(alloc, filling, hold.ticks, hold.rate) {
+        Ok(new) => plan_cuts(alloc, timeline, Put { place, slot, new }),
         Err(fault) => Err(fault),
     }
 }
@@ -134,7 +140,7 @@ pub(crate) fn plan_remove(
             let ticks = left_ticks(mode, hold.ticks);
             let slot = slot_from(hold.rate, hold.from, hold.ticks, ticks);
             match left(alloc, mode, hold.ticks, hold.rate) {
-                Ok(put) => plan_zone(alloc, timeline, place, slot, put),
+                Ok(new) => plan_zone(alloc, timeline, Put { place, slot, new }),
                 Err(_) => Err(EditFault::Memory),
             }
         }

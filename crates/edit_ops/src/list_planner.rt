@@ -9,6 +9,7 @@ ghost use Rattle.edits.specs.Refusals.{IsRefused};
 ghost use Rattle.edit_plans.specs.Planned.{is_list_edit, IsPlan, ShowsThrough};
 
 use crate::list_edits::{plan_fill, plan_put, plan_remove, plan_slice};
+use crate::new_items::{Filling, Placing};
 use otio_model::{Edit, EditFault, Patch, Timeline};
 use std::alloc::Global;
 
@@ -25,15 +26,19 @@ pub fn plan_list(alloc: Global, timeline: &Timeline, edit: Edit) -> Result<Patch
         (λ fault. fault ≢ EditFault.Memory → IsRefused timeline.now edit fault) }
 {
     match edit {
-        Edit::Overwrite { place, at, item } => plan_put(alloc, timeline, place, at, item, true),
-        Edit::Insert { place, at, item } => plan_put(alloc, timeline, place, at, item, false),
+        Edit::Overwrite { place, at, item } => {
+            plan_put(alloc, timeline, place, at, Placing { item, over: true })
+        }
+        Edit::Insert { place, at, item } => {
+            plan_put(alloc, timeline, place, at, Placing { item, over: false })
+        }
         Edit::Slice { place, at } => plan_slice(alloc, timeline, place, at),
         Edit::Fill {
             place,
             at,
             mode,
             item,
-        } => plan_fill(alloc, timeline, place, at, mode, item),
+        } => plan_fill(alloc, timeline, place, at, Filling { item, mode }),
         Edit::Remove { place, at, mode } => plan_remove(alloc, timeline, place, at, mode),
         _ => unreachable!(),
     }

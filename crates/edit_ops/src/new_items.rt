@@ -1,6 +1,6 @@
 //! What the five edits of lists put into a track: the items themselves, pieces of them, and gaps.
 
-ghost use Rattle.std.specs.Prelude.{◌≡◌, ◌≢◌, ◌<◌, ◌^◌, ◌≤◌, ◌≤ℤ◌, ◌<ℤ◌, pos, true, false};
+ghost use Rattle.std.specs.Prelude.{◌≡◌, ◌≢◌, ◌<◌, ◌≤◌, ◌≤ℤ◌, ◌<ℤ◌, pos, true, false};
 ghost use Rattle.std.specs.Prelude.{[], ◌∷◌, length, IfErr, IfOk, Some};
 ghost use Rattle.limits.specs.Limits.{most_ticks};
 ghost use Rattle.otio_model.specs.declared.edit_types.EditFault.TheVariants.{Memory};
@@ -19,6 +19,24 @@ use otio_model::{EditFault, FillMode, Item, RemoveMode};
 use pieces::{short_gap, ticks_of};
 use std::alloc::{AllocError, Global};
 use tick_time::Rate;
+
+/// An item that comes over what is there, or before it.
+#[derive(Drop)]
+pub(crate) struct Placing {
+    /// The item.
+    pub(crate) item: Item,
+    /// Whether it comes over what is there.
+    pub(crate) over: bool,
+}
+
+/// An item that fills a gap.
+#[derive(Drop)]
+pub(crate) struct Filling {
+    /// The item.
+    pub(crate) item: Item,
+    /// How it fills the gap.
+    pub(crate) mode: FillMode,
+}
 
 /// A list of one item.
 pub(crate) fn one(alloc: Global, item: Item) -> Result<Vec<Item>, AllocError>
@@ -78,24 +96,23 @@ fn told(fault: FillFault) -> EditFault
 /// [`EditFault::Memory`] where memory runs out.
 pub(crate) fn filled(
     alloc: Global,
-    mode: FillMode,
-    item: Item,
+    filling: Filling,
     room: i128,
     rate: Rate,
 ) -> Result<Vec<Item>, EditFault>
-    requires item { IsEditItem item }
+    requires item { IsEditItem filling.item }
     requires low { pos 0 <ℤ room }
     requires high { room ≤ℤ pos most_ticks }
-    ensures right { IfOk result (λ _. is_wrong mode item room ≡ false) }
-    ensures whole { IfOk result (λ _. cuts_filling mode item room ≡ true) }
-    ensures made { IfOk result
-        (λ put. all_made rate (edits.filling mode item room ∷ []) ≡ Some put.items) }
+    ensures right { IfOk result (λ _. is_wrong filling.mode filling.item room ≡ false) }
+    ensures whole { IfOk result (λ _. cuts_filling filling.mode filling.item room ≡ true) }
+    ensures made { IfOk result (λ put.
+        all_made rate (edits.filling filling.mode filling.item room ∷ []) ≡ Some put.items) }
     ensures few { IfOk result (λ put. length put.items ≡ 1) }
     ensures fault { IfErr result (λ fault. fault ≢ Memory →
-        misfit mode item room (Some EditFault.Memory) ≡ Some fault) }
+        misfit filling.mode filling.item room (Some EditFault.Memory) ≡ Some fault) }
 {
-    match fill(alloc, mode, item, room, rate) {
-        Ok(filling) => match one(alloc, filling) {
+    match fill(alloc, filling.mode, filling.item, room, rate) {
+        Ok(item) => match one(alloc, item) {
             Ok(put) => Ok(put),
             Err(_) => Err(EditFault::Memory),
         },

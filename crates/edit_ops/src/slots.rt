@@ -3,6 +3,7 @@
 ghost use Rattle.std.specs.Prelude.{◌≡◌, ◌+ℤ◌, ◌≤ℤ◌, pos};
 ghost use Rattle.limits.specs.Limits.{most_ticks};
 
+use otio_model::{Item, Place};
 use tick_time::Rate;
 
 /// A zone of a track and how long what comes in its place is, in ticks from the track's start.
@@ -22,6 +23,17 @@ pub(crate) struct Slot {
     pub(crate) ghost to_high: { to ≤ℤ pos 20000000000000000000000000000000000000 },
     pub(crate) ghost low: { pos 0 ≤ℤ ticks },
     pub(crate) ghost high: { ticks ≤ℤ pos most_ticks },
+}
+
+/// What an edit puts into a track.
+#[derive(Drop)]
+pub(crate) struct Put {
+    /// The place of the track.
+    pub(crate) place: Place,
+    /// The zone that it replaces.
+    pub(crate) slot: Slot,
+    /// The items that come in its place.
+    pub(crate) new: Vec<Item>,
 }
 
 /// The zone of so many ticks from an instant on, at the record rate, for what is `ticks` long.

@@ -1,25 +1,22 @@
 //! Items between two instants of a track.
 
-ghost use Rattle.std.specs.Prelude.{◌≡◌, ◌≢◌, ◌<◌, ◌^◌, ◌≤ℤ◌, ◌-ℤ◌, ◌&&◌, ℤ, pos, IfErr};
-ghost use Rattle.std.specs.Prelude.{OnOk, None, Some, List};
+ghost use Rattle.std.specs.Prelude.{◌≡◌, ◌<◌, ◌^◌, ◌≤ℤ◌, ◌-ℤ◌, ◌&&◌, pos};
 ghost use Rattle.std.specs.Int.{int_max};
 ghost use Rattle.otio_model.specs.declared.edit_types.Edit.{Edit as AnyEdit};
 ghost use Rattle.otio_model.specs.Counts.{count};
 ghost use Rattle.otio_model.specs.Trees.{items_of};
 ghost use Rattle.coord.specs.Soundness.{IsSound};
-ghost use Rattle.edits.specs.Children.{Child};
 ghost use Rattle.edits.specs.Cuts.{cuts_whole};
-ghost use Rattle.edits.specs.After.{rate_of};
 ghost use Rattle.edits.specs.Edges.{added};
-ghost use Rattle.edits.specs.Refusals.{cuts_ends, pin_fault, place_fault};
+ghost use Rattle.edits.specs.Refusals.{cuts_ends, pin_fault};
 ghost use Rattle.pieces.specs.Short.{AreCuttable};
 ghost use Rattle.edit_ops.specs.Zoned as zoned;
-ghost use Rattle.edit_ops.specs.Zoned.{IsZoned};
+ghost use Rattle.edit_ops.specs.Zoned.{IsPutBy, IsTrackAt, cut_fault};
 ghost use Rattle.edit_ops.specs.Answered.{IsAnswer};
 
-use crate::slots::Slot;
+use crate::slots::{Put, Slot};
 use edit_plans::{Zone, can_be_cut, fill_zone, finish, pinned, track_of};
-use otio_model::{Children, EditFault, Item, Patch, Place, Timeline};
+use otio_model::{Children, EditFault, Patch, Timeline};
 use pieces::RangedFault;
 use std::alloc::Global;
 
@@ -64,30 +61,21 @@ fn change(total: i128, slot: Slot) -> i128
 // The patch that puts items into a zone of a track. The fault is that of a result that is too long
 // or of one of too many items, and [`EditFault::Memory`] where memory runs out. No earlier test
 // refuses the edit.
-fn put_zone(
-    alloc: Global,
-    timeline: &Timeline,
-    place: Place,
-    slot: Slot,
-    put: Vec<Item>,
-) -> Result<Patch, EditFault>
+fn put_zone(alloc: Global, timeline: &Timeline, put: Put) -> Result<Patch, EditFault>
     requires sound { IsSound timeline.now }
     requires few { count timeline.now.tracks.children < 2 ^ 32 }
-    requires there { place_fault place timeline.now ≡ None }
-    requires rate { slot.rate ≡ rate_of timeline.now }
-    requires edit { (e : AnyEdit) × (n : List Child)
-        × IsZoned timeline.now e place slot.from slot.to n put.items slot.ticks None }
-    ensures { (e : AnyEdit) (n : List Child) →
-        IsZoned timeline.now e place slot.from slot.to n put.items slot.ticks None →
+    requires track { IsTrackAt timeline.now put.place put.slot.rate }
+    requires edit { (e : AnyEdit) × IsPutBy timeline.now put zoned.unrefused e }
+    ensures { (e : AnyEdit) → IsPutBy timeline.now put zoned.unrefused e →
         IsAnswer timeline.now e result }
 {
-    let children = track_of(timeline, &place);
+    let children = track_of(timeline, &put.place);
     let zone = Zone {
-        from: slot.from,
-        to: slot.to,
+        from: put.slot.from,
+        to: put.slot.to,
     };
-    match fill_zone(alloc, children, zone, put, slot.rate) {
-        Ok(middle) => finish(timeline, place, middle),
+    match fill_zone(alloc, children, zone, put.new, put.slot.rate) {
+        Ok(middle) => finish(timeline, put.place, middle),
         Err(fault) => match fault {
             RangedFault::Range => Err(EditFault::TooLong),
             RangedFault::Memory => Err(EditFault::Memory),
@@ -98,28 +86,18 @@ fn put_zone(
 /// The patch that puts items into a zone of a track. The fault is that of a track that isn't
 /// pinned, of a result that is too long or of one of too many items, and [`EditFault::Memory`]
 /// where memory runs out.
-pub(crate) fn plan_zone(
-    alloc: Global,
-    timeline: &Timeline,
-    place: Place,
-    slot: Slot,
-    put: Vec<Item>,
-) -> Result<Patch, EditFault>
+pub(crate) fn plan_zone(alloc: Global, timeline: &Timeline, put: Put) -> Result<Patch, EditFault>
     requires sound { IsSound timeline.now }
     requires few { count timeline.now.tracks.children < 2 ^ 32 }
-    requires there { place_fault place timeline.now ≡ None }
-    requires rate { slot.rate ≡ rate_of timeline.now }
-    requires edit { (e : AnyEdit) × (n : List Child)
-        × IsZoned timeline.now e place slot.from slot.to n put.items slot.ticks
-        (pin_fault timeline.now e) }
-    ensures { (e : AnyEdit) (n : List Child) →
-        IsZoned timeline.now e place slot.from slot.to n put.items slot.ticks
-        (pin_fault timeline.now e) → IsAnswer timeline.now e result }
+    requires track { IsTrackAt timeline.now put.place put.slot.rate }
+    requires edit { (e : AnyEdit) × IsPutBy timeline.now put (pin_fault timeline.now) e }
+    ensures { (e : AnyEdit) → IsPutBy timeline.now put (pin_fault timeline.now) e →
+        IsAnswer timeline.now e result }
 {
-    let total = track_ticks(track_of(timeline, &place));
-    let more = change(total, slot);
-    match pinned(alloc, timeline, &place, more) {
-        Ok(()) => put_zone(alloc, timeline, place, slot, put),
+    let total = track_ticks(track_of(timeline, &put.place));
+    let more = change(total, put.slot);
+    match pinned(alloc, timeline, &put.place, more) {
+        Ok(()) => put_zone(alloc, timeline, put),
         Err(fault) => {
             drop(put);
             Err(fault)
@@ -149,26 +127,17 @@ fn can_cut_ends(children: &Children, slot: Slot) -> bool
 
 /// The same where what stands at both ends of the zone is cut. [`EditFault::Phase`] comes first,
 /// exactly where it can't be.
-pub(crate) fn plan_cuts(
-    alloc: Global,
-    timeline: &Timeline,
-    place: Place,
-    slot: Slot,
-    put: Vec<Item>,
-) -> Result<Patch, EditFault>
+pub(crate) fn plan_cuts(alloc: Global, timeline: &Timeline, put: Put) -> Result<Patch, EditFault>
     requires sound { IsSound timeline.now }
     requires few { count timeline.now.tracks.children < 2 ^ 32 }
-    requires there { place_fault place timeline.now ≡ None }
-    requires rate { slot.rate ≡ rate_of timeline.now }
-    requires edit { (e : AnyEdit) × (n : List Child)
-        × IsZoned timeline.now e place slot.from slot.to n put.items slot.ticks
-        (zoned.cuts_then timeline.now e slot.from slot.to) }
-    ensures { (e : AnyEdit) (n : List Child) →
-        IsZoned timeline.now e place slot.from slot.to n put.items slot.ticks
-        (zoned.cuts_then timeline.now e slot.from slot.to) → IsAnswer timeline.now e result }
+    requires track { IsTrackAt timeline.now put.place put.slot.rate }
+    requires edit { (e : AnyEdit) × IsPutBy timeline.now put (cut_fault timeline.now put.slot) e }
+    ensures { (e : AnyEdit) → IsPutBy timeline.now put (cut_fault timeline.now put.slot) e →
+        IsAnswer timeline.now e result }
 {
-    if !can_cut_ends(track_of(timeline, &place), slot) {
+    if !can_cut_ends(track_of(timeline, &put.place), put.slot) {
+        drop(put);
         return Err(EditFault::Phase);
     }
-    plan_zone(alloc, timeline, place, slot, put)
+    plan_zone(alloc, timeline, put)
 }

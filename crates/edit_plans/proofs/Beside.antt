@@ -1,14 +1,17 @@
 -- The nearest item before an index, and after it.
-use Rattle.std.proofs.Common.{◌≡◌, inl, inr, refl, sym, subst, ap, ◌∙◌, ℕ, zero, suc, ◌+◌, ◌<◌, ◌≤◌, true, false, cond, List, [], ◌∷◌, Some, None, take, drop, length, arith}
+use Rattle.std.proofs.Common.{◌≡◌, inl, inr, refl, sym, subst, ap, ◌∙◌, ℕ, zero, suc, ◌+◌, ◌<◌}
+use Rattle.std.proofs.Common.{◌≤◌, true, false, cond, List, [], ◌∷◌, Option, Some, None, take}
+use Rattle.std.proofs.Common.{drop, length, arith}
+use Rattle.std.specs.Prelude.{IfSome}
 use Rattle.std.specs.Prelude.{slice_get}
 use Rattle.std.proofs.Math.Nat.{eq-or-lt_of_le}
 use Rattle.std.specs.Option.{option_or}
 use Rattle.otio_model.specs.declared.compositions.ItemOf.{ItemOf}
 use Rattle.otio_model.specs.declared.compositions.Listed.{Listed}
 use Rattle.otio_model.specs.Trees.{is_transition}
-use Rattle.edits.specs.Edges.{first_item, last_item}
+use Rattle.edits.specs.Edges.{Held, first_item, last_item}
 use Rattle.coord.proofs.Members.{next, none_left}
-use Rattle.edit_plans.specs.Neighbours.{IsAfter, IsBefore}
+use Rattle.edit_plans.specs.Neighbours.{IsAfter, IsBefore, IsBetween, IsNotTransition}
 
 -- ---- before
 
@@ -138,3 +141,26 @@ after_found l index n x h p f t = record {
 pub after_none : (l : List (ItemOf Listed)) (index n : ℕ) → length l ≤ n → Skipped l index n
     → first_item (drop (index + 1) l) ≡ None
 after_none l index n h p = p.same ∙ ap first_item (none_left l n h)
+
+-- ---- held between neighbours
+
+-- a list of one, or of none
+abbrev alone : Option (ItemOf Listed) → List (ItemOf Listed)
+alone None = []
+alone (Some x) = x ∷ []
+
+last_alone : (o : Option (ItemOf Listed)) → IfSome o IsNotTransition → last_item (alone o) ≡ o
+last_alone None h = refl
+last_alone (Some x) h = ap (λ b. cond b None (Some x)) h
+
+first_alone : (o : Option (ItemOf Listed)) → IfSome o IsNotTransition → first_item (alone o) ≡ o
+first_alone None h = refl
+first_alone (Some x) h = ap (λ b. cond b (first_item []) (Some x)) h
+
+pub held-between : (before : Option (ItemOf Listed)) (item : ItemOf Listed)
+    (behind : Option (ItemOf Listed)) → IfSome before IsNotTransition
+    → IfSome behind IsNotTransition → (h : Held) × IsBetween before item behind h
+held-between before item behind a b = (
+  record { before = alone before; item = item; behind = alone behind },
+  record { last = last_alone before a; held = refl; first = first_alone behind b },
+)

@@ -1,7 +1,7 @@
 -- The child that holds an instant, by its index and its start.
 use Rattle.std.proofs.Common.{◌≡◌, refl, sym, subst, ap, ap₂, ◌∙◌, ℕ, zero, suc, ◌+◌, ◌<◌}
 use Rattle.std.proofs.Common.{ℤ, pos, ◌+ℤ◌, ◌-ℤ◌, ◌≤ℤ◌, ◌<ℤ◌, Bool, true, false, arith}
-use Rattle.std.proofs.Common.{List, [], ◌∷◌, Option, Some, None, take, drop, length}
+use Rattle.std.proofs.Common.{List, [], ◌∷◌, Option, Some, None, take, drop}
 use Rattle.std.specs.Prelude.{int_lt, int_le, ◌&&◌, ◌%◌, ◌==◌, ◌*ℤ◌, unsigned_abs, option_map}
 use Rattle.std.specs.Prelude.{IfNone, IfSome, slice_get}
 use Rattle.std.proofs.lemmas.Int.{ints, by_lt_z}
@@ -113,7 +113,7 @@ held_within (x ∷ l) w h e =
 -- ---- seats
 
 -- starts as the model counts them and as lengths added up
-sum_ticks : (l : List (ItemOf Listed)) → pos (total (lens l)) ≡ added l
+pub sum_ticks : (l : List (ItemOf Listed)) → pos (total (lens l)) ≡ added l
 sum_ticks [] = refl
 sum_ticks (x ∷ l) = let e = sum_ticks l in let f = ticks_are x in omega (arith, ints, e, f)
 
@@ -133,7 +133,7 @@ all_ticks l = ap pos (all-total l) ∙ sum_ticks (items_of l)
 one_more : (n : ℕ) → suc n ≡ n + 1
 one_more n = omega arith
 
-take_more : (l : List (ItemOf Listed)) (i : ℕ) (x : ItemOf Listed) → slice_get l i ≡ Some x
+pub take_more : (l : List (ItemOf Listed)) (i : ℕ) (x : ItemOf Listed) → slice_get l i ≡ Some x
     → added (take (i + 1) l) ≡ added (take i l) +ℤ ticks x
 take_more l i x e = ap (λ n. added (take n l)) (sym (one_more i)) ∙ by l i x e
   where

@@ -1,6 +1,7 @@
 -- Lemmas on plans of edits.
 pub mod Passing
 pub mod Clearing
+pub mod Further
 pub mod Holding
 pub mod LongLemmas
 pub mod ZoneLemmas
@@ -12,7 +13,6 @@ pub mod FitLemmas
 pub mod FillLemmas
 pub mod Sides
 pub mod Reached
-pub mod Bounds
 pub mod PlaceWays
 pub mod AmountLemmas
 pub mod EachMade

@@ -1,13 +1,13 @@
 -- Children that are passed on the way to a zone.
 use Rattle.std.proofs.Common.{◌≡◌, refl, sym, subst, ap, ap₂, ◌∙◌, ℕ, zero, suc, ◌+◌, ◌*◌, ◌≤◌}
-use Rattle.std.proofs.Common.{ℤ, pos, ◌+ℤ◌, ◌-ℤ◌, ◌≤ℤ◌, ◌<ℤ◌, Bool, true, false, cond, arith}
+use Rattle.std.proofs.Common.{ℤ, pos, ◌+ℤ◌, ◌-ℤ◌, ◌≤ℤ◌, Bool, true, false, cond, arith}
 use Rattle.std.proofs.Common.{List, [], ◌∷◌, ◌++◌, take, drop, length}
 use Rattle.std.proofs.Common.{length-append, length-take-le}
 use Rattle.std.specs.Prelude.{int_lt, int_le, ◌||◌}
 use Rattle.std.proofs.lemmas.Int.{ints}
 use Rattle.limits.proofs.IntegerTests.{int_lt-true as lt_is}
 pub use Rattle.limits.proofs.IntegerTests.{int_le-of_difference as lies_to}
-use Rattle.limits.proofs.IntegerSums.{minus-zero as from_zero, minus-minus as less_more}
+use Rattle.limits.proofs.IntegerSums.{minus-minus as less_more}
 use Rattle.otio_model.specs.declared.compositions.ItemOf.{ItemOf}
 use Rattle.otio_model.specs.declared.compositions.Listed.{Listed}
 use Rattle.otio_model.specs.Kept.{reach_in}
@@ -42,7 +42,7 @@ pub added_both : (l r : List (ItemOf Listed)) → added (l ++ r) ≡ added l +�
 added_both [] r = omega (arith, ints)
 added_both (x ∷ l) r = let e = added_both l r in omega (arith, ints, e)
 
-added_taken : (l : List (ItemOf Listed)) (i : ℕ) → AreShort l
+pub added_taken : (l : List (ItemOf Listed)) (i : ℕ) → AreShort l
     → added (take i l) ≤ℤ pos (i * 705600000000000000000000)
 added_taken l zero h = omega (arith, ints)
 added_taken [] (suc i) h = omega (arith, ints)

@@ -1,6 +1,6 @@
 -- The instant in a child that a track's instant reaches.
 use Rattle.std.proofs.Common.{◌≡◌, refl, sym, ap, ap₂, subst, ◌∙◌, ℕ, suc, ◌+◌, ◌≤◌, ◌==◌}
-use Rattle.std.proofs.Common.{ℤ, pos, negsuc, ◌+ℤ◌, ◌-ℤ◌, ◌≤ℤ◌, ◌<ℤ◌, Bool, true, false, ◌&&◌, ◌||◌, cond}
+use Rattle.std.proofs.Common.{ℤ, pos, negsuc, ◌+ℤ◌, ◌-ℤ◌, ◌≤ℤ◌, Bool, true, false, ◌&&◌, ◌||◌, cond}
 use Rattle.std.proofs.Common.{List, Option, Some, None, length, drop, take, slice_get, add-one, arith}
 use Rattle.std.specs.Prelude.{IfSome, unwrap_or, int_le, int_lt}
 use Rattle.std.proofs.lemmas.Int.{ints}

@@ -1,5 +1,8 @@
 -- The moves of the definitions, step by step.
 use Rattle.std.proofs.Common.{◌≡◌, refl, sym, ap, ap₂, ◌∙◌, ℤ, pos, ◌-ℤ◌, false, Option, Some, None}
+use Rattle.std.proofs.Common.{FitsSigned, arith}
+use mir.Syntax.{w128}
+use Rattle.std.proofs.lemmas.Int.{ints}
 use Rattle.std.specs.Prelude.{option_map}
 use Rattle.otio_model.specs.declared.compositions.ItemOf.{ItemOf}
 use Rattle.otio_model.specs.declared.compositions.Listed.{Listed}
@@ -7,6 +10,7 @@ use Rattle.edits.specs.Children.{ticks}
 use Rattle.edits.specs.Edges.{Held, Moves, Handles, clamped, first_item, gap_ticks, head_room, is_zero}
 use Rattle.edits.specs.Edges.{last_item, lesser, clip_handles, handles_in, ripple_by, roll_head}
 use Rattle.edits.specs.Edges.{roll_tail, slip_by, tail_room, trim_by, whole_frames, whole_limit}
+use Rattle.edit_plans.specs.Bounds.{IsMove}
 use Rattle.edit_plans.specs.Meanings.{gap_of_before, handles_of}
 use Rattle.edit_plans.specs.declared.media_handles.Handles.{Handles as HandlesRow}
 use Rattle.tick_time.specs.declared.spans.Span.{Span}
@@ -14,6 +18,10 @@ use Rattle.otio_model.specs.declared.compositions.Clip.{Clip as ClipRow}
 use Rattle.otio_model.specs.declared.compositions.ItemOf.TheVariants.{Clip}
 use Rattle.otio_model.specs.Lengths.{clip_range, trimmed_start}
 use Rattle.coord.specs.Speeds.{speed_of}
+
+-- a move is a number of 128 bits
+pub move-fits : (z : ℤ) → IsMove z → FitsSigned w128 z
+move-fits z h = omega (arith, ints, h.low, h.high)
 
 pub slips : (f by r a b : ℤ) (x : ItemOf Listed) → Some
     (let m : Handles = record { before = a; behind = b } in m) ≡ clip_handles x

@@ -9,7 +9,10 @@ use Rattle.std.proofs.lemmas.List.{append-nil as none_more}
 use Rattle.tick_time.specs.declared.rates.Rate.{Rate}
 use Rattle.otio_model.specs.declared.compositions.ItemOf.{ItemOf}
 use Rattle.otio_model.specs.declared.compositions.Listed.{Listed}
+use Rattle.otio_model.specs.Counts.{count}
 use Rattle.otio_model.specs.Edits.{replaced}
+use Rattle.otio_model.specs.Trees.{items_of}
+use Rattle.otio_model.proofs.LengthLimits.{few_enough}
 use Rattle.coord.specs.Sights.{overlap_of}
 use Rattle.edits.specs.Splices.{is_stripped}
 use Rattle.edits.specs.Children.{Child, ticks, made, all_made, with_first}
@@ -22,6 +25,9 @@ use Rattle.edits_law.proofs.Parted.{narrow_between, made_narrow, replaced_middle
 use Rattle.edits_law.proofs.Touched.{apart, in_parts, ahead_early}
 use Rattle.pieces.specs.Short.{AreCuttable, IsCuttable, AreShort}
 use Rattle.pieces.proofs.Faultless.{faultless_is_short}
+use Rattle.edit_plans.specs.declared.replaced_children.Stretch.{Stretch}
+use Rattle.edit_plans.specs.declared.replaced_children.Zone.{Zone}
+use Rattle.edit_plans.specs.Touched.{AreTouched}
 use Rattle.edit_plans.proofs.Passing.{added_ahead, ahead_count}
 use Rattle.pieces.proofs.SameTimes.{or_left, or_right}
 use Rattle.coord.proofs.Members.{next}
@@ -172,6 +178,25 @@ zone_low l a b h k = by (ahead_early l a b k (omega (arith, ints, h, k)))
 
 -- ---- the whole list
 
+-- the children to be are those ahead, what comes of the touched ones, and those beyond
+narrowed : (l : List (ItemOf Listed)) (a b u v : ℤ) (n : List Child) (at count : ℕ) → pos 0 ≤ℤ a
+    → a ≤ℤ b → at ≡ length (ahead l a b) → count ≡ length (touched l a b)
+    → u ≡ a -ℤ added (ahead l a b) → v ≡ b -ℤ added (ahead l a b)
+    → put_between (strip l a b) a n b ≡ olds (ahead l a b)
+    ++ (put_between (strip (take count (drop at l)) u v) u n v ++ olds (beyond l a b))
+narrowed l a b u v n at count h k e f g i =
+    let A : List (ItemOf Listed) = ahead l a b in
+    let T : List (ItemOf Listed) = touched l a b in
+    let B : List (ItemOf Listed) = beyond l a b in
+    let same : take count (drop at l) ≡ T = ap₂ (λ x y. take x (drop y l)) f e ∙ touched_is l a b in
+    let zone : put_between (strip (take count (drop at l)) u v) u n v
+    ≡ put_between (strip T (a -ℤ added A) (b -ℤ added A)) (a -ℤ added A) n (b -ℤ added A) =
+    ap (λ q. put_between (strip q u v) u n v) same
+    ∙ ap₂ (λ x y. put_between (strip T x y) x n y) g i in
+    ap (λ q. put_between (strip q a b) a n b) (sym (in_parts l a b))
+    ∙ narrow_between A T B a b n (apart l a b k (omega (arith, ints, h, k)))
+    ∙ ap (λ q. olds A ++ (q ++ olds B)) (sym zone)
+
 pub middle_made : (r : Rate) (l : List (ItemOf Listed)) (a b u v : ℤ) (put p : List (ItemOf Listed))
     (n : List Child) (at count : ℕ) → pos 0 ≤ℤ a → a ≤ℤ b → at ≡ length (ahead l a b)
     → count ≡ length (touched l a b) → u ≡ a -ℤ added (ahead l a b)
@@ -182,22 +207,11 @@ middle_made r l a b u v put p n at count h k e f g i m =
     let A : List (ItemOf Listed) = ahead l a b in
     let T : List (ItemOf Listed) = touched l a b in
     let B : List (ItemOf Listed) = beyond l a b in
-    let c : ℤ = a -ℤ added A in
-    let d : ℤ = b -ℤ added A in
-    let same : take count (drop at l) ≡ T = ap₂ (λ x y. take x (drop y l)) f e ∙ touched_is l a b in
-    let zone : put_between (strip (take count (drop at l)) u v) u n v
-    ≡ put_between (strip T c d) c n d = ap (λ q. put_between (strip q u v) u n v) same
-    ∙ ap₂ (λ x y. put_between (strip T x y) x n y) g i in
-    let inner : all_made r (put_between (strip T c d) c n d) ≡ Some p = ap (all_made r) (sym zone)
-    ∙ m in
-    let parted : put_between (strip l a b) a n b ≡ olds A
-    ++ (put_between (strip T c d) c n d ++ olds B) =
-    ap (λ q. put_between (strip q a b) a n b) (sym (in_parts l a b))
-    ∙ narrow_between A T B a b n (apart l a b k (omega (arith, ints, h, k))) in
     let list : replaced at count p l ≡ A ++ (p ++ B) = ap₂ (λ x y. replaced x y p l) e f
     ∙ ap (replaced (length A) (length T) p) (sym (in_parts l a b)) ∙ replaced_middle A T B p in
-    ap (all_made r) parted ∙ made_narrow r A (put_between (strip T c d) c n d) B
-    ∙ ap (option_map (λ q. A ++ (q ++ B))) inner ∙ ap Some (sym list)
+    ap (all_made r) (narrowed l a b u v n at count h k e f g i)
+    ∙ made_narrow r A (put_between (strip (take count (drop at l)) u v) u n v) B
+    ∙ ap (option_map (λ q. A ++ (q ++ B))) m ∙ ap Some (sym list)
 
 pub middle_far : (l : List (ItemOf Listed)) (a b u v : ℤ) (n : List Child) (at count : ℕ)
     → pos 0 ≤ℤ a → a ≤ℤ b → at ≡ length (ahead l a b) → count ≡ length (touched l a b)
@@ -205,21 +219,9 @@ pub middle_far : (l : List (ItemOf Listed)) (a b u v : ℤ) (n : List Child) (at
     → has_far (put_between (strip (take count (drop at l)) u v) u n v) ≡ true
     → has_far (put_between (strip l a b) a n b) ≡ true
 middle_far l a b u v n at count h k e f g i m =
-    let A : List (ItemOf Listed) = ahead l a b in
-    let T : List (ItemOf Listed) = touched l a b in
-    let B : List (ItemOf Listed) = beyond l a b in
-    let c : ℤ = a -ℤ added A in
-    let d : ℤ = b -ℤ added A in
-    let same : take count (drop at l) ≡ T = ap₂ (λ x y. take x (drop y l)) f e ∙ touched_is l a b in
-    let zone : put_between (strip (take count (drop at l)) u v) u n v
-    ≡ put_between (strip T c d) c n d = ap (λ q. put_between (strip q u v) u n v) same
-    ∙ ap₂ (λ x y. put_between (strip T x y) x n y) g i in
-    let parted : put_between (strip l a b) a n b ≡ olds A
-    ++ (put_between (strip T c d) c n d ++ olds B) =
-    ap (λ q. put_between (strip q a b) a n b) (sym (in_parts l a b))
-    ∙ narrow_between A T B a b n (apart l a b k (omega (arith, ints, h, k))) in
-    ap has_far parted ∙ far_right (olds A) _ (far_left (put_between (strip T c d) c n d) (olds B)
-    (ap has_far (sym zone) ∙ m))
+    ap has_far (narrowed l a b u v n at count h k e f g i)
+    ∙ far_right (olds (ahead l a b)) _
+    (far_left (put_between (strip (take count (drop at l)) u v) u n v) (olds (beyond l a b)) m)
 
 -- ---- items that can be cut
 
@@ -231,31 +233,46 @@ pub kept_faultless : (l k : List (ItemOf Listed)) (n a : ℕ) (u v : ℤ) → Ar
 kept_faultless l k n a u v h e = subst AreCuttable (sym e)
     (strip_faultless (take n (drop a l)) u v (take_faultless (drop a l) n (drop_faultless l a h)))
 
--- the same, with each number and list by an equation
-pub made_as : (r : Rate) (l k : List (ItemOf Listed)) (a b x y u v : ℤ) (p : List (ItemOf Listed))
-    (n : List Child) (at count : ℕ) → pos 0 ≤ℤ a → a ≤ℤ b → x ≡ a → y ≡ b
-    → at ≡ length (ahead l x y) → count ≡ length (touched l x y) → u ≡ a -ℤ added (ahead l x y)
-    → v ≡ b -ℤ added (ahead l x y)
-    → k ≡ strip (take count (drop at l)) u v → all_made r (put_between k u n v) ≡ Some p
-    → all_made r (put_between (strip l a b) a n b) ≡ Some (replaced at count p l)
-made_as r l k a b x y u v p n at count h j ex ey e f g i s m =
-    middle_made r l a b u v [] p n at count h j (e ∙ ap₂ (λ c d. length (ahead l c d)) ex ey)
-    (f ∙ ap₂ (λ c d. length (touched l c d)) ex ey)
-    (g ∙ ap₂ (λ c d. a -ℤ added (ahead l c d)) ex ey)
-    (i ∙ ap₂ (λ c d. b -ℤ added (ahead l c d)) ex ey)
-    (subst (λ q. all_made r (put_between q u n v) ≡ Some p) s m)
+-- the same zone, with each end by an equation
+pub kept_as : (l kept : List (ItemOf Listed)) (u v x y : ℤ) → kept ≡ strip l u v → u ≡ x → v ≡ y
+    → kept ≡ strip l x y
+kept_as l kept u v x y e f g = e ∙ ap₂ (strip l) f g
 
-pub far_as : (l k : List (ItemOf Listed)) (a b x y u v : ℤ) (n : List Child) (at count : ℕ)
-    → pos 0 ≤ℤ a → a ≤ℤ b → x ≡ a → y ≡ b → at ≡ length (ahead l x y)
-    → count ≡ length (touched l x y) → u ≡ a -ℤ added (ahead l x y) → v ≡ b -ℤ added (ahead l x y)
-    → k ≡ strip (take count (drop at l)) u v → has_far (put_between k u n v) ≡ true
-    → has_far (put_between (strip l a b) a n b) ≡ true
-far_as l k a b x y u v n at count h j ex ey e f g i s m =
-    middle_far l a b u v n at count h j (e ∙ ap₂ (λ c d. length (ahead l c d)) ex ey)
-    (f ∙ ap₂ (λ c d. length (touched l c d)) ex ey)
-    (g ∙ ap₂ (λ c d. a -ℤ added (ahead l c d)) ex ey)
-    (i ∙ ap₂ (λ c d. b -ℤ added (ahead l c d)) ex ey)
-    (subst (λ q. has_far (put_between q u n v) ≡ true) s m)
+-- the touched ones, with each end of the zone by an equation
+pub touched_as : (l : List (ItemOf Listed)) (z inner : Zone) (s : Stretch) (x y : ℤ) → x ≡ z.from
+    → y ≡ z.to → s.at ≡ length (ahead l x y) → s.count ≡ length (touched l x y)
+    → inner.from ≡ z.from -ℤ added (ahead l x y) → inner.to ≡ z.to -ℤ added (ahead l x y)
+    → AreTouched l z s inner
+touched_as l z inner s x y ex ey e f g h = record {
+  at = e ∙ ap₂ (λ c d. length (ahead l c d)) ex ey;
+  count = f ∙ ap₂ (λ c d. length (touched l c d)) ex ey;
+  from = g ∙ ap₂ (λ c d. z.from -ℤ added (ahead l c d)) ex ey;
+  to = h ∙ ap₂ (λ c d. z.to -ℤ added (ahead l c d)) ex ey;
+}
+
+-- what comes in their place, with the list without the transitions by an equation
+pub made_as : (r : Rate) (l k : List (ItemOf Listed)) (z inner : Zone) (s : Stretch) (u v : ℤ)
+    (p : List (ItemOf Listed)) (n : List Child) → AreTouched l z s inner → u ≡ inner.from
+    → v ≡ inner.to → k ≡ strip (take s.count (drop s.at l)) u v
+    → all_made r (put_between k inner.from n inner.to) ≡ Some p
+    → all_made r (put_between (strip l z.from z.to) z.from n z.to)
+    ≡ Some (replaced s.at s.count p l)
+made_as r l k z inner s u v p n t ex ey e m =
+    middle_made r l z.from z.to inner.from inner.to [] p n s.at s.count z.low z.forward t.at
+    t.count t.from t.to
+    (subst (λ q. all_made r (put_between q inner.from n inner.to) ≡ Some p)
+    (kept_as (take s.count (drop s.at l)) k u v inner.from inner.to e ex ey) m)
+
+pub far_as : (l k : List (ItemOf Listed)) (z inner : Zone) (s : Stretch) (u v : ℤ)
+    (n : List Child) → AreTouched l z s inner → u ≡ inner.from → v ≡ inner.to
+    → k ≡ strip (take s.count (drop s.at l)) u v
+    → has_far (put_between k inner.from n inner.to) ≡ true
+    → has_far (put_between (strip l z.from z.to) z.from n z.to) ≡ true
+far_as l k z inner s u v n t ex ey e m =
+    middle_far l z.from z.to inner.from inner.to n s.at s.count z.low z.forward t.at t.count
+    t.from t.to
+    (subst (λ q. has_far (put_between q inner.from n inner.to) ≡ true)
+    (kept_as (take s.count (drop s.at l)) k u v inner.from inner.to e ex ey) m)
 
 pub there_as : (l : List (ItemOf Listed)) (x y : ℤ) (at count : ℕ) → at ≡ length (ahead l x y)
     → count ≡ length (touched l x y) → at + count ≤ length l
@@ -303,21 +320,25 @@ take_few l zero = omega arith
 take_few [] (suc n) = omega arith
 take_few (x ∷ l) (suc n) = let h = take_few l n in omega (arith, h)
 
-pub few_as : (r : Rate) (l k : List (ItemOf Listed)) (a b x y u v : ℤ)
-    (put p : List (ItemOf Listed)) (at count : ℕ) → x ≡ a → y ≡ b
-    → count ≡ length (touched l x y) → u ≤ℤ v → k ≡ strip (take count (drop at l)) u v
-    → ((n : List Child) → all_made r n ≡ Some put → all_made r (put_between k u n v) ≡ Some p)
-    → length p ≤ length (touched l a b) + 1 + length put
-few_as r l k a b x y u v put p at count ex ey h z e f =
-    let made_of : length p ≡ length (put_between k u (olds put) v) =
-    made_length r (put_between k u (olds put) v) p (f (olds put) (olds_made r put)) in
-    let same : length (put_between k u (olds put) v)
-    ≡ length (put_between (strip (take count (drop at l)) u v) u (olds put) v) =
-    ap (λ q. length (put_between q u (olds put) v)) e in
-    let few = between_few (take count (drop at l)) u v (olds put) z in
-    let taken = take_few (drop at l) count in
-    let number : count ≡ length (touched l a b) =
-    h ∙ ap₂ (λ c d. length (touched l c d)) ex ey in
+pub few_as : (r : Rate) (l k : List (ItemOf Listed)) (z inner : Zone) (s : Stretch) (u v : ℤ)
+    (put p : List (ItemOf Listed)) → AreTouched l z s inner → u ≡ inner.from → v ≡ inner.to
+    → k ≡ strip (take s.count (drop s.at l)) u v
+    → ((n : List Child) → all_made r n ≡ Some put
+    → all_made r (put_between k inner.from n inner.to) ≡ Some p)
+    → length p ≤ length (touched l z.from z.to) + 1 + length put
+few_as r l k z inner s u v put p t ex ey e f =
+    let made_of : length p ≡ length (put_between k inner.from (olds put) inner.to) =
+    made_length r (put_between k inner.from (olds put) inner.to) p
+    (f (olds put) (olds_made r put)) in
+    let same : length (put_between k inner.from (olds put) inner.to)
+    ≡ length (put_between (strip (take s.count (drop s.at l)) inner.from inner.to) inner.from
+    (olds put) inner.to) =
+    ap (λ q. length (put_between q inner.from (olds put) inner.to))
+    (kept_as (take s.count (drop s.at l)) k u v inner.from inner.to e ex ey) in
+    let few = between_few (take s.count (drop s.at l)) inner.from inner.to (olds put)
+    inner.forward in
+    let taken = take_few (drop s.at l) s.count in
+    let number = t.count in
     let many = olds_length put in
     omega (arith, made_of, same, few, taken, number, many)
 
@@ -384,6 +405,17 @@ kept_near l kept at number i a b start m x k h got e =
     near_end (take number (drop at l)) kept _ _ a b start m x k.is
     (take_next l ((at + number) - i) i ((at + number) - (i + 1)) x got (omega (arith, h))) e
 
+-- it is below the bound of lists that are stripped
+pub kept_below : (l : Listed) (kept : List (ItemOf Listed)) (at number i : ℕ) (a b start : ℤ)
+    (x : ItemOf Listed) → count l < 2 ^ 32 → AreCuttable (items_of l)
+    → at + number ≤ length (items_of l) → IsKept (items_of l) at number a b kept start i
+    → i < at + number → slice_get (items_of l) i ≡ Some x
+    → (start +ℤ ticks x) ≤ℤ pos 100000000000000000000000000000000000000
+kept_below l kept at number i a b start x few h there k below got =
+    let fewer = few_enough l few in
+    kept_near (items_of l) kept at number i a b start _ x k below got
+    (kept_long (items_of l) at number h (omega (arith, fewer, there)))
+
 pub kept_end : (l kept : List (ItemOf Listed)) (at number i : ℕ) (a b c d start : ℤ)
     → IsKept l at number a b kept start i → at + number ≤ i → a ≡ c → b ≡ d
     → kept ≡ strip (take number (drop at l)) c d
@@ -392,8 +424,3 @@ kept_end l kept at number i a b c d start k h e f =
     sym (s.is ∙ ap (λ q. kept ++ strip q (a -ℤ start) (b -ℤ start))
     (none_taken (drop i l) ((at + number) - i) (omega (arith, h))) ∙ none_more kept)
     ∙ ap₂ (strip (take number (drop at l))) e f
-
--- the same zone, with each end by an equation
-pub kept_as : (l kept : List (ItemOf Listed)) (u v x y : ℤ) → kept ≡ strip l u v → u ≡ x → v ≡ y
-    → kept ≡ strip l x y
-kept_as l kept u v x y e f g = e ∙ ap₂ (strip l) f g

@@ -1,5 +1,6 @@
 -- What plans of edits are made of, as the code has it: the edits are defined in `edits`.
 pub mod Parts
+pub mod Touched
 pub mod Bounds
 pub mod Meanings
 pub mod Filled

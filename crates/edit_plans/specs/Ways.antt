@@ -1,7 +1,7 @@
 -- How long the items on the way to a changed track are, and whether one of them is too long.
 use Rattle.std.specs.Prelude.{ℕ, pos, ◌-ℤ◌, nat_lt, int_le, Bool, true, false, not, ◌&&◌, ◌||◌}
 use Rattle.std.specs.Prelude.{cond, List, [], ◌∷◌, Option, Some, None, option_and_then, is_none}
-use Rattle.std.specs.Prelude.{slice_get, unsigned_abs, unwrap_or}
+use Rattle.std.specs.Prelude.{slice_get, unsigned_abs}
 use Rattle.limits.specs.Limits.{most_ticks}
 use Rattle.otio_model.specs.declared.compositions.ItemOf.{ItemOf}
 use Rattle.otio_model.specs.declared.compositions.ItemOf.TheVariants.{Clip, Gap, Transition, Stack}
@@ -9,7 +9,7 @@ use Rattle.otio_model.specs.declared.compositions.ItemOf.TheVariants.{Track}
 use Rattle.otio_model.specs.declared.compositions.Listed.{Listed}
 use Rattle.otio_model.specs.declared.timelines.Timeline.{Timeline}
 use Rattle.otio_model.specs.Edits.{changed}
-use Rattle.otio_model.specs.Lengths.{added, lengths, or_zero, source_of}
+use Rattle.otio_model.specs.Lengths.{added, lengths, source_of}
 use Rattle.otio_model.specs.Sums.{greatest}
 use Rattle.otio_model.specs.Trees.{children_of, items_of}
 use Rattle.coord.specs.declared.faults.ItemFault.{ItemFault}
@@ -19,10 +19,6 @@ use Rattle.coord.specs.Soundness.{fault_of, media_end, most_end}
 -- the lengths with another one at an index
 abbrev pub with_ticks : ℕ → ℕ → List (Option ℕ) → List (Option ℕ)
 with_ticks i n l = changed (λ o. Some n) i l
-
--- the length at an index, 0 where it isn't known
-abbrev pub ticks_at : ℕ → List (Option ℕ) → ℕ
-ticks_at i l = or_zero (unwrap_or (slice_get l i) None)
 
 -- how much is available in a composition whose child at the index is so long
 abbrev pub available_with : ItemOf Listed → ℕ → ℕ → ℕ

@@ -6,7 +6,6 @@ ghost use Rattle.otio_model.specs.Counts.{count, count_of};
 ghost use Rattle.otio_model.specs.Lengths.{added, length_of, lengths, or_zero};
 ghost use Rattle.otio_model.specs.Overlaps.{within};
 ghost use Rattle.otio_model.specs.Seats.{IsFirstOverlap, IsSeat, HasNoOverlap};
-ghost use Rattle.otio_model.specs.Trees as trees;
 ghost use Rattle.otio_model.specs.Trees.{items_of};
 ghost use Rattle.coord.specs.Sights.{View, looks};
 ghost use Rattle.coord.specs.Soundness.{AreFaultless, fault_of};

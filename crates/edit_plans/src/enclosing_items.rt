@@ -1,7 +1,7 @@
 //! How long the items are that enclose a changed track.
 
 ghost use Rattle.std.specs.Prelude.{◌≡◌, ◌+ℤ◌, ◌*ℤ◌, ◌-ℤ◌, ◌<◌, ◌≤◌, ◌≤ℤ◌, ◌^◌, IfSome, None};
-ghost use Rattle.std.specs.Prelude.{drop, length, max, pos};
+ghost use Rattle.std.specs.Prelude.{drop, length, pos};
 ghost use Rattle.limits.specs.Limits.{most_ticks};
 ghost use Rattle.tick_time.specs.Times.{IsSpeed};
 ghost use Rattle.otio_model.specs.Counts.{count, count_of};
@@ -131,39 +131,14 @@ fn sum_with(children: &Children, index: usize, ticks: u128) -> u128
     children.added_ticks() - old + ticks
 }
 
-// The length of a child, or the other one where it is at the index.
-#[tactic(auto, using(crate::proofs::WayLemmas::other_here, crate::proofs::WayLemmas::own_there))]
-fn ticks_or(children: &Children, at: usize, index: usize, ticks: u128) -> u128
-    requires few { count children.now < 2 ^ 32 }
-    requires there { at < length (items_of children.now) }
-    ensures { result ≡ ways.ticks_at at (with_ticks index ticks (lengths children.now)) }
-{
-    if at == index {
-        ticks
-    } else {
-        known_ticks(children.child(at))
-    }
-}
-
-// The greater of two numbers.
-fn greater(one: u128, other: u128) -> u128
-    ensures { result ≡ max one other }
-{
-    if one < other { other } else { one }
-}
-
 // The greatest length of children, where that of one of them is another.
-#[tactic(auto, using(crate::proofs::WayLemmas::longest_next, crate::proofs::WayLemmas::longest_all))]
+#[tactic(auto, using(crate::proofs::WayLemmas::longest_is))]
 fn longest_with(children: &Children, index: usize, ticks: u128) -> u128
     requires few { count children.now < 2 ^ 32 }
     requires there { index < length (items_of children.now) }
     ensures { result ≡ greatest (with_ticks index ticks (lengths children.now)) }
 {
-    let mut longest = 0;
-    'children: for at in 0..children.len() {
-        longest = greater(longest, ticks_or(children, at, index, ticks));
-    }
-    longest
+    children.longest_beside(index).max(ticks)
 }
 
 // How much is available in a composition whose child at the index is so long.

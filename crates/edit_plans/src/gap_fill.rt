@@ -1,6 +1,6 @@
 //! What fills a gap.
 
-ghost use Rattle.std.specs.Prelude.{◌≡◌, ◌==◌, true, false, pos, ◌≤ℤ◌, ◌<ℤ◌, ◌-ℤ◌};
+ghost use Rattle.std.specs.Prelude.{◌≡◌, ◌==◌, true, false, pos, ◌≤ℤ◌, ◌<ℤ◌};
 ghost use Rattle.std.specs.Prelude.{IfErr, IfOk, Some};
 ghost use Rattle.limits.specs.Limits.{most_ticks};
 ghost use Rattle.edits.specs.Children as children;

@@ -1,32 +1,20 @@
 //! What an item's instant reaches among its children.
 
-ghost use Rattle.std.specs.Prelude.{◌≡◌, ◌<◌, ◌*◌, ◌^◌, ℤ, pos, ◌-ℤ◌, ◌*ℤ◌, ◌≤ℤ◌, None};
+ghost use Rattle.std.specs.Prelude.{◌≡◌, ◌<◌, ◌^◌, None};
 ghost use Rattle.std.specs.Prelude.{IfSome, is_some, true};
 ghost use Rattle.std.specs.Str.{bytes_eq};
 ghost use Rattle.std.specs.Option.{option_copied};
-ghost use Rattle.limits.specs.Limits.{most_ticks};
 ghost use Rattle.otio_model.specs.Counts.{count_of};
-ghost use Rattle.otio_model.specs.Lengths as ranges;
 ghost use Rattle.coord.specs.Sights.{View};
 ghost use Rattle.coord.specs.Soundness.{IsFaultlessItem, fault_of};
-ghost use Rattle.coord.specs.Speeds.{speed_of};
 ghost use Rattle.edits_law.specs.Down as down;
 ghost use Rattle.edit_plans.specs.Way as way;
 ghost use Rattle.edit_plans.specs.Way.{IsNear};
 
 use crate::child_at::{in_stack, in_track};
-use coord::{media_offset, speed, trimmed_start};
+use coord::{media_offset, speed};
 use otio_model::{Item, ItemOf};
-
-// Where the trimmed range of an item starts.
-#[tactic(auto, using(crate::proofs::Bounds::starts_near))]
-fn start_of(item: &Item) -> i128
-    ensures value { result ≡ ranges.trimmed_start item.now }
-    ensures low { (pos 0 -ℤ pos most_ticks) ≤ℤ result }
-    ensures high { result ≤ℤ pos most_ticks }
-{
-    trimmed_start(item)
-}
+use pieces::start_ticks;
 
 /// Where an item's children stand so many ticks from its start.
 pub(crate) fn inner(item: &Item, ticks: i128) -> i128
@@ -34,7 +22,7 @@ pub(crate) fn inner(item: &Item, ticks: i128) -> i128
     requires near { IsNear ticks }
     ensures { result ≡ down.inner item.now ticks }
 {
-    start_of(item) + media_offset(ticks, speed(item))
+    start_ticks(item) + media_offset(ticks, speed(item))
 }
 
 // Whether two kinds of track are the same.

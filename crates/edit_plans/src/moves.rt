@@ -43,7 +43,8 @@ fn slip_in(frame: i128, room: Handles, by: i128) -> i128
 
 /// How far a slip of an item goes: as far as wanted, but no further than its unused media, in whole
 /// frames. `by` is how far is wanted; it and the result are in ticks, positive to later media.
-/// `frame` is the ticks of a record frame.
+/// `frame` is the ticks of a record frame. By [`items_are_held`](crate::items_are_held) the clause
+/// `value` is about each item.
 pub fn slip_by(frame: i128, item: &Item, by: i128) -> i128
     requires frame { pos 1 ≤ℤ frame }
     requires item { IsCuttable item.now }
@@ -238,7 +239,8 @@ fn trim_tail(frame: i128, item: &Item, head: i128, behind: Option<&Item>, by: i1
 /// How far a trim moves the edges of an item, where these stand next to it: as far as wanted, but
 /// no edge goes further than the gap there or than its unused media, and a tick or more is left. At
 /// the end of the track no gap holds the tail. `by` is how far is wanted; it and the result are in
-/// ticks. `frame` is the ticks of a record frame.
+/// ticks. `frame` is the ticks of a record frame. By [`items_are_held`](crate::items_are_held) the
+/// clause `value` is about any item between any others that aren't transitions.
 pub fn trim_by(
     frame: i128,
     before: Option<&Item>,
@@ -351,7 +353,8 @@ fn roll_tail(frame: i128, item: &Item, head: i128, behind: Option<&Item>, by: i1
 /// How far a roll moves the edges of an item, where these stand next to it: as far as wanted, but
 /// each item keeps a tick or more, and no edge goes further than its unused media. An edge with no
 /// item next to it isn't moved. `by` is how far is wanted; it and the result are in ticks. `frame`
-/// is the ticks of a record frame.
+/// is the ticks of a record frame. By [`items_are_held`](crate::items_are_held) the clause `value`
+/// is about any item between any others that aren't transitions.
 pub fn roll_by(
     frame: i128,
     before: Option<&Item>,

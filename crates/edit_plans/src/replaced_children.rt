@@ -1,7 +1,7 @@
 //! What comes in place of the children that a zone touches.
 
 ghost use Rattle.std.specs.Prelude.{◌≡◌, ◌<◌, ◌≤◌, ◌^◌, ◌+◌, ◌++◌, IfErr, IfOk, Some, true};
-ghost use Rattle.std.specs.Prelude.{List, length, take, drop, pos, ◌≤ℤ◌, ◌-ℤ◌};
+ghost use Rattle.std.specs.Prelude.{List, length, take, drop, pos, ◌≤ℤ◌};
 ghost use Rattle.otio_model.specs.Counts.{count};
 ghost use Rattle.otio_model.specs.Edits.{replaced};
 ghost use Rattle.otio_model.specs.Trees.{items_of};
@@ -10,7 +10,7 @@ ghost use Rattle.edits.specs.Cuts as cuts;
 ghost use Rattle.edits.specs.Narrow as narrow;
 ghost use Rattle.pieces.specs.Short.{AreCuttable};
 
-use crate::touched_children::{ahead, touched};
+use crate::stretches::touched_stretch;
 use otio_model::{Children, Item};
 use pieces::{RangedFault, add_copy, back_items, front_items, is_stripped, sound_ticks};
 use std::alloc::{AllocError, Global};
@@ -117,29 +117,6 @@ pub fn kept(
     Ok(kept)
 }
 
-// An instant as seen from another one before it.
-fn less(instant: i128, start: i128) -> i128
-    requires low { pos 0 ≤ℤ start }
-    requires high { start ≤ℤ instant }
-    ensures value { result ≡ instant -ℤ start }
-    ensures low { pos 0 ≤ℤ result }
-{
-    instant - start
-}
-
-// A zone as seen from an instant that isn't after its start.
-fn zone_from(zone: Zone, start: i128) -> Zone
-    requires low { pos 0 ≤ℤ start }
-    requires high { start ≤ℤ zone.from }
-    ensures from { result.from ≡ zone.from -ℤ start }
-    ensures to { result.to ≡ zone.to -ℤ start }
-{
-    Zone {
-        from: less(zone.from, start),
-        to: less(zone.to, start),
-    }
-}
-
 /// What comes in place of the children that a zone touches, where the zone's transitions go and
 /// these items are put into it. `rate` is the record rate, at which an item without a range is
 /// counted. It doesn't ask whether the cuts fall on whole ticks. [`RangedFault::Range`] comes only
@@ -169,13 +146,7 @@ pub fn fill_zone(
         (cuts.put_between (cuts.strip (items_of children.now) zone.from zone.to)
         zone.from n zone.to) ≡ true) }
 {
-    let first = ahead(children, zone.from, zone.to);
-    let count = touched(children, first, zone.from, zone.to);
-    let stretch = Stretch {
-        at: first.count,
-        count,
-    };
-    let inner = zone_from(zone, first.ticks);
+    let (stretch, inner) = touched_stretch(children, zone);
     let list = match kept(alloc, children, stretch, inner.from, inner.to) {
         Ok(list) => list,
         Err(_) => return Err(RangedFault::Memory),
@@ -184,8 +155,8 @@ pub fn fill_zone(
     drop(list);
     match between {
         Ok(put) => Ok(Middle {
-            at: first.count,
-            count,
+            at: stretch.at,
+            count: stretch.count,
             put,
         }),
         Err(fault) => Err(fault),

@@ -1,15 +1,15 @@
 //! Children that a zone touches, and the one that holds an instant.
 
 ghost use Rattle.limits.specs.Limits.{most_ticks};
-ghost use Rattle.std.specs.Prelude.{◌≡◌, ◌<◌, ◌≤◌, ◌^◌, ◌*◌, ◌+◌, IfSome, IfNone, Some, None};
-ghost use Rattle.std.specs.Prelude.{length, slice_get, pos, ◌≤ℤ◌, ◌<ℤ◌, ◌-ℤ◌, ◌&&◌, int_le, int_lt};
+ghost use Rattle.std.specs.Prelude.{◌≡◌, ◌<◌, ◌≤◌, ◌^◌, ◌+◌, IfSome, IfNone, Some, None};
+ghost use Rattle.std.specs.Prelude.{cond, length, slice_get, pos, ◌≤ℤ◌, ◌-ℤ◌, ◌&&◌, int_le};
 ghost use Rattle.otio_model.specs.Counts.{count};
 ghost use Rattle.otio_model.specs.Kept.{reach_in};
 ghost use Rattle.otio_model.specs.Trees.{items_of};
 ghost use Rattle.edits.specs.Narrow as narrow;
 ghost use Rattle.edits.specs.Edges.{added, held_at};
 ghost use Rattle.pieces.specs.Short.{IsShort, AreShort};
-ghost use Rattle.edit_plans.specs.Parts.{IsClear, IsHeldAt};
+ghost use Rattle.edit_plans.specs.Parts.{IsClear, IsFurther, IsHeldAt, IsPassed};
 
 use otio_model::{Children, Item, Seat};
 use pieces::{is_stripped, ticks_of};
@@ -104,6 +104,24 @@ fn clear(children: &Children, from: i128) -> Passed
     }
 }
 
+// First children with those after them that are known, by whole pieces of the list, to reach no
+// instant of a zone.
+fn further(children: &Children, passed: Passed, from: i128, to: i128) -> Passed
+    requires few { count children.now < 2 ^ 32 }
+    requires passed { IsPassed (items_of children.now) passed.count passed.ticks }
+    ensures { IsFurther (items_of children.now) from to passed.count passed.ticks
+        result.count result.ticks }
+{
+    if passed.count >= children.len() {
+        return passed;
+    }
+    let quiet = children.quiet(passed.count, from, to);
+    Passed {
+        count: passed.count + quiet.count,
+        ticks: passed.ticks + quiet.ticks,
+    }
+}
+
 /// The children before the first that a zone touches, whose ends `from` and `to` are in ticks from
 /// the start of the list.
 pub fn ahead(children: &Children, from: i128, to: i128) -> Passed
@@ -112,22 +130,27 @@ pub fn ahead(children: &Children, from: i128, to: i128) -> Passed
     ensures count { result.count ≡ length (narrow.ahead (items_of children.now) from to) }
     ensures ticks { result.ticks ≡ added (narrow.ahead (items_of children.now) from to) }
 {
-    let first = clear(children, from);
-    let mut at = first.ticks;
-    'children: for index in first.count..children.len() {
-        let item = children.child(index);
-        if is_met(item, at, from, to) {
-            return Passed {
-                count: index,
-                ticks: at,
-            };
+    let mut passed = further(children, clear(children, from), from, to);
+    'children: while passed.count < children.len() {
+        let item = children.child(passed.count);
+        if is_met(item, passed.ticks, from, to) {
+            return passed;
         }
-        at += ticks_of(item);
+        let next = Passed {
+            count: passed.count + 1,
+            ticks: passed.ticks + ticks_of(item),
+        };
+        passed = further(children, next, from, to);
     }
-    Passed {
-        count: children.len(),
-        ticks: at,
-    }
+    passed
+}
+
+// How many children there are up to the last that is met, where the one after so many is met or
+// isn't.
+fn met_up_to(met: bool, passed: usize, count: usize) -> usize
+    ensures { result ≡ cond met passed count }
+{
+    if met { passed } else { count }
 }
 
 /// How many children there are from the first to the last that a zone touches, where those before
@@ -142,19 +165,22 @@ pub fn touched(children: &Children, ahead: Passed, from: i128, to: i128) -> usiz
     ensures { result ≡ length (narrow.touched (items_of children.now) from to) }
 {
     let reach = reach(children);
-    let mut at = ahead.ticks;
+    let mut passed = ahead;
     let mut count = 0;
-    'children: for index in ahead.count..children.len() {
-        if to < at - reach {
+    'children: while passed.count < children.len() {
+        if to < passed.ticks - reach {
             return count;
         }
-        let item = children.child(index);
-        if is_met(item, at, from, to) {
-            count = index + 1 - ahead.count;
-        }
-        at += ticks_of(item);
+        let item = children.child(passed.count);
+        let met = is_met(item, passed.ticks, from, to);
+        let next = Passed {
+            count: passed.count + 1,
+            ticks: passed.ticks + ticks_of(item),
+        };
+        count = met_up_to(met, next.count - ahead.count, count);
+        passed = further(children, next, from, to);
     }
-    if at < from {
+    if passed.ticks < from {
         return children.len() - ahead.count;
     }
     count

@@ -23,7 +23,8 @@ pub fn edit_rate(timeline: &Timeline) -> Rate
     coord::record_rate(timeline)
 }
 
-/// A record frame in ticks, where that is the record rate.
+/// A record frame in ticks, where that is the record rate. Each rate is that of some timeline:
+/// [`rates_are_record_rates`](crate::rates_are_record_rates).
 #[tactic(auto, using(crate::proofs::Rates::frame_is_of))]
 pub fn frame_at(rate: Rate) -> i128
     ensures value { (t : AnyTimeline) → rate ≡ rate_of t → result ≡ frame_of t }

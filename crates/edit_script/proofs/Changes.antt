@@ -21,22 +21,32 @@ use Rattle.edit_plans.specs.Planned.{IsPlan}
 use Rattle.edit_script.specs.declared.commands.Act.{Act}
 use Rattle.edit_script.specs.declared.commands.Act.TheVariants as A
 use Rattle.media_rows.specs.Rows.{MediaRows}
-use Rattle.edit_script.specs.Keeping.{AreEditable, AreRedoing, AreUndoing, HoldsEdits, IsEditable, IsEditableState, IsNarrow}
+use Rattle.edit_script.specs.Keeping.{AreEditable, HoldsEdits, IsEditable, IsEditableState}
+use Rattle.edit_script.specs.EditHistories.{AreRedoingEach, AreUndoingEach, EditHistory, HoldsEach, IsNarrowFor, KeepsEach, brings_back, makes, takes_back}
 use Rattle.edit_script.specs.Plans.{IsPlanOf}
 use Rattle.edit_script.specs.Runs.{edits, redoes, undoes}
 use Rattle.edit_script.specs.Steps.{IsDone, IsReady, IsSame}
 use Rattle.edit_script.proofs.Bares.{accepted_bare, applied_bare}
+use Rattle.edit_script.proofs.EachEdit.{edits-chosen, edits-some}
 
 -- ---- room that was made
 
-holds_on : (h k : History) (a b : Timeline) → unspared k ≡ unspared h → bare b ≡ bare a
-    → HoldsEdits h a → HoldsEdits k b
-holds_on h k a b e f w = record {
-  past = subst (λ (g : History). AreUndoing (bare b) g.past) (sym e)
-      (subst (λ t. AreUndoing t h.past) (sym f) w.past);
-  future = subst (λ (g : History). AreRedoing (bare b) g.future) (sym e)
-      (subst (λ t. AreRedoing t h.future) (sym f) w.future);
+each-on : (h k : History) (a b : Timeline) (own : EditHistory) → unspared k ≡ unspared h
+    → bare b ≡ bare a → HoldsEach own h a → HoldsEach own k b
+each-on h k a b own e f w = record {
+  past = subst (λ (g : History). AreUndoingEach (bare b) own.made g.past) (sym e)
+      (subst (λ t. AreUndoingEach t own.made h.past) (sym f) w.past);
+  future = subst (λ (g : History). AreRedoingEach (bare b) own.undone g.future) (sym e)
+      (subst (λ t. AreRedoingEach t own.undone h.future) (sym f) w.future);
 }
+
+-- what an act keeps of known edits it keeps of some
+holds-by_each : (media : MediaRows) (act : Act) (h k : History) (t u : Timeline)
+    → KeepsEach media act h t k u → HoldsEdits h t → HoldsEdits k u
+holds-by_each media act h k t u f w =
+    let old = edits-chosen h t w in
+    let new = f old.0 old.1 in
+    edits-some new.0 k u new.2
 
 ready_on : (h k : History) (a b : Timeline) → unspared k ≡ unspared h → bare b ≡ bare a
     → IsReady h a → IsReady k b
@@ -50,7 +60,10 @@ pub roomier : (h k : History) (a b : Timeline) → unspared k ≡ unspared h →
 roomier h k a b e f w = record {
   ready = ready_on h k a b e f w;
   state = state_on h k a b e f;
-  holds = holds_on h k a b e f;
+  holds = λ (w : HoldsEdits h a).
+      let old = edits-chosen h a w in
+      edits-some old.0 k b (each-on h k a b old.0 e f old.1);
+  each = λ own w. each-on h k a b own e f w;
 }
 
 -- ---- how many children the patch that undoes another one has
@@ -94,37 +107,52 @@ committed_editable t e p s i f w = record {
 -- ---- a change that is planned
 
 narrow_of : (t : Timeline) (e : Edit) (p : Patch) → IsPlan t e p
-    → IsNarrow (bare t) (applied p (bare t)) (length (undoing p (bare t)).put)
+    → IsNarrowFor e (bare t) (applied p (bare t)) (length (undoing p (bare t)).put)
     (undoing p (bare t)).count
 narrow_of t e p i =
     let n = sizes p (bare t) (fit_bare p t i.fit) in
     record {
-      edit = e;
       after = accepted_bare t e p i.after;
       to_undo = omega (arith, n.puts, i.few_out);
       to_redo = omega (arith, n.takes, i.few_in);
     }
 
 -- the patch that undoes it stands first
-first_undoing : (b : Timeline) (p : Patch) (ps : List Patch) → IsFit p b
-    → IsNarrow b (applied p b) (length (undoing p b).put) (undoing p b).count → AreUndoing b ps
-    → AreUndoing (applied p b) (undoing p b ∷ ps)
-first_undoing b p ps f n w =
+first_undoing : (b : Timeline) (p : Patch) (e : Edit) (es : List Edit) (ps : List Patch)
+    → IsFit p b → IsNarrowFor e b (applied p b) (length (undoing p b).put) (undoing p b).count
+    → AreUndoingEach b es ps → AreUndoingEach (applied p b) (e ∷ es) (undoing p b ∷ ps)
+first_undoing b p e es ps f n w =
     let same = undone_same p b f in (
-      subst (λ a. IsNarrow a (applied p b) (length (undoing p b).put) (undoing p b).count)
+      subst (λ a. IsNarrowFor e a (applied p b) (length (undoing p b).put) (undoing p b).count)
           (sym same) n,
-      subst (λ a. AreUndoing a ps) (sym same) w,
+      subst (λ a. AreUndoingEach a es ps) (sym same) w,
     )
 
-first_redoing : (b : Timeline) (p : Patch) (ps : List Patch) → IsFit p b
-    → IsNarrow (applied p b) b (undoing p b).count (length (undoing p b).put) → AreRedoing b ps
-    → AreRedoing (applied p b) (undoing p b ∷ ps)
-first_redoing b p ps f n w =
+first_redoing : (b : Timeline) (p : Patch) (e : Edit) (es : List Edit) (ps : List Patch)
+    → IsFit p b → IsNarrowFor e (applied p b) b (undoing p b).count (length (undoing p b).put)
+    → AreRedoingEach b es ps → AreRedoingEach (applied p b) (e ∷ es) (undoing p b ∷ ps)
+first_redoing b p e es ps f n w =
     let same = undone_same p b f in (
-      subst (λ a. IsNarrow (applied p b) a (undoing p b).count (length (undoing p b).put))
+      subst (λ a. IsNarrowFor e (applied p b) a (undoing p b).count (length (undoing p b).put))
           (sym same) n,
-      subst (λ a. AreRedoing a ps) (sym same) w,
+      subst (λ a. AreRedoingEach a es ps) (sym same) w,
     )
+
+-- the asked edit and its patch join those of the log
+changed-each : (media : MediaRows) (act : Act) (h k : History) (t u : Timeline) (p : Patch)
+    → bare u ≡ applied p (bare t) → k.past ≡ undoing p (bare t) ∷ h.past → k.future ≡ []
+    → IsPlanOf media act t p → KeepsEach media act h t k u
+changed-each media act h k t u p now past future i old w = (
+  record { made = i.edit ∷ old.made; undone = [] },
+  makes i.edit (record { listed = i.asks.listed; near = i.asks.near; edit = i.asks.edit }) refl,
+  record {
+    past = subst (AreUndoingEach (bare u) (i.edit ∷ old.made)) (sym past)
+        (subst (λ x. AreUndoingEach x (i.edit ∷ old.made) (undoing p (bare t) ∷ h.past)) (sym now)
+        (first_undoing (bare t) p i.edit old.made h.past (fit_bare p t i.plan.fit)
+        (narrow_of t i.edit p i.plan) w.past));
+    future = subst (AreRedoingEach (bare u) []) (sym future) tt;
+  },
+)
 
 pub changed : (media : MediaRows) (act : Act) (h g k : History) (t s u : Timeline) (p : Patch)
     → IsReady h t → unspared g ≡ unspared h → bare s ≡ bare t → IsKept k u
@@ -132,13 +160,13 @@ pub changed : (media : MediaRows) (act : Act) (h g k : History) (t s u : Timelin
     → IsPlanOf media act t p → IsDone media act h t k u
 changed media act h g k t s u p w e f kept state past future i =
     let b = bare t in
-    let fit : IsFit p b = fit_bare p t i.plan.fit in
     let is : state_of k u ≡ committed p (state_of h t) =
     state ∙ ap (committed p) (state_on h g t s e f) in
     let now : bare u ≡ applied p b = ap (λ (x : State). x.now) is in
     let older : g.past ≡ h.past = ap (λ (x : History). x.past) e in
     let pasts : k.past ≡ undoing p b ∷ h.past =
     past ∙ ap (λ x. undoing p x ∷ g.past) f ∙ ap (λ l. undoing p b ∷ l) older in
+    let each = changed-each media act h k t u p now pasts future i in
     record {
       ready = record {
         kept = kept;
@@ -148,12 +176,8 @@ changed media act h g k t s u p w e f kept state past future i =
       takes = edits i.edit (applied p b)
           (record { listed = i.asks.listed; near = i.asks.near; edit = i.asks.edit })
           (accepted_bare t i.edit p i.plan.after) is;
-      holds = λ (d : HoldsEdits h t). record {
-        past = subst (AreUndoing (bare u)) (sym pasts)
-            (subst (λ x. AreUndoing x (undoing p b ∷ h.past)) (sym now)
-            (first_undoing b p h.past fit (narrow_of t i.edit p i.plan) d.past));
-        future = subst (AreRedoing (bare u)) (sym future) tt;
-      };
+      holds = holds-by_each media act h k t u each;
+      each = each;
     }
 
 -- ---- undo and redo
@@ -210,42 +234,70 @@ crossed_by b c from to left kept ts r t same x fits goes now = record {
   gives = sym now ∙ first_given b x.patch from left ts r x.taken goes;
 }
 
--- edits that were redone and are undone
-undone_holds : (b c : Timeline) (from to left kept : List Patch) → Crossed b c from to left kept
-    → AreUndoing b from → AreRedoing b to → AreUndoing c left × AreRedoing c kept
-undone_holds b c from to left kept x past future =
-    let p = x.patch in
-    let w : AreUndoing b (p ∷ left) = subst (AreUndoing b) x.taken past in
-    let n = sizes p b x.fits in
-    let narrow : IsNarrow (applied p b) b (undoing p b).count (length (undoing p b).put) = record {
-      edit = w.0.edit;
-      after = w.0.after;
-      to_undo = omega (arith, n.takes, w.0.to_undo);
-      to_redo = omega (arith, n.puts, w.0.to_redo);
-    } in (
-      subst (λ a. AreUndoing a left) (sym x.gives) w.1,
-      subst (λ a. AreRedoing a kept) (sym x.gives)
-          (subst (AreRedoing (applied p b)) (sym x.undoes)
-          (first_redoing b p to x.fits narrow future)),
-    )
+-- an edit that was made and is undone, or that was undone and is made again
+record Crossing (c : Timeline) (Goes Comes : Timeline → List Edit → List Patch → Type 0)
+    (from to : List Edit) (left kept : List Patch) : Type 0 where
+  edit : Edit
+  others : List Edit
+  first : from ≡ edit ∷ others
+  goes : Goes c others left
+  comes : Comes c (edit ∷ to) kept
 
-redone_holds : (b c : Timeline) (from to left kept : List Patch) → Crossed b c from to left kept
-    → AreRedoing b from → AreUndoing b to → AreRedoing c left × AreUndoing c kept
-redone_holds b c from to left kept x future past =
-    let p = x.patch in
-    let w : AreRedoing b (p ∷ left) = subst (AreRedoing b) x.taken future in
-    let n = sizes p b x.fits in
-    let narrow : IsNarrow b (applied p b) (length (undoing p b).put) (undoing p b).count = record {
-      edit = w.0.edit;
-      after = w.0.after;
-      to_undo = omega (arith, n.puts, w.0.to_undo);
-      to_redo = omega (arith, n.takes, w.0.to_redo);
-    } in (
-      subst (λ a. AreRedoing a left) (sym x.gives) w.1,
-      subst (λ a. AreUndoing a kept) (sym x.gives)
-          (subst (AreUndoing (applied p b)) (sym x.undoes)
-          (first_undoing b p to x.fits narrow past)),
-    )
+undone-crosses : (b c : Timeline) (made undone : List Edit) (from to left kept : List Patch)
+    → Crossed b c from to left kept → AreUndoingEach b made from → AreRedoingEach b undone to
+    → Crossing c AreUndoingEach AreRedoingEach made undone left kept
+undone-crosses b c made undone from to left kept x past future =
+    by made (subst (AreUndoingEach b made) x.taken past)
+  where
+    by : (es : List Edit) → AreUndoingEach b es (x.patch ∷ left)
+        → Crossing c AreUndoingEach AreRedoingEach es undone left kept
+    by [] w = absurd w
+    by (e ∷ es) w =
+        let p = x.patch in
+        let n = sizes p b x.fits in
+        let narrow : IsNarrowFor e (applied p b) b (undoing p b).count (length (undoing p b).put) =
+        record {
+          after = w.0.after;
+          to_undo = omega (arith, n.takes, w.0.to_undo);
+          to_redo = omega (arith, n.puts, w.0.to_redo);
+        } in
+        record {
+          edit = e;
+          others = es;
+          first = refl;
+          goes = subst (λ a. AreUndoingEach a es left) (sym x.gives) w.1;
+          comes = subst (λ a. AreRedoingEach a (e ∷ undone) kept) (sym x.gives)
+              (subst (AreRedoingEach (applied p b) (e ∷ undone)) (sym x.undoes)
+              (first_redoing b p e undone to x.fits narrow future));
+        }
+
+redone-crosses : (b c : Timeline) (made undone : List Edit) (from to left kept : List Patch)
+    → Crossed b c from to left kept → AreRedoingEach b undone from → AreUndoingEach b made to
+    → Crossing c AreRedoingEach AreUndoingEach undone made left kept
+redone-crosses b c made undone from to left kept x future past =
+    by undone (subst (AreRedoingEach b undone) x.taken future)
+  where
+    by : (es : List Edit) → AreRedoingEach b es (x.patch ∷ left)
+        → Crossing c AreRedoingEach AreUndoingEach es made left kept
+    by [] w = absurd w
+    by (e ∷ es) w =
+        let p = x.patch in
+        let n = sizes p b x.fits in
+        let narrow : IsNarrowFor e b (applied p b) (length (undoing p b).put) (undoing p b).count =
+        record {
+          after = w.0.after;
+          to_undo = omega (arith, n.puts, w.0.to_undo);
+          to_redo = omega (arith, n.takes, w.0.to_redo);
+        } in
+        record {
+          edit = e;
+          others = es;
+          first = refl;
+          goes = subst (λ a. AreRedoingEach a es left) (sym x.gives) w.1;
+          comes = subst (λ a. AreUndoingEach a (e ∷ made) kept) (sym x.gives)
+              (subst (AreUndoingEach (applied p b) (e ∷ made)) (sym x.undoes)
+              (first_undoing b p e made to x.fits narrow past));
+        }
 
 -- what a move forward is, seen from the end
 turned_moves : (o : Option State) (r : State) → turned_some o ≡ Some r → o ≡ Some (turned r)
@@ -260,20 +312,24 @@ undone media h g k t s u w e f kept goes x =
     let r = ready_on h g t s e f w in
     let is : back (state_of h t) ≡ Some (state_of k u) =
     ap back (sym (state_on h g t s e f)) ∙ goes in
+    let crossed = crossed_by (bare s) (bare u) g.past g.future k.past k.future
+    (run (bare s) g.future) (state_of k u) s refl x r.kept.past goes refl in
+    let each : KeepsEach media A.Undo h t k u = λ old d.
+    let d' = each-on h g t s old e f d in
+    let m = undone-crosses (bare s) (bare u) old.made old.undone g.past g.future k.past k.future
+    crossed d'.past d'.future in (
+      record { made = m.others; undone = m.edit ∷ old.undone },
+      takes_back m.edit m.others refl m.first refl,
+      record { past = m.goes; future = m.comes },
+    ) in
     record {
       ready = record {
         kept = kept;
         editable = back_editable (state_of g s) (state_of k u) r.editable goes;
       };
       takes = undoes refl is;
-      holds = λ (d : HoldsEdits h t).
-          let d' = holds_on h g t s e f d in
-          let c = crossed_by (bare s) (bare u) g.past g.future k.past k.future
-          (run (bare s) g.future)
-          (state_of k u) s refl x r.kept.past goes refl in
-          let both = undone_holds (bare s) (bare u) g.past g.future k.past k.future c d'.past
-          d'.future in
-          record { past = both.0; future = both.1 };
+      holds = holds-by_each media A.Undo h k t u each;
+      each = each;
     }
 
 pub redone : (media : MediaRows) (h g k : History) (t s u : Timeline) → IsReady h t
@@ -284,18 +340,23 @@ redone media h g k t s u w e f kept goes x =
     let r = ready_on h g t s e f w in
     let is : forth (state_of h t) ≡ Some (state_of k u) =
     ap forth (sym (state_on h g t s e f)) ∙ goes in
+    let turned_goes = turned_moves (back (turned (state_of g s))) (state_of k u) goes in
+    let crossed = crossed_by (bare s) (bare u) g.future g.past k.future k.past
+    (run (bare s) g.past) (turned (state_of k u)) s refl x r.kept.future turned_goes refl in
+    let each : KeepsEach media A.Redo h t k u = λ old d.
+    let d' = each-on h g t s old e f d in
+    let m = redone-crosses (bare s) (bare u) old.made old.undone g.future g.past k.future k.past
+    crossed d'.future d'.past in (
+      record { made = m.edit ∷ old.made; undone = m.others },
+      brings_back m.edit m.others refl m.first refl,
+      record { past = m.comes; future = m.goes },
+    ) in
     record {
       ready = record {
         kept = kept;
         editable = forth_editable (state_of g s) (state_of k u) r.editable goes;
       };
       takes = redoes refl is;
-      holds = λ (d : HoldsEdits h t).
-          let d' = holds_on h g t s e f d in
-          let m = turned_moves (back (turned (state_of g s))) (state_of k u) goes in
-          let c = crossed_by (bare s) (bare u) g.future g.past k.future k.past (run (bare s) g.past)
-          (turned (state_of k u)) s refl x r.kept.future m refl in
-          let both = redone_holds (bare s) (bare u) g.future g.past k.future k.past c d'.future
-          d'.past in
-          record { past = both.1; future = both.0 };
+      holds = holds-by_each media A.Redo h k t u each;
+      each = each;
     }

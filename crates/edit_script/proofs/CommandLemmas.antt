@@ -16,13 +16,14 @@ use Rattle.edits.specs.Refusals.{IsRefused}
 use Rattle.edit_plans.specs.Planned.{IsPlan}
 use Rattle.edit_script.specs.declared.commands.Act.{Act}
 use Rattle.edit_script.specs.declared.commands.Act.TheVariants as A
-use Rattle.edit_script.specs.declared.commands.Command.{Command}
+use Rattle.edit_script.specs.declared.commands.ScriptCommand.{ScriptCommand}
 use Rattle.edit_script.specs.declared.faults.CommandFault.{CommandFault}
 use Rattle.edit_script.specs.declared.faults.CommandFault.TheVariants as F
 use Rattle.edit_script.specs.Items.{is_far, is_wrong_put}
 use Rattle.media_rows.specs.Rows.{MediaRows}
 use Rattle.edit_script.specs.declared.commands.Put.{Put}
 use Rattle.edit_script.specs.RunActs.{IsEditOf, is_beyond, is_unlisted}
+use Rattle.edit_script.specs.Groups.{ActGroup, Back, Forth, OfEdges, OfLists}
 use Rattle.edit_script.specs.Plans.{IsPlanOf, IsRefusalOf}
 use Rattle.edit_script.specs.Runs.{AsksFor, IsHalted, refused}
 use Rattle.edit_script.specs.Steps.{IsDone, IsReady, IsSame}
@@ -56,9 +57,16 @@ refusal media act t e r (Ok p) same l n i h = tt
 refusal media act t e r (Err f) same l n i h =
     λ k. record { edit = e; asks = asks_as media act t e r same l n i; refused = h k }
 
+-- an act that asks for an edit, and for none of a list, asks for one of edges
+pub edges-left : (g : ActGroup) → (g ≡ OfLists → ⊥) → (g ≡ Back → ⊥) → (g ≡ Forth → ⊥) → g ≡ OfEdges
+edges-left OfLists h k l = absurd (h refl)
+edges-left OfEdges h k l = refl
+edges-left Back h k l = absurd (k refl)
+edges-left Forth h k l = absurd (l refl)
+
 -- ---- why a command is refused
 
-pub halts_edit : (media : MediaRows) (c : Command) (t : Timeline) (why : EditFault)
+pub halts_edit : (media : MediaRows) (c : ScriptCommand) (t : Timeline) (why : EditFault)
     → IsRefusalOf media c.act t why → (s : State) → s.now ≡ bare t
     → IsHalted media c s (F.Edit c.line why)
 halts_edit media c t why i s now =
@@ -72,7 +80,7 @@ pub record IsAtLine (line : ℕ) (why : EditFault) (f : CommandFault) : Type 0 w
   pub memory : why ≡ E.Memory → f ≡ F.Memory
   pub other : why ≢ E.Memory → f ≡ F.Edit line why
 
-pub halts_at : (media : MediaRows) (c : Command) (t : Timeline) (why : EditFault)
+pub halts_at : (media : MediaRows) (c : ScriptCommand) (t : Timeline) (why : EditFault)
     (f : CommandFault) → IsAtLine c.line why f
     → (why ≢ E.Memory → IsRefusalOf media c.act t why) → f ≢ F.Memory → (s : State)
     → s.now ≡ bare t → IsHalted media c s f
@@ -96,7 +104,7 @@ near_put r media at put e = (or_parts (is_far r at) (is_wrong_put r media put) e
 -- ---- edits, undo and redo as commands
 
 pub same_self : (h : History) (t : Timeline) → IsReady h t → IsSame h t h t
-same_self h t r = record { ready = r; state = refl; holds = λ d. d }
+same_self h t r = record { ready = r; state = refl; holds = λ d. d; each = λ own d. d }
 
 pub done_as : {F : Type 0} (media : MediaRows) (act : Act) (h k : History) (t u : Timeline)
     (p : Patch) (res : Result (Unit {0}) F) → IsPlanOf media act t p
@@ -105,7 +113,7 @@ pub done_as : {F : Type 0} (media : MediaRows) (act : Act) (h k : History) (t u 
 done_as media act h k t u p (Err f) i d = tt
 done_as media act h k t u p (Ok x) i d = d media act i
 
-pub never_halts : (media : MediaRows) (c : Command) (s : State)
+pub never_halts : (media : MediaRows) (c : ScriptCommand) (s : State)
     (res : Result (Unit {0}) CommandFault)
     → IfErr res (λ f. f ≡ F.Memory) → IfErr res (λ f. f ≢ F.Memory → IsHalted media c s f)
 never_halts media c s (Ok x) h = tt

@@ -1,22 +1,14 @@
 -- Numbers of at most fifteen digits.
-use Rattle.std.proofs.Common.{◌≡◌, refl, ◌+◌, ◌-◌, ◌*◌, ◌<◌, ◌≤◌, ◌&&◌, ℕ, Bool, true, false, List, [], ◌∷◌, ◌++◌, All, take, length, get_or, ap, arith}
+use Rattle.std.proofs.Common.{◌≡◌, refl, ◌-◌, ◌<◌, ◌≤◌, ◌&&◌, ℕ, true, List, [], ◌∷◌, All, length, arith}
 use Rattle.std.specs.Prelude.{nat_le}
 use Rattle.std.specs.Str.Parse.{AllDigits, digits_value}
-use Rattle.std.proofs.lemmas.List.{take_more}
 use Rattle.std.proofs.lemmas.List.Elements.{All-nil, All-cons, All-head, All-tail}
-use Rattle.std.proofs.lemmas.Str.{digit_value_digit}
-use Rattle.std.proofs.lemmas.Str.Parse.{digit_at, digits_value-take-le}
-use Rattle.std.proofs.lemmas.Int.Digits.{digits_value-lt, digits_value_push}
+use Rattle.std.proofs.lemmas.Int.Digits.{digits_value-lt}
+use Rattle.std.proofs.lemmas.Bool.{and_from, and_parts}
 use Rattle.std.proofs.Math.Nat.{pow-le-pow_right}
-use Rattle.edit_script.specs.Numbers.{is_digit, are_digits, is_unpadded, is_natural}
-
-both : (a b : Bool) → (a && b) ≡ true → (a ≡ true) × (b ≡ true)
-both true b e = (refl, e)
-both false b e = absurd (cc e)
-
-both_true : (a b : Bool) → a ≡ true → b ≡ true → (a && b) ≡ true
-both_true true b e f = f
-both_true false b e f = absurd (cc e)
+use Rattle.tick_time.proofs.DigitBytes.{digits_of}
+use Rattle.coord.specs.Images.{is_digit}
+use Rattle.edit_script.specs.Numbers.{are_digits, is_unpadded, is_natural}
 
 abbrev Within : List ℕ → Type 0
 Within bytes = All (λ b. (48 ≤ b) × (b ≤ 57)) bytes
@@ -27,7 +19,7 @@ all_are_digits (b ∷ bytes) h =
     let range = All-head (λ x. (48 ≤ x) × (x ≤ 57)) b bytes h in
     let low = range.0 in let high = range.1 in
     let e : is_digit b ≡ true = grind (arith, low, high) in
-    both_true (is_digit b) (are_digits bytes) e (all_are_digits bytes
+    and_from (is_digit b) (are_digits bytes) e (all_are_digits bytes
     (All-tail (λ x. (48 ≤ x) × (x ≤ 57)) b bytes h))
 
 digit_low : (b : ℕ) → is_digit b ≡ true → 48 ≤ b
@@ -39,27 +31,18 @@ digit_high b e = grind arith
 pub are_digits_all : (bytes : List ℕ) → are_digits bytes ≡ true → Within bytes
 are_digits_all [] h = All-nil (λ x. (48 ≤ x) × (x ≤ 57))
 are_digits_all (b ∷ bytes) h =
-    let k = both (is_digit b) (are_digits bytes) h in
+    let k = and_parts (is_digit b) (are_digits bytes) h in
     All-cons (λ x. (48 ≤ x) × (x ≤ 57)) b bytes (digit_low b k.0, digit_high b k.0)
     (are_digits_all bytes k.1)
 
--- bytes from `0` to `9` are digits
-digits_of : (bytes : List ℕ) → Within bytes → AllDigits 10 bytes
-digits_of [] h = tt
-digits_of (b ∷ bytes) h =
-    let range = All-head (λ x. (48 ≤ x) × (x ≤ 57)) b bytes h in (
-      omega (arith, digit_value_digit b range),
-      digits_of bytes
-          (All-tail (λ x. (48 ≤ x) × (x ≤ 57)) b bytes h),
-    )
-
 pub natural_digits : (word : List ℕ) → is_natural word ≡ true → AllDigits 10 word
 natural_digits word h =
-    let k = both (nat_le (length word) 15) (are_digits word && is_unpadded word) h in
-    digits_of word (are_digits_all word (both (are_digits word) (is_unpadded word) k.1).0)
+    let k = and_parts (nat_le (length word) 15) (are_digits word && is_unpadded word) h in
+    digits_of word (are_digits_all word (and_parts (are_digits word) (is_unpadded word) k.1).0)
 
 pub natural_few : (word : List ℕ) → is_natural word ≡ true → length word ≤ 15
-natural_few word h = let k = (both (nat_le (length word) 15) (are_digits word && is_unpadded word)
+natural_few word h = let k = (and_parts (nat_le (length word) 15) (are_digits word && is_unpadded
+    word)
     h).0 in grind (arith, k)
 
 -- at most fifteen digits write a number below 10 ^ 15
@@ -76,37 +59,6 @@ below digits all few =
 pub natural_below : (word : List ℕ) → is_natural word ≡ true
     → digits_value 10 word < 1000000000000000
 natural_below word h = below word (natural_digits word h) (natural_few word h)
-
--- so does one digit more of them
-pub one_more : (digits : List ℕ) (i : ℕ) → AllDigits 10 digits → length digits ≤ 15
-    → i < length digits
-    → digits_value 10 (take i digits) * 10 + (get_or digits i 0 - 48) < 1000000000000000
-one_more digits i all few within =
-    let range = digit_at digits i all within in
-    let push = digits_value_push 10 (take i digits) (get_or digits i 0) in
-    let more : digits_value 10 (take (i + 1) digits)
-    ≡ digits_value 10 (take i digits ++ get_or digits i 0 ∷ []) =
-    ap (digits_value 10) (take_more digits i 0 within) in
-    omega (
-      arith,
-      range,
-      digit_value_digit (get_or digits i 0) range,
-      push,
-      more,
-      digits_value-take-le 10 digits (i + 1) (omega arith),
-      below digits all few,
-    )
-
-pub pushed : (digits : List ℕ) (i : ℕ) → AllDigits 10 digits → i < length digits
-    → digits_value 10 (take i digits) * 10 + (get_or digits i 0 - 48)
-    ≡ digits_value 10 (take (i + 1) digits)
-pushed digits i all within =
-    let range = digit_at digits i all within in
-    let push = digits_value_push 10 (take i digits) (get_or digits i 0) in
-    let more : digits_value 10 (take (i + 1) digits)
-    ≡ digits_value 10 (take i digits ++ get_or digits i 0 ∷ []) =
-    ap (digits_value 10) (take_more digits i 0 within) in
-    omega (arith, digit_value_digit (get_or digits i 0) range, push, more)
 
 pub ruleset naturals = (natural_digits, natural_few, natural_below)
 

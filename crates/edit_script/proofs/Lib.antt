@@ -10,6 +10,7 @@ pub mod Texts
 pub mod Bares
 pub mod OnceRun
 pub mod Outcomes
+pub mod EachEdit
 pub mod Changes
 pub mod Puts
 pub mod Loops

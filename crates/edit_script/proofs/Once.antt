@@ -1,29 +1,29 @@
 -- Bytes are one script at most, or have one fault at most, and never both.
 use Rattle.std.proofs.Common.{◌≡◌, refl, sym, ap, ap₂, subst, ◌∙◌, ℕ, ◌+◌, List, [], ◌∷◌, ◌++◌, Option, Some, None, length, arith}
+use Rattle.std.proofs.lemmas.Option.{same_Some}
 use Rattle.text_lines.specs.Lines.{lines_of}
-use Rattle.edit_script.specs.declared.commands.Command.{Command}
+use Rattle.edit_script.specs.declared.commands.ScriptCommand.{ScriptCommand}
 use Rattle.edit_script.specs.declared.commands.ScriptFault.{ScriptFault}
 use Rattle.edit_script.specs.declared.commands.ScriptFault.TheVariants as F
 use Rattle.edit_script.specs.Scripts.{says, Say, IsScript, IsFirstWrong, IsFault}
 
-same_some : {A : Type 0} (x y : A) → Some x ≡ Some y → x ≡ y
-same_some x y e = cc e
-
 -- lines say one list of commands at most
-say_once : (n : ℕ) (lines : List (List ℕ)) (a b : List Command) → Say n lines a → Say n lines b
+say_once : (n : ℕ) (lines : List (List ℕ)) (a b : List ScriptCommand) → Say n lines a
+    → Say n lines b
     → a ≡ b
 say_once n [] a b s t = s ∙ sym t
 say_once n (line ∷ lines) a b s t =
-    let here = same_some s.0 t.0 (sym s.3 ∙ t.3) in
+    let here = same_Some s.0 t.0 (sym s.3 ∙ t.3) in
     s.2 ∙ ap₂ (λ x y. x ++ y) here (say_once (n + 1) lines s.1 t.1 s.4 t.4) ∙ sym t.2
 
-pub script_once : (bytes : List ℕ) (a b : List Command) → IsScript bytes a → IsScript bytes b
+pub script_once : (bytes : List ℕ) (a b : List ScriptCommand) → IsScript bytes a → IsScript bytes b
     → a ≡ b
 script_once bytes a b s t = say_once 1 (lines_of bytes) a b s.say t.say
 
 -- a line that says nothing among lines that say something
 wrong_among : (n : ℕ) (before : List (List ℕ)) (line : List ℕ) (behind : List (List ℕ))
-    (a : List Command) → Say n (before ++ line ∷ behind) a → says (n + length before) line ≡ None
+    (a : List ScriptCommand) → Say n (before ++ line ∷ behind) a
+    → says (n + length before) line ≡ None
     → ⊥
 wrong_among n [] line behind a s e =
     let z : n ≡ n + 0 = omega arith in
@@ -38,7 +38,7 @@ record Wrong (lines : List (List ℕ)) (n k : ℕ) : Type 0 where
   line : List ℕ
   behind : List (List ℕ)
   split : lines ≡ before ++ line ∷ behind
-  commands : List Command
+  commands : List ScriptCommand
   say : Say n before commands
   number : k ≡ n + length before
   wrong : says k line ≡ None
@@ -53,7 +53,7 @@ rest_of_lists : (x y : List ℕ) (l m : List (List ℕ)) → Path (List (List �
 rest_of_lists x y l m e = cc e
 
 wrong_once : (n j k : ℕ) (b c : List (List ℕ)) (x y : List ℕ) (d e : List (List ℕ))
-    (p q : List Command) → b ++ x ∷ d ≡ c ++ y ∷ e → Say n b p → Say n c q
+    (p q : List ScriptCommand) → b ++ x ∷ d ≡ c ++ y ∷ e → Say n b p → Say n c q
     → j ≡ n + length b → k ≡ n + length c → says j x ≡ None → says k y ≡ None → j ≡ k
 wrong_once n j k [] [] x y d e p q s t u v w f g = omega (arith, v, w)
 wrong_once n j k [] (z ∷ c) x y d e p q s t u v w f g =
@@ -76,7 +76,7 @@ first_once lines j k a b =
     (sym a.split ∙ b.split) a.say b.say
     (omega (arith, m)) (omega (arith, o)) a.wrong b.wrong
 
-said_right : (lines : List (List ℕ)) (k : ℕ) (c : List Command) → IsFirstWrong lines k
+said_right : (lines : List (List ℕ)) (k : ℕ) (c : List ScriptCommand) → IsFirstWrong lines k
     → Say 1 lines c → ⊥
 said_right lines k c a s =
     let m = a.number in
@@ -101,13 +101,14 @@ fault_once bytes F.Many F.Many a b = refl
 fault_once bytes F.Many F.Memory a b = absurd b
 fault_once bytes F.Memory g a b = absurd a
 
-pub never_both : (bytes : List ℕ) (c : List Command) (f : ScriptFault) → IsScript bytes c
+pub never_both : (bytes : List ℕ) (c : List ScriptCommand) (f : ScriptFault) → IsScript bytes c
     → IsFault bytes f → ⊥
 never_both bytes c F.Large s a = let k = s.small in omega (arith, a, k)
 never_both bytes c (F.Line n) s a = said_right (lines_of bytes) n c a.1 s.say
 never_both bytes c F.Many s a =
     let k = s.few in let m = a.1.many in
-    let e = ap (λ (l : List Command). length l) (say_once 1 (lines_of bytes) c a.1.commands s.say
+    let e = ap (λ (l : List ScriptCommand). length l) (say_once 1 (lines_of bytes) c a.1.commands
+    s.say
     a.1.say) in
     omega (arith, k, m, e)
 never_both bytes c F.Memory s a = a

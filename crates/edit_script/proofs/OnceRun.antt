@@ -1,10 +1,9 @@
 -- A command has one result at most, or one fault, and never both.
-use Rattle.std.proofs.Common.{◌≡◌, sym, ap, subst, ◌∙◌, ℕ, ℤ, Bool, true, false, List, Option, Some, None}
+use Rattle.std.proofs.Common.{◌≡◌, sym, ap, subst, ◌∙◌, ℕ, ℤ, true, false, List, Option, Some, None}
+use Rattle.std.proofs.lemmas.Bool.{both_ways}
 use Rattle.tick_time.specs.declared.rates.Rate.{Rate}
 use Rattle.tick_time.specs.declared.spans.Span.{Span}
-use Rattle.tick_time.specs.declared.times.Time.{Time}
-use Rattle.tick_time.proofs.SameValues.{same_time}
-use Rattle.pieces.proofs.SameTimes.{same_span}
+use Rattle.tick_time.proofs.SameValues.{same_frames, same_span}
 use Rattle.media_rows.specs.declared.row.MediaRow.{MediaRow}
 use Rattle.otio_model.specs.declared.compositions.ItemOf.{ItemOf}
 use Rattle.otio_model.specs.declared.compositions.Listed.{Listed}
@@ -17,13 +16,13 @@ use Rattle.edits.specs.Refusals.{IsAfter, IsRefused, early_fault, at_once, too_l
 use Rattle.undo_log.specs.declared.faults.UndoFault.TheVariants.{NothingDone, NothingUndone}
 use Rattle.edit_script.specs.declared.commands.Act.{Act}
 use Rattle.edit_script.specs.declared.commands.Act.TheVariants as A
-use Rattle.edit_script.specs.declared.commands.Command.{Command}
+use Rattle.edit_script.specs.declared.commands.ScriptCommand.{ScriptCommand}
 use Rattle.edit_script.specs.declared.commands.Put.{Put}
 use Rattle.edit_script.specs.declared.commands.Put.TheVariants as P
 use Rattle.edit_script.specs.declared.faults.CommandFault.{CommandFault}
 use Rattle.edit_script.specs.declared.faults.CommandFault.TheVariants as F
-use Rattle.edit_script.specs.Items.{IsClip, IsItem, IsSpan, clip_with, media_at}
-use Rattle.tick_time.specs.Frames.{IsFrames}
+use Rattle.edit_script.specs.Items.{IsListedClip, IsItem, clip_with, media_at}
+use Rattle.tick_time.specs.Frames.{IsFrameSpan}
 use Rattle.media_rows.specs.Rows.{MediaRows, row_of}
 use Rattle.edit_script.specs.RunActs.{IsEditOf, Puts, is_beyond, is_unlisted}
 use Rattle.edit_script.specs.Runs.{AsksFor, IsHalted, Takes, moved_on}
@@ -35,21 +34,16 @@ one_some o x y e f = let g : Some x ≡ Some y = sym e ∙ f in cc g
 some_or_none : {X : Type 0} (o : Option X) (x : X) → o ≡ Some x → o ≡ None → ⊥
 some_or_none o x e f = let g : Some x ≡ None = sym e ∙ f in cc g
 
-both_ways : (b : Bool) → b ≡ true → b ≡ false → ⊥
-both_ways b e f = let g : true ≡ false = sym e ∙ f in cc g
-
 -- ---- edits
 
-pub one_time : (r : Rate) (n : ℤ) (t u : Time) → IsFrames r n t → IsFrames r n u → t ≡ u
-one_time r n t u i j = same_time t u (i.ticks ∙ sym j.ticks) (i.kept ∙ sym j.kept)
-
-one_span : (r : Rate) (m : ℤ) (q : Rate) (n : ℤ) (s t : Span) → IsSpan r m q n s → IsSpan r m q n t
+one_span : (r : Rate) (m : ℤ) (q : Rate) (n : ℤ) (s t : Span) → IsFrameSpan r m q n s
+    → IsFrameSpan r m q n t
     → s ≡ t
-one_span r m q n s t i j = same_span s t (one_time r m s.start t.start i.from j.from)
-    (one_time q n s.len t.len i.long j.long)
+one_span r m q n s t i j = same_span s t (same_frames r m s.start t.start i.from j.from)
+    (same_frames q n s.len t.len i.long j.long)
 
 one_clip : (r : Rate) (row : MediaRow) (name : List ℕ) (m n : ℤ) (x y : ItemOf Listed)
-    → IsClip r row name m n x → IsClip r row name m n y → x ≡ y
+    → IsListedClip r row name m n x → IsListedClip r row name m n y → x ≡ y
 one_clip r row name m n x y i j =
     i.is
     ∙ ap (λ s. clip_with name s (media_at row.url i.available))
@@ -63,7 +57,8 @@ pub one_item : (r : Rate) (media : MediaRows) (put : Put) (x y : ItemOf Listed)
 one_item r media (P.Gap n) x y i j = one_some _ x y i j
 one_item r media (P.Clip name reel m n) x y i j =
     one_clip r i.0 name m n x y i.2
-    (subst (λ row. IsClip r row name m n y) (one_some (row_of media reel) j.0 i.0 j.1 i.1) j.2)
+    (subst (λ row. IsListedClip r row name m n y) (one_some (row_of media reel) j.0 i.0 j.1 i.1)
+    j.2)
 
 one_put : (r : Rate) (media : MediaRows) (put : Put) (f : ItemOf Listed → Edit) (d e : Edit)
     → Puts r media put f d → Puts r media put f e → d ≡ e
@@ -140,40 +135,40 @@ one_result media act s q r (redoes f h) (redoes g k) = one_some (forth s) q r h 
 -- ---- why a command is refused
 
 -- a clip's reel isn't listed
-only_reel : (media : MediaRows) (c : Command) (s : State) (f : CommandFault)
+only_reel : (media : MediaRows) (c : ScriptCommand) (s : State) (f : CommandFault)
     → is_unlisted media c.act ≡ true → IsHalted media c s f → f ≡ F.NoReel c.line
 only_reel media c s f h (unlisted a e) = e
-only_reel media c s f h (far a b e) = absurd (both_ways (is_unlisted media c.act) h a)
+only_reel media c s f h (far a b e) = absurd (both_ways (is_unlisted media c.act) a h)
 only_reel media c s f h (refused d w i r e) =
-    absurd (both_ways (is_unlisted media c.act) h i.listed)
+    absurd (both_ways (is_unlisted media c.act) i.listed h)
 only_reel media c s f h (nothing_done a b e) =
-    absurd (both_ways (is_unlisted media c.act) h (ap (is_unlisted media) a))
+    absurd (both_ways (is_unlisted media c.act) (ap (is_unlisted media) a) h)
 only_reel media c s f h (nothing_undone a b e) =
-    absurd (both_ways (is_unlisted media c.act) h (ap (is_unlisted media) a))
+    absurd (both_ways (is_unlisted media c.act) (ap (is_unlisted media) a) h)
 
 -- a time is out of range
-only_far : (media : MediaRows) (c : Command) (s : State) (f : CommandFault)
+only_far : (media : MediaRows) (c : ScriptCommand) (s : State) (f : CommandFault)
     → is_unlisted media c.act ≡ false → is_beyond (rate_of s.now) media c.act ≡ true
     → IsHalted media c s f → f ≡ F.Line c.line
-only_far media c s f g h (unlisted a e) = absurd (both_ways (is_unlisted media c.act) a g)
+only_far media c s f g h (unlisted a e) = absurd (both_ways (is_unlisted media c.act) g a)
 only_far media c s f g h (far a b e) = e
 only_far media c s f g h (refused d w i r e) =
-    absurd (both_ways (is_beyond (rate_of s.now) media c.act) h i.near)
+    absurd (both_ways (is_beyond (rate_of s.now) media c.act) i.near h)
 only_far media c s f g h (nothing_done a b e) =
-    absurd (both_ways (is_beyond (rate_of s.now) media c.act) h
-    (ap (is_beyond (rate_of s.now) media) a))
+    absurd (both_ways (is_beyond (rate_of s.now) media c.act) (ap (is_beyond (rate_of s.now) media)
+    a) h)
 only_far media c s f g h (nothing_undone a b e) =
-    absurd (both_ways (is_beyond (rate_of s.now) media c.act) h
-    (ap (is_beyond (rate_of s.now) media) a))
+    absurd (both_ways (is_beyond (rate_of s.now) media c.act) (ap (is_beyond (rate_of s.now) media)
+    a) h)
 
 -- its edit is refused
-only_edit : (media : MediaRows) (c : Command) (s : State) (f : CommandFault) (d : Edit)
+only_edit : (media : MediaRows) (c : ScriptCommand) (s : State) (f : CommandFault) (d : Edit)
     (why : EditFault) → AsksFor media c.act s.now d → IsRefused s.now d why → IsHalted media c s f
     → f ≡ F.Edit c.line why
 only_edit media c s f d why i r (unlisted a e) =
-    absurd (both_ways (is_unlisted media c.act) a i.listed)
+    absurd (both_ways (is_unlisted media c.act) i.listed a)
 only_edit media c s f d why i r (far a b e) =
-    absurd (both_ways (is_beyond (rate_of s.now) media c.act) b i.near)
+    absurd (both_ways (is_beyond (rate_of s.now) media c.act) i.near b)
 only_edit media c s f d why i r (refused g w j q e) =
     e ∙ ap (F.Edit c.line) (one_refusal s.now d w why
     (subst (λ x. IsRefused s.now x w) (asked media c.act s.now g d j i) q) r)
@@ -183,29 +178,29 @@ only_edit media c s f d why i r (nothing_undone a b e) =
     absurd (no_edit_back media c.act s.now d i a)
 
 -- nothing is to be undone, or to be redone
-only_undo : (media : MediaRows) (c : Command) (s : State) (f : CommandFault) → c.act ≡ A.Undo
+only_undo : (media : MediaRows) (c : ScriptCommand) (s : State) (f : CommandFault) → c.act ≡ A.Undo
     → IsHalted media c s f → f ≡ F.Undo c.line NothingDone
 only_undo media c s f h (unlisted a e) =
-    absurd (both_ways (is_unlisted media c.act) a (ap (is_unlisted media) h))
+    absurd (both_ways (is_unlisted media c.act) (ap (is_unlisted media) h) a)
 only_undo media c s f h (far a b e) =
-    absurd (both_ways (is_beyond (rate_of s.now) media c.act) b
-    (ap (is_beyond (rate_of s.now) media) h))
+    absurd (both_ways (is_beyond (rate_of s.now) media c.act) (ap (is_beyond (rate_of s.now) media)
+    h) b)
 only_undo media c s f h (refused d w i r e) = absurd (no_edit media c.act s.now d i h)
 only_undo media c s f h (nothing_done a b e) = e
 only_undo media c s f h (nothing_undone a b e) = absurd (not_undo_redo c.act h a)
 
-only_redo : (media : MediaRows) (c : Command) (s : State) (f : CommandFault) → c.act ≡ A.Redo
+only_redo : (media : MediaRows) (c : ScriptCommand) (s : State) (f : CommandFault) → c.act ≡ A.Redo
     → IsHalted media c s f → f ≡ F.Undo c.line NothingUndone
 only_redo media c s f h (unlisted a e) =
-    absurd (both_ways (is_unlisted media c.act) a (ap (is_unlisted media) h))
+    absurd (both_ways (is_unlisted media c.act) (ap (is_unlisted media) h) a)
 only_redo media c s f h (far a b e) =
-    absurd (both_ways (is_beyond (rate_of s.now) media c.act) b
-    (ap (is_beyond (rate_of s.now) media) h))
+    absurd (both_ways (is_beyond (rate_of s.now) media c.act) (ap (is_beyond (rate_of s.now) media)
+    h) b)
 only_redo media c s f h (refused d w i r e) = absurd (no_edit_back media c.act s.now d i h)
 only_redo media c s f h (nothing_done a b e) = absurd (not_undo_redo c.act a h)
 only_redo media c s f h (nothing_undone a b e) = e
 
-pub one_fault : (media : MediaRows) (c : Command) (s : State) (f g : CommandFault)
+pub one_fault : (media : MediaRows) (c : ScriptCommand) (s : State) (f g : CommandFault)
     → IsHalted media c s f → IsHalted media c s g → f ≡ g
 one_fault media c s f g (unlisted a e) h = e ∙ sym (only_reel media c s g a h)
 one_fault media c s f g (far a b e) h = e ∙ sym (only_far media c s g a b h)
@@ -215,38 +210,40 @@ one_fault media c s f g (nothing_undone a b e) h = e ∙ sym (only_redo media c 
 
 -- a command that has a result isn't refused
 
-kept_edit : (media : MediaRows) (c : Command) (s : State) (f : CommandFault) (d : Edit)
+kept_edit : (media : MediaRows) (c : ScriptCommand) (s : State) (f : CommandFault) (d : Edit)
     (t : Timeline) → AsksFor media c.act s.now d → IsAfter s.now d t → IsHalted media c s f → ⊥
-kept_edit media c s f d t i h (unlisted a e) = both_ways (is_unlisted media c.act) a i.listed
+kept_edit media c s f d t i h (unlisted a e) = both_ways (is_unlisted media c.act) i.listed a
 kept_edit media c s f d t i h (far a b e) =
-    both_ways (is_beyond (rate_of s.now) media c.act) b i.near
+    both_ways (is_beyond (rate_of s.now) media c.act) i.near b
 kept_edit media c s f d t i h (refused g w j r e) =
     not_both s.now d t w h
     (subst (λ x. IsRefused s.now x w) (asked media c.act s.now g d j i) r)
 kept_edit media c s f d t i h (nothing_done a b e) = no_edit media c.act s.now d i a
 kept_edit media c s f d t i h (nothing_undone a b e) = no_edit_back media c.act s.now d i a
 
-kept_undo : (media : MediaRows) (c : Command) (s r : State) (f : CommandFault) → c.act ≡ A.Undo
+kept_undo : (media : MediaRows) (c : ScriptCommand) (s r : State) (f : CommandFault)
+    → c.act ≡ A.Undo
     → back s ≡ Some r → IsHalted media c s f → ⊥
 kept_undo media c s r f h g (unlisted a e) =
-    both_ways (is_unlisted media c.act) a (ap (is_unlisted media) h)
+    both_ways (is_unlisted media c.act) (ap (is_unlisted media) h) a
 kept_undo media c s r f h g (far a b e) =
-    both_ways (is_beyond (rate_of s.now) media c.act) b (ap (is_beyond (rate_of s.now) media) h)
+    both_ways (is_beyond (rate_of s.now) media c.act) (ap (is_beyond (rate_of s.now) media) h) b
 kept_undo media c s r f h g (refused d w i q e) = no_edit media c.act s.now d i h
 kept_undo media c s r f h g (nothing_done a b e) = some_or_none (back s) r g b
 kept_undo media c s r f h g (nothing_undone a b e) = not_undo_redo c.act h a
 
-kept_redo : (media : MediaRows) (c : Command) (s r : State) (f : CommandFault) → c.act ≡ A.Redo
+kept_redo : (media : MediaRows) (c : ScriptCommand) (s r : State) (f : CommandFault)
+    → c.act ≡ A.Redo
     → forth s ≡ Some r → IsHalted media c s f → ⊥
 kept_redo media c s r f h g (unlisted a e) =
-    both_ways (is_unlisted media c.act) a (ap (is_unlisted media) h)
+    both_ways (is_unlisted media c.act) (ap (is_unlisted media) h) a
 kept_redo media c s r f h g (far a b e) =
-    both_ways (is_beyond (rate_of s.now) media c.act) b (ap (is_beyond (rate_of s.now) media) h)
+    both_ways (is_beyond (rate_of s.now) media c.act) (ap (is_beyond (rate_of s.now) media) h) b
 kept_redo media c s r f h g (refused d w i q e) = no_edit_back media c.act s.now d i h
 kept_redo media c s r f h g (nothing_done a b e) = not_undo_redo c.act a h
 kept_redo media c s r f h g (nothing_undone a b e) = some_or_none (forth s) r g b
 
-pub kept_on : (media : MediaRows) (c : Command) (s r : State) (f : CommandFault)
+pub kept_on : (media : MediaRows) (c : ScriptCommand) (s r : State) (f : CommandFault)
     → Takes media c.act s r → IsHalted media c s f → ⊥
 kept_on media c s r f (edits d t i a m) h = kept_edit media c s f d t i a h
 kept_on media c s r f (undoes e g) h = kept_undo media c s r f e g h

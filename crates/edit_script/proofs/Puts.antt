@@ -1,13 +1,12 @@
 -- Times in range, and the items that are put in.
 use Rattle.std.proofs.Common.{◌≡◌, refl, sym, ap, subst, ◌∙◌, ℕ, ℤ, pos, negsuc, ◌≤ℤ◌, ◌*ℤ◌, Bool, true, false, List, [], ◌∷◌, Option, Some, None, arith}
-use Rattle.std.specs.Prelude.{codes, cond, IfOk, Result, Ok, Err, int_lt, option_map, unsigned_abs}
+use Rattle.std.specs.Prelude.{codes, cond, IfOk, Result, Ok, Err, int_lt, not, option_map, unsigned_abs}
 use Rattle.std.proofs.lemmas.Int.{ints}
 use Rattle.std.proofs.Math.IntN.{pos-*ℤ-pos}
-use Rattle.std.proofs.lemmas.Bool.{or_parts}
+use Rattle.std.proofs.lemmas.Bool.{not-false, or_parts}
 use Rattle.tick_time.specs.Rates.{frame}
 use Rattle.tick_time.specs.declared.rates.Rate.{Rate}
 use Rattle.tick_time.specs.declared.spans.Span.{Span}
-use Rattle.tick_time.specs.declared.times.Time.{Time}
 use Rattle.media_rows.specs.declared.row.MediaRow.{MediaRow}
 use Rattle.json_value.specs.declared.Json.{Json}
 use Rattle.otio_model.specs.declared.markers.Marker.{Marker}
@@ -25,14 +24,21 @@ use Rattle.edits.specs.Children.{made, new_gap, plain_gap, with_range}
 use Rattle.edits_law.specs.Editable.{IsEditItem}
 use Rattle.edit_script.specs.declared.commands.Put.{Put}
 use Rattle.edit_script.specs.declared.commands.Put.TheVariants as P
-use Rattle.edit_script.specs.Items.{IsClip, IsItem, clip_with, is_far, is_wrong, media_at}
-use Rattle.tick_time.specs.Frames.{IsFrames, in_ticks}
+use Rattle.edit_script.specs.Items.{IsListedClip, IsItem, clip_with, is_far, is_wrong, media_at}
+use Rattle.tick_time.specs.Frames.{in_ticks}
+use Rattle.tick_time.specs.Times.{IsInRange}
+use Rattle.edits.specs.Finest.{high_of, in_range, low_of}
 use Rattle.media_rows.specs.Rows.{MediaRows, row_of}
 
 -- ---- counts that aren't wrong
 
 some_of : (z : ℤ) → int_lt z (pos 0) ≡ false → pos 0 ≤ℤ z
 some_of z e = grind (arith, ints)
+
+ticks_near : (z : ℤ) → not (in_range z) ≡ false → IsInRange z
+ticks_near z e =
+    let within = not-false (in_range z) e in
+    record { low = low_of z within; high = high_of z within }
 
 product : (n : ℤ) (k : ℕ) → pos 0 ≤ℤ n → pos 0 ≤ℤ (n *ℤ pos k)
 product (pos m) k h = subst (λ z. pos 0 ≤ℤ z) (sym (pos-*ℤ-pos m k)) (omega (arith, ints))
@@ -42,9 +48,16 @@ pub some_ticks : (r : Rate) (n : ℤ) → is_wrong r n ≡ false → pos 0 ≤�
 some_ticks r n e =
     product n (frame r.num r.den) (some_of n (or_parts (int_lt n (pos 0)) (is_far r n) e).0)
 
-pub some_time : (r : Rate) (n : ℤ) (t : Time) → is_wrong r n ≡ false → IsFrames r n t
-    → pos 0 ≤ℤ t.ticks
-some_time r n t e i = subst (λ z. pos 0 ≤ℤ z) (sym i.ticks) (some_ticks r n e)
+pub some_count : (r : Rate) (n : ℤ) → is_wrong r n ≡ false → pos 0 ≤ℤ n
+some_count r n e = some_of n (or_parts (int_lt n (pos 0)) (is_far r n) e).0
+
+pub near_ticks : (r : Rate) (n : ℤ) → is_far r n ≡ false → IsInRange (in_ticks r n)
+near_ticks r n e = ticks_near (in_ticks r n) e
+
+pub near_count : (r : Rate) (n : ℤ) → is_wrong r n ≡ false → IsInRange (in_ticks r n)
+near_count r n e = near_ticks r n (or_parts (int_lt n (pos 0)) (is_far r n) e).1
+
+pub ruleset counts = (some_ticks, some_count, near_ticks, near_count)
 
 -- ---- gaps
 
@@ -128,15 +141,13 @@ clip_is name n key w m a b ef mk refs e f g h i j l = λ k. Clip (record {
   rest = l k;
 })
 
-pub gap_item : {F : Type 0} (r : Rate) (media : MediaRows) (put : Put) (n : ℤ)
-    (made_gap : Result (ItemOf Listed) F) → put ≡ P.Gap n
-    → IfOk made_gap (λ gap. made r (new_gap (in_ticks r n)) ≡ Some gap)
-    → IfOk made_gap (IsItem r media put)
-gap_item r media put n made_gap e h = subst (λ p. IfOk made_gap (IsItem r media p)) (sym e) h
+pub gap_item : (r : Rate) (media : MediaRows) (put : Put) (n : ℤ) (gap : ItemOf Listed)
+    → put ≡ P.Gap n → made r (new_gap (in_ticks r n)) ≡ Some gap → IsItem r media put gap
+gap_item r media put n gap e h = subst (λ p. IsItem r media p gap) (sym e) h
 
 pub clip_item : {F : Type 0} (r : Rate) (media : MediaRows) (put : Put) (row : MediaRow)
     (name reel : List ℕ) (s n : ℤ) (res : Result (ItemOf Listed) F) → put ≡ P.Clip name reel s n
-    → Some row ≡ row_of media reel → IfOk res (IsClip r row name s n)
+    → Some row ≡ row_of media reel → IfOk res (IsListedClip r row name s n)
     → IfOk res (IsItem r media put)
 clip_item r media put row name reel s n (Err f) e g h = tt
 clip_item r media put row name reel s n (Ok x) e g h =

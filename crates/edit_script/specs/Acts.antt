@@ -12,16 +12,12 @@ use Rattle.edit_script.specs.declared.commands.Put.TheVariants as P
 use Rattle.edit_script.specs.declared.verbs.Verb.{Verb}
 use Rattle.edit_script.specs.declared.verbs.Verb.TheVariants as V
 use Rattle.edit_script.specs.Numbers.{natural, whole, place}
+use Rattle.text_lines.specs.KeyWords.{meaning}
 use Rattle.edit_script.specs.Words.{words_of}
 
--- what the first of the texts that is the word means
-abbrev pub meaning : {A : Type 0} → List ℕ → List (List ℕ × A) → Option A
-meaning word [] = None
-meaning word (row ∷ rows) = cond (bytes_eq word row.0) (Some row.1) (meaning word rows)
-
 -- the ten words of edits
-abbrev pub verb_words : List (List ℕ × Verb)
-verb_words =
+abbrev pub edit_words : List (List ℕ × Verb)
+edit_words =
     (codes "overwrite", V.Overwrite) ∷ (codes "insert", V.Insert) ∷ (codes "slice", V.Slice)
     ∷ (codes "fill", V.Fill) ∷ (codes "remove", V.Remove) ∷ (codes "trim", V.Trim)
     ∷ (codes "slip", V.Slip) ∷ (codes "slide", V.Slide) ∷ (codes "ripple", V.Ripple)
@@ -134,7 +130,7 @@ step_of word (a ∷ words) = None
 -- what words say
 abbrev pub act_of : List (List ℕ) → Option Act
 act_of [] = None
-act_of (word ∷ words) = elim (meaning word verb_words)
+act_of (word ∷ words) = elim (meaning word edit_words)
     [ None ↦ step_of word words | Some verb ↦ placed_of verb words ]
 
 -- what a line says

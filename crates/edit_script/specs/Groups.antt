@@ -4,13 +4,13 @@ use Rattle.edit_script.specs.declared.commands.Act.{Act}
 use Rattle.edit_script.specs.declared.commands.Act.TheVariants as A
 
 -- what carries an act out: an edit of a list or of edges, or a step in the log
-pub data Group : Type 0 where
-  OfLists : Group
-  OfEdges : Group
-  Back : Group
-  Forth : Group
+pub data ActGroup : Type 0 where
+  OfLists : ActGroup
+  OfEdges : ActGroup
+  Back : ActGroup
+  Forth : ActGroup
 
-abbrev pub group : Act → Group
+abbrev pub group : Act → ActGroup
 group (A.Overwrite place at put) = OfLists
 group (A.Insert place at put) = OfLists
 group (A.Slice place at) = OfLists

@@ -1,8 +1,8 @@
 -- The items that commands put in.
-use Rattle.std.specs.Prelude.{◌≡◌, ℕ, ℤ, pos, ◌*ℤ◌, Bool, true, false, ◌||◌, not, int_lt, List, [], ◌∷◌, Option, Some, None, is_none, codes}
+use Rattle.std.specs.Prelude.{◌≡◌, ℕ, ℤ, pos, Bool, true, false, ◌||◌, not, int_lt, List, [], ◌∷◌, Option, Some, None, is_none, codes}
 use Rattle.tick_time.specs.declared.rates.Rate.{Rate}
 use Rattle.tick_time.specs.declared.spans.Span.{Span}
-use Rattle.tick_time.specs.Frames.{IsFrames, in_ticks}
+use Rattle.tick_time.specs.Frames.{IsFrameSpan, in_ticks}
 use Rattle.media_rows.specs.declared.row.MediaRow.{MediaRow}
 use Rattle.media_rows.specs.Rows.{MediaRows, row_of}
 use Rattle.otio_model.specs.declared.media.Media.{Media}
@@ -20,12 +20,6 @@ use Rattle.edit_script.specs.declared.commands.Put.TheVariants as P
 -- they pass a million seconds, either way
 abbrev pub is_far : Rate → ℤ → Bool
 is_far rate n = not (in_range (in_ticks rate n))
-
--- the span starts at so many frames of one rate and is so many frames of another one long
-pub record IsSpan (start_rate : Rate) (start : ℤ) (length_rate : Rate) (length : ℤ) (s : Span)
-    : Type 0 where
-  pub from : IsFrames start_rate start s.start
-  pub long : IsFrames length_rate length s.len
 
 -- ---- items
 
@@ -55,20 +49,20 @@ clip_with name shown media = Clip (record {
 
 -- The clip of a name that shows listed media from a frame of theirs on, so many record frames long.
 -- Its media are all that is listed.
-pub record IsClip
+pub record IsListedClip
     (record_rate : Rate) (row : MediaRow) (name : List ℕ) (start length : ℤ) (x : ItemOf Listed)
     : Type 0 where
   pub shown : Span
-  pub shows : IsSpan row.rate start record_rate length shown
+  pub shows : IsFrameSpan row.rate start record_rate length shown
   pub available : Span
-  pub listed : IsSpan row.rate row.start row.rate row.count available
+  pub listed : IsFrameSpan row.rate row.start row.rate row.count available
   pub is : x ≡ clip_with name shown (media_at row.url available)
 
 -- the item that is put in, where the record rate is this
 abbrev pub IsItem : Rate → MediaRows → Put → ItemOf Listed → Type 0
 IsItem rate media (P.Gap length) x = made rate (new_gap (in_ticks rate length)) ≡ Some x
 IsItem rate media (P.Clip name reel start length) x =
-    (row : MediaRow) × (row_of media reel ≡ Some row) × IsClip rate row name start length x
+    (row : MediaRow) × (row_of media reel ≡ Some row) × IsListedClip rate row name start length x
 
 -- ---- items that can't be put in
 

@@ -8,6 +8,7 @@ pub mod Items
 pub mod RunActs
 pub mod Runs
 pub mod Keeping
+pub mod EditHistories
 pub mod Groups
 pub mod Steps
 pub mod Plans

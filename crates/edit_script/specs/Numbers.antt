@@ -2,14 +2,11 @@
 use Rattle.std.specs.Prelude.{◌==◌, ℕ, ℤ, pos, ◌-ℤ◌, Bool, true, false, not, ◌&&◌, cond, nat_lt, nat_le, List, [], ◌∷◌, Option, Some, None, option_map, length, map}
 use Rattle.std.specs.List.{slice_split}
 use Rattle.std.specs.Str.Parse.{digits_value}
+use Rattle.coord.specs.Images.{is_digit}
 
 -- how many digits a number has at most
 abbrev pub number_digits : ℕ
 number_digits = 15
-
--- the byte is from `0` to `9`
-abbrev pub is_digit : ℕ → Bool
-is_digit b = nat_le 48 b && nat_le b 57
 
 abbrev pub are_digits : List ℕ → Bool
 are_digits [] = true

@@ -9,7 +9,7 @@ use Rattle.edits.specs.After.{rate_of}
 use Rattle.edits.specs.Refusals.{IsAfter, IsRefused}
 use Rattle.edit_script.specs.declared.commands.Act.{Act}
 use Rattle.edit_script.specs.declared.commands.Act.TheVariants as A
-use Rattle.edit_script.specs.declared.commands.Command.{Command}
+use Rattle.edit_script.specs.declared.commands.ScriptCommand.{ScriptCommand}
 use Rattle.edit_script.specs.declared.faults.CommandFault.{CommandFault}
 use Rattle.edit_script.specs.declared.faults.CommandFault.TheVariants as F
 use Rattle.media_rows.specs.Rows.{MediaRows}
@@ -34,7 +34,7 @@ pub data Takes (media : MediaRows) (act : Act) (s r : State) : Type 0 where
   redoes : act ≡ A.Redo → forth s ≡ Some r → Takes media act s r
 
 -- the command is refused in the state s for this fault, which names its line
-pub data IsHalted (media : MediaRows) (c : Command) (s : State) (fault : CommandFault)
+pub data IsHalted (media : MediaRows) (c : ScriptCommand) (s : State) (fault : CommandFault)
     : Type 0 where
   unlisted : is_unlisted media c.act ≡ true → fault ≡ F.NoReel c.line → IsHalted media c s fault
   far : is_unlisted media c.act ≡ false → is_beyond (rate_of s.now) media c.act ≡ true
@@ -47,16 +47,16 @@ pub data IsHalted (media : MediaRows) (c : Command) (s : State) (fault : Command
       → IsHalted media c s fault
 
 -- the first n commands of the script take the state s to r
-abbrev pub Runs : MediaRows → List Command → ℕ → State → State → Type 0
+abbrev pub Runs : MediaRows → List ScriptCommand → ℕ → State → State → Type 0
 Runs media script zero s r = r ≡ s
 Runs media script (suc n) s r = (q : State) × Runs media script n s q
     × IsSomeAnd (slice_get script n) (λ c. Takes media c.act q r)
 
 -- the script takes the state s to r, where its next command is refused for this fault
-pub record Halts (media : MediaRows) (script : List Command) (s r : State) (fault : CommandFault)
-    : Type 0 where
+pub record Halts (media : MediaRows) (script : List ScriptCommand) (s r : State)
+    (fault : CommandFault) : Type 0 where
   pub done : ℕ
   pub ran : Runs media script done s r
-  pub command : Command
+  pub command : ScriptCommand
   pub next : slice_get script done ≡ Some command
   pub halted : IsHalted media command r fault

@@ -1,17 +1,21 @@
 //! What the words of a line say.
 
-ghost use Rattle.std.specs.Prelude.{◌≡◌, ◌∷◌, ℕ, ℤ, List, Option, Some, None, IfOk, MatchOption, option_map, option_and_then, []};
+ghost use Rattle.std.specs.Prelude.{◌≡◌, ◌∷◌, ℕ, List, Option, Some, None, IfOk, MatchOption, option_map, option_and_then, []};
+ghost use Rattle.text_lines.specs.KeyWords.{meaning};
 ghost use Rattle.edit_script.specs.Words.{words_of};
 ghost use Rattle.edit_script.specs.Acts as acts;
-ghost use Rattle.edit_script.specs.Numbers as numbers;
 
 use crate::commands::{Act, Put};
 use crate::numbers::{count, place_of, whole};
-use crate::verbs::{Verb, fill_of, is_word, remove_of, verb_of};
+use crate::verbs::{Verb, fill_of, remove_of, verb_of};
 use crate::words::{has_ended, next_word};
 use otio_model::{FillMode, Place, RemoveMode};
 use sequences::Text;
 use std::alloc::{AllocError, Global};
+use text_lines::is_word;
+
+// What the words of a line say; none where they say nothing.
+type Said = Result<Option<Act>, AllocError>;
 
 // The word that is a line's only one.
 #[tactic(auto, using(crate::proofs::ActLemmas::only_words))]
@@ -147,12 +151,7 @@ fn filling_of(alloc: Global, line: &[u8]) -> Result<Option<(FillMode, Put)>, All
 }
 
 // The words of a line behind `overwrite PLACE AT`.
-fn overwrite_of(
-    alloc: Global,
-    place: Place,
-    at: i64,
-    line: &[u8],
-) -> Result<Option<Act>, AllocError>
+fn overwrite_of(alloc: Global, place: Place, at: i64, line: &[u8]) -> Said
     ensures { IfOk result
         (λ act. act ≡ option_and_then (acts.edit_of Verb.Overwrite place at) (words_of line.now)) }
 {
@@ -163,7 +162,7 @@ fn overwrite_of(
 }
 
 // The words of a line behind `insert PLACE AT`.
-fn insert_of(alloc: Global, place: Place, at: i64, line: &[u8]) -> Result<Option<Act>, AllocError>
+fn insert_of(alloc: Global, place: Place, at: i64, line: &[u8]) -> Said
     ensures { IfOk result
         (λ act. act ≡ option_and_then (acts.edit_of Verb.Insert place at) (words_of line.now)) }
 {
@@ -185,12 +184,7 @@ fn slice_of(place: Place, at: i64, line: &[u8]) -> Option<Act>
 }
 
 // The words of a line behind `fill PLACE AT`.
-fn fill_edit_of(
-    alloc: Global,
-    place: Place,
-    at: i64,
-    line: &[u8],
-) -> Result<Option<Act>, AllocError>
+fn fill_edit_of(alloc: Global, place: Place, at: i64, line: &[u8]) -> Said
     ensures { IfOk result
         (λ act. act ≡ option_and_then (acts.edit_of Verb.Fill place at) (words_of line.now)) }
 {
@@ -281,13 +275,7 @@ fn slide_of(place: Place, at: i64, line: &[u8]) -> Option<Act>
 }
 
 // The edit of a word at a place, by the words of a line that follow.
-fn edit_of(
-    alloc: Global,
-    verb: Verb,
-    place: Place,
-    at: i64,
-    line: &[u8],
-) -> Result<Option<Act>, AllocError>
+fn edit_of(alloc: Global, verb: Verb, place: Place, at: i64, line: &[u8]) -> Said
     ensures { IfOk result
         (λ act. act ≡ option_and_then (acts.edit_of verb place at) (words_of line.now)) }
 {
@@ -307,7 +295,7 @@ fn edit_of(
 
 // The edit of a word, by the words of a line that follow it.
 #[tactic(auto, using(crate::proofs::ActLemmas::placings))]
-fn placed_of(alloc: Global, verb: Verb, line: &[u8]) -> Result<Option<Act>, AllocError>
+fn placed_of(alloc: Global, verb: Verb, line: &[u8]) -> Said
     ensures { IfOk result
         (λ act. act ≡ option_and_then (acts.placed_of verb) (words_of line.now)) }
 {
@@ -328,7 +316,7 @@ fn placed_of(alloc: Global, verb: Verb, line: &[u8]) -> Result<Option<Act>, Allo
 
 // The step of that word.
 fn step_word(word: &[u8]) -> Option<Act>
-    ensures { result ≡ acts.meaning word.now acts.step_words }
+    ensures { result ≡ meaning word.now acts.step_words }
 {
     if is_word(word, b"undo") {
         return Some(Act::Undo);
@@ -352,7 +340,7 @@ fn step_of(word: &[u8], line: &[u8]) -> Option<Act>
 
 /// What a line says.
 #[tactic(auto, using(crate::proofs::ActLemmas::sayings))]
-pub(crate) fn said_by(alloc: Global, line: &[u8]) -> Result<Option<Act>, AllocError>
+pub(crate) fn said_by(alloc: Global, line: &[u8]) -> Said
     ensures { IfOk result (λ act. act ≡ acts.said_by line.now) }
 {
     let Some((word, rest)) = next_word(line) else {

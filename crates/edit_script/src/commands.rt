@@ -133,7 +133,7 @@ pub enum Act {
 }
 
 /// A command and the line that it stands on, counted from 1.
-pub struct Command {
+pub struct ScriptCommand {
     /// The line.
     pub line: u32,
     /// What it does.
@@ -193,8 +193,8 @@ impl Drop for Put {
     }
 }
 
-impl Drop for Command {
+impl Drop for ScriptCommand {
     fn drop(self) {
-        let Command { line: _, act: _ } = self;
+        let ScriptCommand { line: _, act: _ } = self;
     }
 }

@@ -1,21 +1,22 @@
 //! The items that commands put in.
 
-ghost use Rattle.std.specs.Prelude.{◌≡◌, ◌∷◌, [], false, IfOk, Some, IfSome, codes};
+ghost use Rattle.std.specs.Prelude.{◌≡◌, ◌∷◌, [], ℤ, false, IfOk, Some, IfSome, codes};
 ghost use Rattle.std.specs.Option.{option_copied};
 ghost use Rattle.edits.specs.Children.{made, new_gap as new_gap_of};
 ghost use Rattle.edits_law.specs.Editable.{IsEditItem};
 ghost use Rattle.media_rows.specs.Rows as rows;
 ghost use Rattle.media_rows.specs.Rows.{IsRowInRange};
+ghost use Rattle.tick_time.specs.declared.rates.Rate.{Rate as AnyRate};
 ghost use Rattle.tick_time.specs.declared.spans.Span.{Span as AnySpan};
 ghost use Rattle.edit_script.specs.Items as items;
-ghost use Rattle.edit_script.specs.Items.{IsClip, IsItem, IsSpan};
-ghost use Rattle.tick_time.specs.Frames.{IsFrames, in_ticks};
+ghost use Rattle.edit_script.specs.Items.{IsListedClip, IsItem};
+ghost use Rattle.tick_time.specs.Frames.{IsFrameSpan, in_ticks};
 
 use crate::commands::Put;
 use media_list::MediaList;
 use media_rows::MediaRow;
 use otio_model::{Clip, Effects, External, Item, ItemOf, Markers, Media, MediaMap};
-use pieces::{RangedFault, new_gap};
+use pieces::short_gap;
 use sequences::{NamedValues, Text};
 use std::alloc::{AllocError, Global};
 use tick_time::{Rate, Span, Time};
@@ -86,33 +87,20 @@ pub(crate) fn is_wrong_put(rate: Rate, media: Option<&MediaList>, put: &Put) -> 
     }
 }
 
-// So many frames of a rate.
-fn frames(n: i64, rate: Rate) -> Time
-    requires near { items.is_far rate n ≡ false }
-    ensures { IsFrames rate n result }
-{
-    match Time::frames(n, rate) {
-        Ok(time) => time,
-        Err(_) => unreachable!(),
-    }
-}
-
 // The span from so many frames of one rate on that is so many frames of another one long.
+#[tactic(auto, using(crate::proofs::Puts::counts))]
 fn span(start_rate: Rate, start: i64, length_rate: Rate, length: i64) -> Span
     requires starts { items.is_far start_rate start ≡ false }
     requires lasts { items.is_wrong length_rate length ≡ false }
-    ensures { IsSpan start_rate start length_rate length result }
+    ensures { IsFrameSpan start_rate start length_rate length result }
 {
-    Span {
-        start: frames(start, start_rate),
-        len: frames(length, length_rate),
-    }
+    Span::of_frames(start, start_rate, length, length_rate)
 }
 
 // The media that a row lists.
 fn media_of(alloc: Global, row: &MediaRow) -> Result<Media, AllocError>
     requires { IsRowInRange row.now }
-    ensures { IfOk result (λ media. (available : AnySpan) × IsSpan row.now.rate row.now.start
+    ensures { IfOk result (λ media. (available : AnySpan) × IsFrameSpan row.now.rate row.now.start
         row.now.rate row.now.count available × (media ≡ items.media_at row.now.url available)) }
 {
     Ok(Media::External(External {
@@ -131,19 +119,12 @@ fn references_of(alloc: Global, media: Media) -> Result<MediaMap, AllocError>
     NamedValues::one(alloc, "DEFAULT_MEDIA", media)
 }
 
-// The clip of a name that shows a row's media from a frame on, so many record frames long.
-fn clip_of(
-    alloc: Global,
-    rate: Rate,
-    row: &MediaRow,
-    name: &Text,
-    start: i64,
-    length: i64,
-) -> Result<Item, AllocError>
-    requires row { IsRowInRange row.now }
-    requires starts { items.is_wrong row.now.rate start ≡ false }
-    requires lasts { items.is_wrong rate length ≡ false }
-    ensures { IfOk result (IsClip rate row.now name.now start length) }
+// The clip of a name that shows so much of a row's media.
+fn clip_of(alloc: Global, row: &MediaRow, name: &Text, shown: Span) -> Result<Item, AllocError>
+    requires { IsRowInRange row.now }
+    ensures { IfOk result (λ item. (rate : AnyRate) (start length : ℤ)
+        → IsFrameSpan row.now.rate start rate length shown
+        → IsListedClip rate row.now name.now start length item) }
 {
     let name = Text::of(alloc, name.as_str())?;
     let media_references = references_of(alloc, media_of(alloc, row)?)?;
@@ -151,7 +132,7 @@ fn clip_of(
     Ok(ItemOf::Clip(Clip {
         metadata: NamedValues::new(alloc),
         name,
-        source_range: Some(span(row.rate, start, rate, length)),
+        source_range: Some(shown),
         effects: Effects::new(alloc),
         markers: Markers::new(alloc),
         enabled: true,
@@ -162,15 +143,12 @@ fn clip_of(
 }
 
 // A gap so many record frames long.
-fn gap_of(alloc: Global, rate: Rate, length: i64) -> Result<Item, AllocError>
+#[tactic(auto, using(crate::proofs::Puts::counts))]
+fn gap_of(alloc: Global, rate: Rate, length: i64) -> Item
     requires { items.is_wrong rate length ≡ false }
-    ensures { IfOk result (λ gap. made rate (new_gap_of (in_ticks rate length)) ≡ Some gap) }
+    ensures { made rate (new_gap_of (in_ticks rate length)) ≡ Some result }
 {
-    match new_gap(alloc, frames(length, rate).ticks, rate) {
-        Ok(gap) => Ok(gap),
-        Err(RangedFault::Memory) => Err(AllocError),
-        Err(RangedFault::Range) => unreachable!(),
-    }
+    short_gap(alloc, Time::of_frames(length, rate).ticks, rate)
 }
 
 /// The item that a command puts in, where the record rate is `rate`. An error comes where memory
@@ -187,14 +165,14 @@ pub fn item_of(
     ensures edit { IfOk result IsEditItem }
 {
     match put {
-        Put::Gap(length) => gap_of(alloc, rate, *length),
+        Put::Gap(length) => Ok(gap_of(alloc, rate, *length)),
         Put::Clip {
             name,
             reel,
             start,
             length,
         } => match row_of(media, reel) {
-            Some(row) => clip_of(alloc, rate, row, name, *start, *length),
+            Some(row) => clip_of(alloc, row, name, span(row.rate, *start, rate, *length)),
             None => unreachable!(),
         },
     }

@@ -19,7 +19,7 @@ mod steps;
 mod verbs;
 mod words;
 
-pub use commands::{Act, Command, MOST_COMMANDS, Put, ScriptFault};
+pub use commands::{Act, MOST_COMMANDS, Put, ScriptCommand, ScriptFault};
 pub use faults::CommandFault;
 pub use items::item_of;
 pub use numbers::{count, natural, place_of, whole};

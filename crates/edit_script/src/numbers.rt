@@ -1,12 +1,12 @@
 //! Numbers and places, each of one word.
 
-ghost use Rattle.std.specs.Prelude.{◌≡◌, ◌≤◌, ◌<◌, ◌↔◌, pos, All, IsTrue, IfSome, IfOk, length, option_map};
-ghost use Rattle.std.specs.Str.Parse.{AllDigits, digits_value};
+ghost use Rattle.std.specs.Prelude.{◌≡◌, ◌<◌, pos, IfSome, IfOk, option_map};
 ghost use Rattle.edit_script.specs.Numbers as numbers;
 
 use otio_model::Place;
 use std::alloc::{AllocError, Global};
-use text_lines::{after, before, first_byte};
+use text_lines::{after, are_within, before, first_byte};
+use tick_time::number_of;
 
 /// How many digits a number has at most.
 const NUMBER_DIGITS: usize = 15;
@@ -17,13 +17,6 @@ fn are_digits(bytes: &[u8]) -> bool
     ensures { result ≡ numbers.are_digits bytes.now }
 {
     are_within(bytes, b'0', b'9')
-}
-
-// Whether each byte lies between these two.
-fn are_within(bytes: &[u8], low: u8, high: u8) -> bool
-    ensures { IsTrue result ↔ All (λ b. (low ≤ b) × (b ≤ high)) bytes.now }
-{
-    bytes.iter().all(|b| low <= *b && *b <= high)
 }
 
 // Whether the first of several bytes isn't `0`, and there is one.
@@ -44,19 +37,6 @@ fn is_natural(word: &[u8]) -> bool
     word.len() <= NUMBER_DIGITS && are_digits(word) && is_unpadded(word)
 }
 
-// The number that at most fifteen digits write.
-fn value_of(digits: &[u8]) -> u64
-    requires digits { AllDigits 10 digits.now }
-    requires few { length digits.now ≤ 15 }
-    ensures { result ≡ digits_value 10 digits.now }
-{
-    let mut number: u64 = 0;
-    'digits: for digit in digits {
-        number = number * 10 + u64::from(*digit - b'0');
-    }
-    number
-}
-
 /// The number that a word is: `0`, or one to fifteen digits of which the first isn't `0`; none
 /// where the word is something else.
 #[tactic(auto, using(crate::proofs::Figures::naturals))]
@@ -65,7 +45,7 @@ pub fn natural(word: &[u8]) -> Option<u64>
     ensures small { IfSome result (λ n. n < 1000000000000000) }
 {
     if is_natural(word) {
-        Some(value_of(word))
+        Some(number_of(word))
     } else {
         None
     }

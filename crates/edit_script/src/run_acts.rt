@@ -1,6 +1,6 @@
 //! The edits that commands ask for.
 
-ghost use Rattle.std.specs.Prelude.{◌≡◌, ◌||◌, true, false, IfOk};
+ghost use Rattle.std.specs.Prelude.{◌≡◌, ◌≢◌, ◌||◌, true, false, IfNone, IfOk, IfSome};
 ghost use Rattle.std.specs.Option.{option_copied};
 ghost use Rattle.edits_law.specs.Editable.{HasEditItem};
 ghost use Rattle.edit_plans.specs.Planned.{is_list_edit};
@@ -76,52 +76,59 @@ pub(crate) fn is_beyond(rate: Rate, media: Option<&MediaList>, act: &Act) -> boo
     }
 }
 
-/// The edit of a list that an act asks for.
+/// The edit of a list that an act asks for; none where it asks for no such edit.
 pub(crate) fn list_edit_of(
     alloc: Global,
     rate: Rate,
     media: Option<&MediaList>,
     act: &Act,
-) -> Result<Edit, AllocError>
-    requires group { group act.now ≡ OfLists }
+) -> Result<Option<Edit>, AllocError>
     requires listed { acts.is_unlisted (option_copied media) act.now ≡ false }
     requires near { acts.is_beyond rate (option_copied media) act.now ≡ false }
-    ensures edit { IfOk result (IsEditOf rate (option_copied media.entry) act.now) }
-    ensures item { IfOk result HasEditItem }
-    ensures group { IfOk result (λ edit. is_list_edit edit ≡ true) }
+    ensures edit { IfOk result
+        (λ found. IfSome found (IsEditOf rate (option_copied media.entry) act.now)) }
+    ensures item { IfOk result (λ found. IfSome found HasEditItem) }
+    ensures group { IfOk result (λ found. IfSome found (λ edit. is_list_edit edit ≡ true)) }
+    ensures none { IfOk result (λ found. IfNone found (group act.now ≢ OfLists)) }
 {
     match act {
-        Act::Overwrite { place, at, put } => Ok(Edit::Overwrite {
+        Act::Overwrite { place, at, put } => Ok(Some(Edit::Overwrite {
             place: copy_place(alloc, place)?,
             at: *at,
             item: item_of(alloc, rate, media, put)?,
-        }),
-        Act::Insert { place, at, put } => Ok(Edit::Insert {
+        })),
+        Act::Insert { place, at, put } => Ok(Some(Edit::Insert {
             place: copy_place(alloc, place)?,
             at: *at,
             item: item_of(alloc, rate, media, put)?,
-        }),
-        Act::Slice { place, at } => Ok(Edit::Slice {
+        })),
+        Act::Slice { place, at } => Ok(Some(Edit::Slice {
             place: copy_place(alloc, place)?,
             at: *at,
-        }),
+        })),
         Act::Fill {
             place,
             at,
             mode,
             put,
-        } => Ok(Edit::Fill {
+        } => Ok(Some(Edit::Fill {
             place: copy_place(alloc, place)?,
             at: *at,
             mode: *mode,
             item: item_of(alloc, rate, media, put)?,
-        }),
-        Act::Remove { place, at, mode } => Ok(Edit::Remove {
+        })),
+        Act::Remove { place, at, mode } => Ok(Some(Edit::Remove {
             place: copy_place(alloc, place)?,
             at: *at,
             mode: *mode,
-        }),
-        _ => unreachable!(),
+        })),
+        Act::Trim { .. }
+        | Act::Slip { .. }
+        | Act::Slide { .. }
+        | Act::Ripple { .. }
+        | Act::Roll { .. }
+        | Act::Undo
+        | Act::Redo => Ok(None),
     }
 }
 
@@ -159,12 +166,12 @@ fn cut_edit_of(alloc: Global, act: &Act) -> Result<Edit, AllocError>
     }
 }
 
-/// The edit of edges that an act asks for.
-pub(crate) fn edge_edit_of(alloc: Global, act: &Act) -> Result<Edit, AllocError>
-    requires { group act.now ≡ OfEdges }
-    ensures edit { IfOk result (λ edit. (rate : AnyRate) (media : MediaRows)
-        → IsEditOf rate media act.now edit) }
-    ensures group { IfOk result (λ edit. is_list_edit edit ≡ false) }
+/// The edit of edges that an act asks for; none where it asks for no such edit.
+pub(crate) fn edge_edit_of(alloc: Global, act: &Act) -> Result<Option<Edit>, AllocError>
+    ensures edit { IfOk result (λ found. IfSome found (λ edit. (rate : AnyRate) (media : MediaRows)
+        → IsEditOf rate media act.now edit)) }
+    ensures group { IfOk result (λ found. IfSome found (λ edit. is_list_edit edit ≡ false)) }
+    ensures none { IfOk result (λ found. IfNone found (group act.now ≢ OfEdges)) }
 {
     match act {
         Act::Trim {
@@ -172,23 +179,29 @@ pub(crate) fn edge_edit_of(alloc: Global, act: &Act) -> Result<Edit, AllocError>
             at,
             head,
             tail,
-        } => Ok(Edit::Trim {
+        } => Ok(Some(Edit::Trim {
             place: copy_place(alloc, place)?,
             at: *at,
             head: *head,
             tail: *tail,
-        }),
-        Act::Slip { place, at, by } => Ok(Edit::Slip {
+        })),
+        Act::Slip { place, at, by } => Ok(Some(Edit::Slip {
             place: copy_place(alloc, place)?,
             at: *at,
             by: *by,
-        }),
-        Act::Slide { place, at, by } => Ok(Edit::Slide {
+        })),
+        Act::Slide { place, at, by } => Ok(Some(Edit::Slide {
             place: copy_place(alloc, place)?,
             at: *at,
             by: *by,
-        }),
-        Act::Ripple { .. } | Act::Roll { .. } => cut_edit_of(alloc, act),
-        _ => unreachable!(),
+        })),
+        Act::Ripple { .. } | Act::Roll { .. } => Ok(Some(cut_edit_of(alloc, act)?)),
+        Act::Overwrite { .. }
+        | Act::Insert { .. }
+        | Act::Slice { .. }
+        | Act::Fill { .. }
+        | Act::Remove { .. }
+        | Act::Undo
+        | Act::Redo => Ok(None),
     }
 }

@@ -3,13 +3,14 @@
 ghost use Rattle.std.specs.Prelude.{◌≡◌, ◌≢◌, ◌<◌, ℕ, List, IfErr, OnErr, OnOk, length};
 ghost use Rattle.std.specs.Option.{option_copied};
 ghost use Rattle.undo_log.specs.States.{IsKept, State, state_of};
-ghost use Rattle.edit_script.specs.declared.commands.Command.{Command as AnyCommand};
+ghost use Rattle.edit_script.specs.declared.commands.ScriptCommand.{ScriptCommand as AnyCommand};
 ghost use Rattle.edit_script.specs.declared.faults.CommandFault.{CommandFault as AnyFault};
 ghost use Rattle.media_rows.specs.Rows.{MediaRows};
 ghost use Rattle.edit_script.specs.Runs.{Halts, Runs};
 ghost use Rattle.edit_script.specs.Keeping.{HoldsEdits, IsEditableState};
+ghost use Rattle.edit_script.specs.EditHistories.{RunsEach};
 
-use crate::commands::Command;
+use crate::commands::ScriptCommand;
 use crate::faults::CommandFault;
 use crate::steps::apply_command;
 use media_list::MediaList;
@@ -34,7 +35,7 @@ pub fn apply_script(
     alloc: Global,
     timeline: &mut Timeline,
     log: &mut Log,
-    script: &[Command],
+    script: &[ScriptCommand],
     media: Option<&MediaList>,
 ) -> Result<(), CommandFault>
     requires kept { IsKept log.old timeline.old }
@@ -47,6 +48,11 @@ pub fn apply_script(
     ensures some { OnErr result ((n : ℕ) × (n < length script.now)
         × Runs (option_copied media.entry) script.now n
         (state_of log.old timeline.old) (state_of log.new timeline.new)) }
+    ensures narrow { OnOk result (RunsEach (option_copied media.entry) script.now
+        (length script.now) log.old timeline.old log.new timeline.new) }
+    ensures narrow_some { OnErr result ((n : ℕ) × (n < length script.now)
+        × RunsEach (option_copied media.entry) script.now n
+        log.old timeline.old log.new timeline.new) }
     ensures inner { IfErr result
         (λ fault. (line : ℕ) → fault ≢ CommandFault.Edit line EditFault.Memory) }
     ensures kept { IsKept log.new timeline.new }

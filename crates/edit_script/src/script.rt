@@ -3,16 +3,16 @@
 ghost use Rattle.std.specs.Prelude.{◌≡◌, ◌⊎◌, ◌≤◌, ◌<◌, ◌∷◌, [], ℕ, List, Some, None, IfOk, IfErr, OnOk, MatchBool, length};
 ghost use Rattle.std.specs.Str.{is_utf8};
 ghost use Rattle.limits.specs.Limits.{most_bytes};
-ghost use Rattle.edit_script.specs.Scripts.{IsScript, IsFault, says, is_comment as is_skipped, most_commands};
-ghost use Rattle.edit_script.specs.declared.commands.Command.{Command as AnyCommand};
+ghost use Rattle.edit_script.specs.Scripts.{IsScript, IsFault, says, most_commands};
+ghost use Rattle.edit_script.specs.declared.commands.ScriptCommand.{ScriptCommand as AnyCommand};
 ghost use Rattle.edit_script.specs.declared.commands.ScriptFault.{ScriptFault as AnyFault};
 ghost use Rattle.edit_script.specs.Reading.{IsNext, Kept, Takes, one_or_none};
 
 use crate::acts::said_by;
-use crate::commands::{Command, MOST_COMMANDS, ScriptFault};
+use crate::commands::{MOST_COMMANDS, ScriptCommand, ScriptFault};
 use limits::MOST_BYTES;
 use std::alloc::Global;
-use text_lines::{after, before, first_byte, strip_return};
+use text_lines::{after, before, first_byte, is_comment, strip_return};
 
 /// How many bytes a script has at most.
 const LIMIT: usize = MOST_BYTES as usize;
@@ -22,7 +22,7 @@ const LIMIT: usize = MOST_BYTES as usize;
 /// # Errors
 /// [`ScriptFault::Large`] before all; then [`ScriptFault::Line`] with the first line that has the
 /// wrong form; then [`ScriptFault::Many`]. [`ScriptFault::Memory`] where memory runs out.
-pub fn read_script(alloc: Global, bytes: &[u8]) -> Result<Vec<Command>, ScriptFault>
+pub fn read_script(alloc: Global, bytes: &[u8]) -> Result<Vec<ScriptCommand>, ScriptFault>
     ensures script { IfOk result (λ commands. IsScript bytes.now commands.items) }
     ensures fault { IfErr result (λ fault. (fault ≡ ScriptFault.Memory)
         ⊎ IsFault bytes.now fault) }
@@ -38,7 +38,7 @@ pub fn read_script(alloc: Global, bytes: &[u8]) -> Result<Vec<Command>, ScriptFa
 }
 
 // The commands of all lines, and no more than one above those that a script has.
-fn commands_of(alloc: Global, bytes: &[u8]) -> Result<Vec<Command>, ScriptFault>
+fn commands_of(alloc: Global, bytes: &[u8]) -> Result<Vec<ScriptCommand>, ScriptFault>
     requires { length bytes.now ≤ most_bytes }
     ensures kept { IfOk result (λ commands. Kept bytes.now commands.items) }
     ensures fault { IfErr result (λ fault. (fault ≡ ScriptFault.Memory)
@@ -69,7 +69,7 @@ fn commands_of(alloc: Global, bytes: &[u8]) -> Result<Vec<Command>, ScriptFault>
 // Takes what a line of that number says behind the commands before it.
 fn take_line(
     alloc: Global,
-    commands: &mut Vec<Command>,
+    commands: &mut Vec<ScriptCommand>,
     line: &[u8],
     number: u32,
 ) -> Result<(), ScriptFault>
@@ -86,7 +86,7 @@ fn take_line(
 }
 
 // The command on a line of that number; none where the line is skipped.
-fn command_on(alloc: Global, line: &[u8], number: u32) -> Result<Option<Command>, ScriptFault>
+fn command_on(alloc: Global, line: &[u8], number: u32) -> Result<Option<ScriptCommand>, ScriptFault>
     ensures says { IfOk result (λ command. says number line.now ≡ Some (one_or_none command)) }
     ensures fault { IfErr result (λ fault. (fault ≡ ScriptFault.Memory)
         ⊎ ((fault ≡ ScriptFault.Line number) × (says number line.now ≡ None))) }
@@ -98,13 +98,13 @@ fn command_on(alloc: Global, line: &[u8], number: u32) -> Result<Option<Command>
         return Ok(None);
     }
     match said_by(alloc, line)? {
-        Some(act) => Ok(Some(Command { line: number, act })),
+        Some(act) => Ok(Some(ScriptCommand { line: number, act })),
         None => Err(ScriptFault::Line(number)),
     }
 }
 
 // Puts a command last, where one more than a script has still fits.
-fn keep(commands: &mut Vec<Command>, command: Command) -> Result<(), ScriptFault>
+fn keep(commands: &mut Vec<ScriptCommand>, command: ScriptCommand) -> Result<(), ScriptFault>
     ensures next { OnOk result
         (IsNext commands.old.items (command ∷ []) commands.new.items) }
     ensures memory { IfErr result (λ fault. fault ≡ ScriptFault.Memory) }
@@ -130,16 +130,6 @@ fn is_text(line: &[u8]) -> bool
     match std::str::from_utf8(line) {
         Ok(_) => true,
         Err(_) => false,
-    }
-}
-
-// Whether a line is empty or begins with `#`.
-fn is_comment(line: &[u8]) -> bool
-    ensures { result ≡ is_skipped line.now }
-{
-    match line {
-        [] => true,
-        [first, ..] => *first == b'#',
     }
 }
 

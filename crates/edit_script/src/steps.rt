@@ -12,12 +12,12 @@ ghost use Rattle.undo_log.specs.declared.faults.UndoFault.TheVariants.{NothingDo
 ghost use Rattle.undo_log.specs.States.{State, back, forth, state_of};
 ghost use Rattle.media_rows.specs.Rows.{MediaRows};
 ghost use Rattle.edit_script.specs.RunActs as acts;
-ghost use Rattle.edit_script.specs.Groups.{group, Back, Forth, OfEdges, OfLists};
+ghost use Rattle.edit_script.specs.Groups.{group, Back, Forth};
 ghost use Rattle.edit_script.specs.Plans.{IsPlanOf, IsRefusalOf};
 ghost use Rattle.edit_script.specs.Runs.{IsHalted};
 ghost use Rattle.edit_script.specs.Steps.{IsDone, IsReady, IsSame};
 
-use crate::commands::{Act, Command};
+use crate::commands::{Act, ScriptCommand};
 use crate::faults::CommandFault;
 use crate::run_acts::{edge_edit_of, is_beyond, is_unlisted, list_edit_of};
 use edit_ops::plan_list;
@@ -27,50 +27,6 @@ use media_list::MediaList;
 use otio_model::{EditFault, Patch, Timeline};
 use std::alloc::Global;
 use undo_log::Log;
-
-// The patch of an edit of a list that an act asks for.
-fn plan_in_list(
-    alloc: Global,
-    timeline: &Timeline,
-    media: Option<&MediaList>,
-    act: &Act,
-) -> Result<Patch, EditFault>
-    requires sound { IsSound timeline.now }
-    requires few { count timeline.now.tracks.children < 2 ^ 32 }
-    requires group { group act.now ≡ OfLists }
-    requires listed { acts.is_unlisted (option_copied media) act.now ≡ false }
-    requires near { acts.is_beyond (rate_of timeline.now) (option_copied media) act.now ≡ false }
-    ensures plan { IfOk result (IsPlanOf (option_copied media.entry) act.now timeline.now) }
-    ensures fault { IfErr result (λ fault. fault ≢ EditFault.Memory
-        → IsRefusalOf (option_copied media.entry) act.now timeline.now fault) }
-{
-    match list_edit_of(alloc, edit_rate(timeline), media, act) {
-        Ok(edit) => plan_list(alloc, timeline, edit),
-        Err(_) => Err(EditFault::Memory),
-    }
-}
-
-// The patch of an edit of edges that an act asks for.
-fn plan_at_edges(
-    alloc: Global,
-    timeline: &Timeline,
-    media: Option<&MediaList>,
-    act: &Act,
-) -> Result<Patch, EditFault>
-    requires sound { IsSound timeline.now }
-    requires few { count timeline.now.tracks.children < 2 ^ 32 }
-    requires group { group act.now ≡ OfEdges }
-    requires listed { acts.is_unlisted (option_copied media) act.now ≡ false }
-    requires near { acts.is_beyond (rate_of timeline.now) (option_copied media) act.now ≡ false }
-    ensures plan { IfOk result (IsPlanOf (option_copied media.entry) act.now timeline.now) }
-    ensures fault { IfErr result (λ fault. fault ≢ EditFault.Memory
-        → IsRefusalOf (option_copied media.entry) act.now timeline.now fault) }
-{
-    match edge_edit_of(alloc, act) {
-        Ok(edit) => plan_trim(alloc, timeline, edit),
-        Err(_) => Err(EditFault::Memory),
-    }
-}
 
 // The patch of the edit that an act asks for.
 fn plan(
@@ -89,18 +45,14 @@ fn plan(
     ensures fault { IfErr result (λ fault. fault ≢ EditFault.Memory
         → IsRefusalOf (option_copied media.entry) act.now timeline.now fault) }
 {
-    match act {
-        Act::Overwrite { .. }
-        | Act::Insert { .. }
-        | Act::Slice { .. }
-        | Act::Fill { .. }
-        | Act::Remove { .. } => plan_in_list(alloc, timeline, media, act),
-        Act::Trim { .. }
-        | Act::Slip { .. }
-        | Act::Slide { .. }
-        | Act::Ripple { .. }
-        | Act::Roll { .. } => plan_at_edges(alloc, timeline, media, act),
-        Act::Undo | Act::Redo => unreachable!(),
+    match list_edit_of(alloc, edit_rate(timeline), media, act) {
+        Ok(Some(edit)) => plan_list(alloc, timeline, edit),
+        Ok(None) => match edge_edit_of(alloc, act) {
+            Ok(Some(edit)) => plan_trim(alloc, timeline, edit),
+            Ok(None) => unreachable!(),
+            Err(_) => Err(EditFault::Memory),
+        },
+        Err(_) => Err(EditFault::Memory),
     }
 }
 
@@ -120,7 +72,7 @@ fn patch_of(
     alloc: Global,
     timeline: &Timeline,
     media: Option<&MediaList>,
-    command: &Command,
+    command: &ScriptCommand,
 ) -> Result<Patch, CommandFault>
     requires sound { IsSound timeline.now }
     requires few { count timeline.now.tracks.children < 2 ^ 32 }
@@ -169,31 +121,6 @@ fn commit(timeline: &mut Timeline, log: &mut Log, patch: Patch) -> Result<(), Co
     }
 }
 
-// Makes the edit that a command asks for.
-fn edit(
-    alloc: Global,
-    timeline: &mut Timeline,
-    log: &mut Log,
-    media: Option<&MediaList>,
-    command: &Command,
-) -> Result<(), CommandFault>
-    requires ready { IsReady log.old timeline.old }
-    requires back { group command.now.act ≢ Back }
-    requires forth { group command.now.act ≢ Forth }
-    ensures done { OnOk result (IsDone (option_copied media.entry) command.now.act
-        log.old timeline.old log.new timeline.new) }
-    ensures same { OnErr result (IsSame log.old timeline.old log.new timeline.new) }
-    ensures fault { IfErr result (λ fault. fault ≢ CommandFault.Memory
-        → IsHalted (option_copied media.entry) command.now (state_of log.old timeline.old) fault) }
-    ensures inner { IfErr result
-        (λ fault. (line : ℕ) → fault ≢ CommandFault.Edit line EditFault.Memory) }
-{
-    match patch_of(alloc, timeline, media, command) {
-        Ok(patch) => commit(timeline, log, patch),
-        Err(fault) => Err(fault),
-    }
-}
-
 // Takes the last edit back.
 fn undo(timeline: &mut Timeline, log: &mut Log, line: u32) -> Result<(), CommandFault>
     requires ready { IsReady log.old timeline.old }
@@ -205,11 +132,12 @@ fn undo(timeline: &mut Timeline, log: &mut Log, line: u32) -> Result<(), Command
         × (fault ≡ CommandFault.Undo line NothingDone)) }
 {
     match log.room_undo(timeline) {
-        Ok(()) => match log.undo(timeline) {
-            Ok(()) => Ok(()),
-            Err(fault) => Err(CommandFault::Undo { line, fault }),
-        },
-        Err(_) => Err(CommandFault::Memory),
+        Ok(()) => {}
+        Err(_) => return Err(CommandFault::Memory),
+    }
+    match log.undo(timeline) {
+        Ok(()) => Ok(()),
+        Err(fault) => Err(CommandFault::Undo { line, fault }),
     }
 }
 
@@ -224,11 +152,12 @@ fn redo(timeline: &mut Timeline, log: &mut Log, line: u32) -> Result<(), Command
         × (fault ≡ CommandFault.Undo line NothingUndone)) }
 {
     match log.room_redo(timeline) {
-        Ok(()) => match log.redo(timeline) {
-            Ok(()) => Ok(()),
-            Err(fault) => Err(CommandFault::Undo { line, fault }),
-        },
-        Err(_) => Err(CommandFault::Memory),
+        Ok(()) => {}
+        Err(_) => return Err(CommandFault::Memory),
+    }
+    match log.redo(timeline) {
+        Ok(()) => Ok(()),
+        Err(fault) => Err(CommandFault::Undo { line, fault }),
     }
 }
 
@@ -239,7 +168,7 @@ pub(crate) fn apply_command(
     timeline: &mut Timeline,
     log: &mut Log,
     media: Option<&MediaList>,
-    command: &Command,
+    command: &ScriptCommand,
 ) -> Result<(), CommandFault>
     requires ready { IsReady log.old timeline.old }
     ensures done { OnOk result (IsDone (option_copied media.entry) command.now.act
@@ -253,6 +182,9 @@ pub(crate) fn apply_command(
     match &command.act {
         Act::Undo => undo(timeline, log, command.line),
         Act::Redo => redo(timeline, log, command.line),
-        _ => edit(alloc, timeline, log, media, command),
+        _ => match patch_of(alloc, timeline, media, command) {
+            Ok(patch) => commit(timeline, log, patch),
+            Err(fault) => Err(fault),
+        },
     }
 }

@@ -1,6 +1,6 @@
 //! The words of a line.
 
-ghost use Rattle.std.specs.Prelude.{◌≡◌, ◌↔◌, ◌∷◌, [], ℕ, List, Some, None, false, true, IsTrue, MatchOption, option_map, length, ◌<◌};
+ghost use Rattle.std.specs.Prelude.{◌≡◌, ◌↔◌, ◌∷◌, [], ℕ, List, Some, None, false, MatchOption, length, ◌<◌};
 ghost use Rattle.text_lines.specs.First.{begins_with_blank};
 ghost use Rattle.edit_script.specs.Words.{words_of, scan, Quoted, Closed, begins_with_quote, with_word, is_end, AreWords};
 

@@ -36,6 +36,11 @@ pub record IsZone (z : Interval) (first by last on : ℤ) : Type 0 where
   pub near_from : IsInstant z.from
   pub near_to : IsInstant z.to
 
+pub zone-is : {z : Interval} {first by last on : ℤ} → z.from ≡ int_min first (first +ℤ by)
+    → z.to ≡ int_max last (last +ℤ on) → IsInstant z.from → IsInstant z.to
+    → IsZone z first by last on
+zone-is e f g h = record { from = e; to = f; near_from = g; near_to = h }
+
 pub slip_as : (f by b d : ℤ) (x : ItemOf Listed) → b ≡ (by *ℤ f)
     → ((h : Held) → h.item ≡ x → d ≡ slip_by f h b) → IsMove d
     → (n : ℕ) (h : Held) → f ≡ pos n → h.item ≡ x → IsMotion (pos n) (M.Slip by) h (W.Media d)

@@ -1,14 +1,13 @@
 -- Clamped moves leave what they have to.
-use Rattle.std.proofs.Common.{◌≡◌, refl, sym, subst, ap, ℕ, ◌<◌, ℤ, pos, ◌+ℤ◌, ◌-ℤ◌, ◌≤ℤ◌, ◌<ℤ◌}
+use Rattle.std.proofs.Common.{◌≡◌, refl, ℕ, ◌<◌, ℤ, pos, ◌+ℤ◌, ◌-ℤ◌, ◌≤ℤ◌, ◌<ℤ◌}
 use Rattle.std.proofs.Common.{Option, Some, None, arith}
-use Rattle.std.specs.Prelude.{option_map}
 use Rattle.std.proofs.lemmas.Int.{ints}
 use Rattle.otio_model.specs.declared.compositions.ItemOf.{ItemOf}
 use Rattle.otio_model.specs.declared.compositions.Listed.{Listed}
 use Rattle.edits_law.proofs.AllLaws.{before_low, head_gap, tail_gap}
 use Rattle.edits.specs.Children.{ticks}
-use Rattle.edits.specs.Edges.{Held, Moves, clamped, first_item, gap_before, gap_behind, gap_ticks}
-use Rattle.edits.specs.Edges.{head_room, is_gap, is_zero, last_item, lesser, ripple_by, roll_by}
+use Rattle.edits.specs.Edges.{Held, Moves, clamped, first_item, gap_before, gap_behind}
+use Rattle.edits.specs.Edges.{head_room, is_zero, last_item, lesser, ripple_by, roll_by}
 use Rattle.edits.specs.Edges.{roll_head, roll_tail, slide_by, tail_room, trim_by, whole_frames}
 use Rattle.edits.specs.Edges.{whole_limit}
 use Rattle.edits.specs.Good.{IsTrimmedBefore, IsTrimmedBehind}
@@ -57,13 +56,13 @@ ripple_left n x by h k =
 
 -- ---- trim
 
-pub record Trims (h : Held) (m : Moves) : Type 0 where
+pub record TrimLeaves (h : Held) (m : Moves) : Type 0 where
   pub left : pos 0 ≤ℤ ((ticks h.item -ℤ m.head) +ℤ m.tail)
   pub before : IsTrimmedBefore (last_item h.before) m.head
   pub behind : IsTrimmedBehind (first_item h.behind) m.tail
 
 pub trims : (n : ℕ) (h : Held) (by : Moves) → 0 < n → pos 0 <ℤ ticks h.item
-    → Trims h (trim_by (pos n) h by)
+    → TrimLeaves h (trim_by (pos n) h by)
 trims n h by k z =
     let o = down_limit n (gap_before h) k in
     let q = downs_limit n (head_room h.item) k in

@@ -1,8 +1,8 @@
 -- What changed items are, and when their times are out of range.
-use Rattle.std.proofs.Common.{◌≡◌, refl, sym, ap, ap₂, ◌∙◌, ℤ, pos, negsuc, ◌+ℤ◌, ◌-ℤ◌, ◌≤ℤ◌, ◌<ℤ◌}
-use Rattle.std.proofs.Common.{◌&&◌, ◌||◌, Bool, true, false, Some, List, [], ◌∷◌, FitsSigned, arith}
+use Rattle.std.proofs.Common.{◌≡◌, refl, sym, subst, ap, ap₂, ◌∙◌, ℤ, pos, negsuc, ◌+ℤ◌, ◌-ℤ◌, ◌≤ℤ◌, ◌<ℤ◌}
+use Rattle.std.proofs.Common.{◌&&◌, ◌||◌, true, false, Some, List, [], ◌∷◌, FitsSigned, arith}
 use mir.Syntax.{w128}
-use Rattle.std.specs.Prelude.{int_le, int_lt}
+use Rattle.std.specs.Prelude.{IfErr, IfOk, Result, int_le, int_lt}
 use Rattle.std.specs.Int.{int_div_euclid}
 use Rattle.std.proofs.lemmas.Bool.{and_right}
 use Rattle.std.proofs.lemmas.Int.{ints, by_lt_z}
@@ -15,6 +15,8 @@ use Rattle.coord.specs.Speeds.{media_at, speed_of}
 use Rattle.edits.specs.Children.{Child, Ranged, all_made, has_far, is_far, made, new_gap, ticks}
 use Rattle.edits.specs.Children.{with_first}
 use Rattle.edits.specs.Finest.{in_range}
+use Rattle.pieces.specs.declared.new_ranges.RangedFault.{RangedFault}
+use Rattle.pieces.specs.declared.new_ranges.RangedFault.TheVariants.{Range}
 use Rattle.edits.specs.Edges.{gap_of, grown, is_gap, is_zero, moved, one, slipped_item}
 
 quotient_above : (p : ℤ) → pos 100000000000000000000000000000000000000 <ℤ p
@@ -75,6 +77,16 @@ gone_is n m k x e h i j =
     let t : int_lt (pos 0) (ticks x +ℤ n) ≡ false = let v : (ticks x +ℤ n) ≤ℤ pos 0 =
     omega (arith, ints, h, w) in grind (arith, ints) in
     rw (e, t) refl
+
+-- what is said of an item that is made from another draft is said of the equal one
+pub made-as : {F : Type 0} {x y : Child} (r : Rate) (res : Result (ItemOf Listed) F) → x ≡ y
+    → IfOk res (λ new. made r y ≡ Some new) → IfOk res (λ new. made r x ≡ Some new)
+made-as r res e h = subst (λ z. IfOk res (λ new. made r z ≡ Some new)) (sym e) h
+
+pub far-as : {T : Type 0} {x y : Child} (res : Result T RangedFault) → x ≡ y
+    → IfErr res (λ fault. fault ≡ Range → is_far y ≡ true)
+    → IfErr res (λ fault. fault ≡ Range → is_far x ≡ true)
+far-as res e h = subst (λ z. IfErr res (λ fault. fault ≡ Range → is_far z ≡ true)) (sym e) h
 
 -- ---- lists of one item
 

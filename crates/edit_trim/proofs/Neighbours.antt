@@ -1,20 +1,15 @@
 -- The motions of the item at a seat, and whether the items beside it are there.
-use Rattle.std.proofs.Common.{◌≡◌, sym, ap, ap₂, ◌∙◌, ℕ, ◌+◌, ℤ, pos, ◌<ℤ◌, ◌&&◌, ◌||◌, Bool, true}
-use Rattle.std.proofs.Common.{false, Option, Some, None, List, take, drop}
+use Rattle.std.proofs.Common.{◌≡◌, sym, ap, ◌∙◌, ℕ, ◌+◌, ℤ, pos, ◌<ℤ◌, ◌&&◌, ◌||◌, Bool}
+use Rattle.std.proofs.Common.{false, Option, Some, List, take, drop}
 use Rattle.std.specs.Prelude.{is_none, not, slice_get}
 use Rattle.otio_model.specs.declared.compositions.ItemOf.{ItemOf}
 use Rattle.otio_model.specs.declared.compositions.Listed.{Listed}
 use Rattle.otio_model.specs.declared.seeks.Seat.{Seat}
 use Rattle.edits.specs.Children.{ticks}
 use Rattle.edits.specs.Edges.{Held, first_item, is_zero, last_item, start}
-use Rattle.edit_trim.specs.Founds.{HasNeighbours, IsSuited, LacksNeighbour}
 use Rattle.edit_trim.specs.Motions.{IsMotion}
-use Rattle.edit_trim.specs.Seats.{IsAt, IsShaped}
-use Rattle.edit_trim.specs.declared.edge_moves.Motion.TheVariants as W
-use Rattle.edit_trim.specs.declared.replacements.Shape.{Shape}
-use Rattle.edit_trim.specs.declared.replacements.Interval.{Interval}
+use Rattle.edit_trim.specs.Seats.{IsAt}
 use Rattle.edit_trim.specs.declared.edge_edits.EdgeEdit.{EdgeEdit}
-use Rattle.edit_trim.specs.declared.edge_edits.EdgeEdit.TheVariants as M
 use Rattle.edit_trim.specs.declared.edge_moves.Motion.{Motion}
 
 item_eq : (l : List (ItemOf Listed)) (s : Seat) (x : ItemOf Listed) (h : Held)

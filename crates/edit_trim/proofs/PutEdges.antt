@@ -1,12 +1,12 @@
 -- What comes in place of items of a list.
 use Rattle.std.proofs.Common.{◌≡◌, refl, sym, subst, ap, ap₂, ◌∙◌, ℤ, ℕ, zero, suc, ◌+◌, ◌≤◌, ◌<◌}
-use Rattle.std.proofs.Common.{◌||◌, Bool, true, false, Option, Some, None, List, [], ◌∷◌, ◌++◌}
+use Rattle.std.proofs.Common.{true, Some, None, List, [], ◌∷◌, ◌++◌}
 use Rattle.std.proofs.Common.{take, drop, length, arith, add-one, length-append}
 use Rattle.std.specs.Prelude.{option_map, slice_get, IfSome}
 use Rattle.tick_time.specs.declared.rates.Rate.{Rate}
 use Rattle.otio_model.specs.declared.compositions.ItemOf.{ItemOf}
 use Rattle.otio_model.specs.declared.compositions.Listed.{Listed}
-use Rattle.edits.specs.Children.{Child, all_made, has_far, is_far, made, with_first}
+use Rattle.edits.specs.Children.{all_made, has_far}
 use Rattle.edits.specs.Cuts.{olds}
 use Rattle.otio_model.specs.declared.seeks.Seat.{Seat}
 use Rattle.otio_model.specs.Edits.{replaced}

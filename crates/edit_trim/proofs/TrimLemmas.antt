@@ -23,7 +23,7 @@ use Rattle.edit_trim.specs.declared.edge_edits.EdgeEdit.TheVariants as M
 use Rattle.edit_trim.specs.declared.edge_moves.Motion.TheVariants as W
 use Rattle.edit_trim.specs.declared.resized_items.Change.TheVariants as C
 use Rattle.edit_trim.specs.declared.replacements.Interval.{Interval}
-use Rattle.edit_trim.proofs.Bounded.{Trims, trims}
+use Rattle.edit_trim.proofs.Bounded.{TrimLeaves, trims}
 use Rattle.edit_trim.proofs.KeptEdges.{first_keep, last_keep}
 use Rattle.edit_trim.proofs.Longs.{long_gap, long_grown}
 use Rattle.edit_trim.proofs.MotionLemmas.{grows, keep_change, kept_before, kept_behind, less_move}
@@ -169,7 +169,7 @@ pub trim_is : (n : ℕ) (by_head by_tail : ℤ) (h : Held) (z : Interval) (m : M
     → z.to ≡ int_max (end h) (end h +ℤ m.tail) → IsInstant z.from → IsInstant z.to
     → IsMotion (pos n) (M.Trim by_head by_tail) h (W.Edges z (trim_shape b c m.head m.tail) g)
 trim_is n by_head by_tail h z m b c g k t e eb ec eg mh mt a d ma mb =
-    let r : Trims h m = subst (Trims h) (sym e) (trims n h (in_ticks (pos n) by_head by_tail) k t)
+    let r : TrimLeaves h m = subst (TrimLeaves h) (sym e) (trims n h (in_ticks (pos n) by_head by_tail) k t)
     in
     let same : moves_zone h m ≡ zone_of z = sym (zone_same z (int_min (start h) (start h +ℤ m.head))
     (int_max (end h) (end h +ℤ m.tail)) a d) in

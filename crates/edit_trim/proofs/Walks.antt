@@ -28,8 +28,7 @@ last_found l i x e t n = record {
   item = x;
   there = e;
   thing = thing_of (is_transition x) t;
-  last =
-      n;
+  last = n;
 }
 
 pub last_passed : (l : List (ItemOf Listed)) (i : ℕ) (x : ItemOf Listed) → slice_get l i ≡ Some x
@@ -46,8 +45,7 @@ pub first_found : (l : List (ItemOf Listed)) (i : ℕ) (x : ItemOf Listed) → s
 first_found l i x e t n = record {
   item = x;
   there = e;
-  thing =
-      thing_of (is_transition x) t;
+  thing = thing_of (is_transition x) t;
   first = n;
 }
 

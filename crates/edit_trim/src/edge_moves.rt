@@ -1,14 +1,13 @@
 //! Edits of edges as what becomes of the held item and of what stands beside it.
 
-ghost use Rattle.std.specs.Prelude.{◌≡◌, ◌<◌, ◌^◌, ℕ, IfNone, IfSome, Some, None, option_copied};
-ghost use Rattle.std.specs.Prelude.{cond, pos, true, false, ◌≤ℤ◌, ◌<ℤ◌, ◌-ℤ◌, ◌+ℤ◌, ◌*ℤ◌};
+ghost use Rattle.std.specs.Prelude.{◌≡◌, ◌<◌, ℕ, IfNone, IfSome, Some, None, option_copied};
+ghost use Rattle.std.specs.Prelude.{cond, pos, ◌≤ℤ◌, ◌<ℤ◌, ◌-ℤ◌, ◌+ℤ◌, ◌*ℤ◌};
 ghost use Rattle.std.specs.Prelude.{◌&&◌, ◌||◌, is_none, length, not};
 ghost use Rattle.std.specs.Int.{int_max, int_min};
-ghost use Rattle.limits.specs.Limits.{most_ticks};
 ghost use Rattle.otio_model.specs.Trees.{items_of};
 ghost use Rattle.edits.specs.Children.{ticks as child_ticks};
 ghost use Rattle.edits.specs.Edges as edges;
-ghost use Rattle.edits.specs.Edges.{Held, first_item, last_item};
+ghost use Rattle.edits.specs.Edges.{Held, last_item};
 ghost use Rattle.pieces.specs.Short.{AreCuttable, IsCuttable};
 ghost use Rattle.edit_plans.specs.Bounds.{IsMove};
 ghost use Rattle.edit_trim.specs.Motions as trims;
@@ -134,6 +133,16 @@ fn kept() -> Change
     Change::Move { head: 0, tail: 0 }
 }
 
+// An item whose edges move so far.
+fn both_moved(moves: Moves) -> Change
+    ensures { result ≡ Change.Move moves.head moves.tail }
+{
+    Change::Move {
+        head: moves.head,
+        tail: moves.tail,
+    }
+}
+
 // The shape of a slide.
 fn slide_shape(by: i128) -> Shape
     ensures { result ≡ seats.slide_shape by }
@@ -154,10 +163,7 @@ fn ripple_shape(moves: Moves) -> Shape
     Shape {
         before: kept(),
         gap_before: 0,
-        item: Change::Move {
-            head: moves.head,
-            tail: moves.tail,
-        },
+        item: both_moved(moves),
         gap_behind: 0,
         behind: kept(),
     }
@@ -199,10 +205,7 @@ fn trim_shape(before: bool, behind: bool, moves: Moves) -> Shape
     Shape {
         before: gap_change(before, moves.head),
         gap_before: new_gap(before, moves.head),
-        item: Change::Move {
-            head: moves.head,
-            tail: moves.tail,
-        },
+        item: both_moved(moves),
         gap_behind: new_gap(behind, back(moves.tail)),
         behind: gap_change(behind, back(moves.tail)),
     }
@@ -218,10 +221,7 @@ fn roll_shape(moves: Moves) -> Shape
             tail: moves.head,
         },
         gap_before: 0,
-        item: Change::Move {
-            head: moves.head,
-            tail: moves.tail,
-        },
+        item: both_moved(moves),
         gap_behind: 0,
         behind: Change::Move {
             head: moves.tail,
@@ -303,13 +303,8 @@ pub(crate) fn trim(children: &Children, frame: i128, seat: Seat, head: i64, tail
     let before = item_before(children, seat.index);
     let item = child(children, seat.index);
     let after = item_after(children, seat.index);
-    let moves = trim_by(
-        frame,
-        before,
-        item,
-        after,
-        edges_in_ticks(frame, head, tail),
-    );
+    let asked = edges_in_ticks(frame, head, tail);
+    let moves = trim_by(frame, before, item, after, asked);
     Motion::Edges {
         zone: zone_between(seat.start, moves.head, end_of(seat.start, item), moves.tail),
         shape: trim_shape(is_gap_at(before), is_gap_at(after), moves),
@@ -360,13 +355,8 @@ pub(crate) fn roll(
     if lacks(before, head, after, tail) {
         return None;
     }
-    let moves = roll_by(
-        frame,
-        before,
-        item,
-        after,
-        edges_in_ticks(frame, head, tail),
-    );
+    let asked = edges_in_ticks(frame, head, tail);
+    let moves = roll_by(frame, before, item, after, asked);
     Some(Motion::Edges {
         zone: zone_between(seat.start, moves.head, end_of(seat.start, item), moves.tail),
         shape: roll_shape(moves),

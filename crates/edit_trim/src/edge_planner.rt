@@ -28,7 +28,7 @@ use crate::edge_moves::{Motion, in_ticks, ripple, roll, slide, slip, trim};
 use crate::replacements::reshaped;
 use crate::resized_items::{Change, Making, changed};
 use edit_plans::{Middle, child, edit_rate, finish, frame_at, held, pinned, place_fault, track_of};
-use otio_model::{Children, Edit, EditFault, Item, Patch, Place, Seat, Timeline};
+use otio_model::{Children, Edit, EditFault, Patch, Place, Seat, Timeline};
 use pieces::RangedFault;
 use std::alloc::Global;
 

@@ -4,7 +4,7 @@ ghost use Rattle.std.specs.Prelude.{◌≡◌, ◌<◌, ◌≤◌, ◌^◌, ◌+
 ghost use Rattle.std.specs.Prelude.{Some};
 ghost use Rattle.std.specs.Prelude.{None, false, not, true, length, take, drop, slice_get, pos};
 ghost use Rattle.std.specs.Prelude.{◌≤ℤ◌};
-ghost use Rattle.std.specs.Prelude.{◌-ℤ◌, ◌+ℤ◌};
+ghost use Rattle.std.specs.Prelude.{◌-ℤ◌};
 ghost use Rattle.otio_model.specs.Counts.{count as tally};
 ghost use Rattle.otio_model.specs.Edits.{replaced};
 ghost use Rattle.otio_model.specs.Trees.{items_of, is_transition};
@@ -14,7 +14,6 @@ ghost use Rattle.edits.specs.Edges as edges;
 ghost use Rattle.edits.specs.Edges.{Held, first_item, last_item};
 ghost use Rattle.edits.specs.Narrow.{touched as touched_children};
 ghost use Rattle.pieces.specs.Short.{AreCuttable, IsCuttable};
-ghost use Rattle.edit_plans.specs.Bounds.{IsMove};
 ghost use Rattle.edit_trim.specs.Changes as changes;
 ghost use Rattle.edit_trim.specs.Changes.{IsChange, Leaves};
 ghost use Rattle.edit_trim.specs.Seats as seats;

@@ -1,5 +1,5 @@
 -- The children of the root that give events, one after another.
-use Rattle.std.proofs.Common.{◌≡◌, refl, sym, ap, ap₂, subst, ◌∙◌, ℕ, suc, ◌+◌, ◌==◌, ◌≤◌, Bool, true, false, cond, List, [], ◌∷◌, ◌++◌, length, take, drop, Option, Some, None, append_assoc, add-one, arith}
+use Rattle.std.proofs.Common.{◌≡◌, refl, sym, ap, subst, ◌∙◌, ℕ, suc, ◌+◌, ◌==◌, ◌≤◌, Bool, true, false, cond, List, [], ◌∷◌, ◌++◌, length, take, drop, Option, Some, None, append_assoc, add-one, arith}
 use Rattle.std.specs.Prelude.{codes, slice_get}
 use Rattle.std.specs.Str.{bytes_eq}
 use Rattle.std.proofs.lemmas.List.{append-nil, map-append}
@@ -14,7 +14,7 @@ use Rattle.coord.proofs.Members.{next, none_left}
 use Rattle.edl_frames.specs.Shown.{is_on}
 use Rattle.edl_frames.specs.Jobs.{Job}
 use Rattle.edl_frames.specs.Channels.{is_track_of}
-use Rattle.edl_frames.specs.Carried.{count_of_kind, channel_of}
+use Rattle.edl_frames.specs.Carried.{count_of_kind}
 use Rattle.edl_frames.specs.Homes.{Homed, homed_track, homed_root, homed_all, homed_on}
 use Rattle.edl_conform.specs.declared.events_from_tracks.Taken.{Taken}
 use Rattle.edl_conform.specs.declared.event_homes.Givers.{Givers}

@@ -1,12 +1,11 @@
 -- Products and quotients of numbers that are near 0.
 use Rattle.std.proofs.Common.{of_z, to_z, subst, sym, ◌≡◌, ℕ, ◌*◌, ◌/◌, ◌≤◌, ℤ, pos, negsuc, ◌*ℤ◌, ◌<ℤ◌, ◌≤ℤ◌, unsigned_abs, arith}
 use Rattle.std.specs.Int.{w128, int_div_euclid}
-use Rattle.edl_conform.proofs.CastLemmas.{kept}
+use Rattle.edl_conform.proofs.CastLemmas.{kept, near_in}
 use Rattle.std.proofs.lemmas.Int.{ints, unsigned_abs-mul}
 use Rattle.std.proofs.lemmas.Nat.{mul-le}
 use Rattle.std.proofs.Math.Nat.{mul-div-le}
 use Rattle.edl_conform.specs.Ranges.{IsNear}
-use Rattle.edl_conform.proofs.FrameLemmas.{quotient_near}
 
 pub near_abs : (n : ℕ) (z : ℤ) → IsNear n z → unsigned_abs z ≤ n
 near_abs n z h = let a = h.low in let b = h.high in omega (arith, ints, a, b)
@@ -20,16 +19,15 @@ product_near m n a b h k =
     let l = mul-le (unsigned_abs a) (unsigned_abs b) m n (near_abs m a h) (near_abs n b k) in
     abs_near (m * n) (a *ℤ b) (omega (arith, e, l))
 
--- how many source frames go by
-pub gone_near : (count speed : ℤ) → IsNear 1000000000000 count → IsNear 1000000000 speed
-    → IsNear 1000000000000001 (int_div_euclid (count *ℤ speed) (pos 1000000))
-gone_near count speed h k =
-    let p = product_near 1000000000000 1000000000 count speed h k in
-    let low = p.low in
-    let high = p.high in
-    quotient_near 1000000 1000000000000000 (count *ℤ speed) (pos 1000000) (omega arith)
-    (omega (arith, ints))
-    (record { low = omega (arith, ints, low); high = omega (arith, ints, high) })
+-- media go no further in some ticks than a thousand times as far
+pub played_near : (n m : ℕ) (ticks from gone : ℤ) → IsNear n ticks → from ≡ ticks
+    → unsigned_abs gone ≤ 1000 * unsigned_abs from → 1000 * n ≤ m
+    → m ≤ 100000000000000000000000000000000000 → IsNear m (to_z w128 (of_z w128 gone))
+played_near n m ticks from gone near same far few least =
+    let a = near_abs n ticks near in
+    let b : unsigned_abs gone ≤ 1000 * unsigned_abs ticks =
+    subst (λ z. unsigned_abs gone ≤ 1000 * unsigned_abs z) same far in
+    near_in m gone least (abs_near m gone (omega (arith, a, b, few)))
 
 -- how many frames an overlap has that isn't too long
 few_by : (n k : ℕ) → 1 ≤ k → n ≤ 999 * k → n / k ≤ 999

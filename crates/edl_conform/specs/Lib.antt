@@ -5,7 +5,6 @@ pub mod Uses
 pub mod Steps
 pub mod Stated
 pub mod Seated
-pub mod Starts
 pub mod Ranges
 pub mod Shots
 pub mod Drafts

@@ -11,7 +11,6 @@ use Rattle.edl_list.specs.declared.list.Event.{Event}
 use Rattle.edl_list.specs.declared.list.Side.{Side}
 use Rattle.edl_list.specs.declared.list.EventList.{EventList}
 use Rattle.edl_frames.specs.Counted.{channel_count}
-use Rattle.edl_frames.specs.Shown.{on_channel}
 use Rattle.media_rows.specs.Rows.{MediaRows}
 use Rattle.edl_frames.specs.Conformed.{Pair, IsGap, IsItem, IsTransition, serves, AreItems, AreTracks}
 use Rattle.edl_law.specs.Fits.{AreAhead}

@@ -8,7 +8,7 @@ ghost use Rattle.edl_frames.specs.Sides as sides;
 ghost use Rattle.edl_frames.specs.ChildEvents as events;
 ghost use Rattle.edl_conform.specs.Stated.{stated_job, stated_lap, stated_past, stated_seat};
 ghost use Rattle.edl_conform.specs.Ranges.{IsNear};
-ghost use Rattle.edl_conform.specs.Seated.{IsCarried, IsItemAt, IsOpen, IsOpenPast, IsPast, IsSeated, IsShort};
+ghost use Rattle.edl_conform.specs.Seated.{IsCarried, IsItemAt, IsOpen, IsPast, IsSeated, IsShort};
 ghost use Rattle.edl_conform.specs.Drafts.{IsDraft, IsShown, drafted, side_in};
 
 use crate::child_context::{ChildContext, Lap, Past};

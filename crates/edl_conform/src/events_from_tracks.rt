@@ -1,6 +1,6 @@
 //! The events of a timeline's tracks.
 
-ghost use Rattle.std.specs.Prelude.{◌≡◌, ◌==◌, ◌<◌, ◌^◌, not, ◌&&◌, nat_le, length, [], Some, None, IfErr, IfOk, List, OnOk};
+ghost use Rattle.std.specs.Prelude.{◌≡◌, ◌==◌, ◌<◌, ◌^◌, ◌&&◌, [], Some, None, IfErr, IfOk, List, OnOk};
 ghost use Rattle.otio_model.specs.Counts.{count, count_of};
 ghost use Rattle.otio_model.specs.Trees.{items_of};
 ghost use Rattle.otio_model.specs.declared.compositions.ItemOf.{ItemOf as AnyItem};
@@ -86,61 +86,76 @@ fn is_plain(track: &Track) -> bool
     track.source_range.is_none() && track.effects.as_slice().is_empty()
 }
 
+/// The index of a track among the root children, and its channel.
+#[derive(Clone, Copy)]
+struct TrackAt {
+    index: u32,
+    channel: Channel,
+}
+
 // Puts the events of a track behind the others; of one that is disabled there are none.
 fn put_track(
     alloc: Global,
     job: &Job<'_>,
-    channel: Channel,
-    index: u32,
+    at: TrackAt,
     track: &Track,
     events: &mut Vec<Event>,
 ) -> Result<(), NotCarried>
     requires few { count track.now.children < 2 ^ 32 }
     requires sound { IsFaultlessItem (items.Track track.now) }
-    ensures added { OnOk result (AddsTrack (stated_job job.now) channel index track.now
+    ensures added { OnOk result (AddsTrack (stated_job job.now) at.channel at.index track.now
         events.old.items events.new.items) }
     ensures refused { IfErr result (IsSaid
-        (first_said (examine_track (stated_job job.now) index track.now (Some channel)))) }
+        (first_said (examine_track (stated_job job.now) at.index track.now (Some at.channel)))) }
 {
     if !track.enabled {
         return Ok(());
     }
     if !is_plain(track) {
-        return Err(at_track(alloc, index, Why::Nested));
+        return Err(at_track(alloc, at.index, Why::Nested));
     }
-    match put_children(alloc, job, channel, &track.children, events) {
+    match put_children(alloc, job, at.channel, &track.children, events) {
         Ok(None) => Ok(()),
-        Ok(Some(stop)) => Err(at_child(alloc, index, stop.index, stop.why)),
+        Ok(Some(stop)) => Err(at_child(alloc, at.index, stop.index, stop.why)),
         Err(_) => Err(NotCarried::Memory),
     }
+}
+
+/// The index of a root child, and which tracks before it have a channel.
+#[derive(Clone, Copy)]
+struct RootAt {
+    index: u32,
+    taken: Taken,
 }
 
 // Puts the events of a root child behind the others, and answers which tracks have a channel then.
 fn put_root(
     alloc: Global,
     job: &Job<'_>,
-    taken: Taken,
-    index: u32,
+    at: RootAt,
     item: &Item,
     events: &mut Vec<Event>,
 ) -> Result<Taken, NotCarried>
     requires few { count_of item.now < 2 ^ 32 }
     requires sound { IsFaultlessItem item.now }
-    ensures added { IfOk result (λ next. (past : List (AnyItem Listed)) → AreTaken past taken
-        → AddsRoot (stated_job job.now) index past item.now next events.old.items
+    ensures added { IfOk result (λ next. (past : List (AnyItem Listed)) → AreTaken past at.taken
+        → AddsRoot (stated_job job.now) at.index past item.now next events.old.items
         events.new.items) }
-    ensures refused { IfErr result (λ fault. (past : List (AnyItem Listed)) → AreTaken past taken
-        → IsSaid (first_said (examine (stated_job job.now) index past item.now)) fault) }
+    ensures refused { IfErr result (λ fault. (past : List (AnyItem Listed)) → AreTaken past at.taken
+        → IsSaid (first_said (examine (stated_job job.now) at.index past item.now)) fault) }
 {
     match item {
-        ItemOf::Track(track) => match channel_behind(taken, track) {
-            Some(channel) => match put_track(alloc, job, channel, index, track, events) {
-                Ok(()) => Ok(after(channel, taken)),
-                Err(fault) => Err(fault),
-            },
-            None => Err(at_track(alloc, index, Why::Tracks)),
+        ItemOf::Track(track) => match channel_behind(at.taken, track) {
+            Some(channel) => {
+                let index = at.index;
+                match put_track(alloc, job, TrackAt { index, channel }, track, events) {
+                    Ok(()) => Ok(after(channel, at.taken)),
+                    Err(fault) => Err(fault),
+                }
+            }
+            None => Err(at_track(alloc, at.index, Why::Tracks)),
         },
-        _ => Err(at_track(alloc, index, Why::Tracks)),
+        _ => Err(at_track(alloc, at.index, Why::Tracks)),
     }
 }
 
@@ -165,14 +180,11 @@ pub(crate) fn gather(
     let mut events = Vec::new(alloc);
     let mut taken = Taken { video: 0, audio: 0 };
     'tracks: for index in 0..tracks.len() {
-        match put_root(
-            alloc,
-            job,
+        let at = RootAt {
+            index: index as u32,
             taken,
-            index as u32,
-            tracks.child(index),
-            &mut events,
-        ) {
+        };
+        match put_root(alloc, job, at, tracks.child(index), &mut events) {
             Ok(next) => taken = next,
             Err(fault) => return Err(fault),
         }

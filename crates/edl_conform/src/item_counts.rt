@@ -11,9 +11,9 @@ ghost use Rattle.edl_frames.specs.Counted as counted;
 ghost use Rattle.edl_law.specs.Fits.{AreAhead, FitsAt, FitsBefore, FitsEvent, FitsSide};
 ghost use Rattle.edl_conform.specs.Steps.{saturated};
 
-use crate::channels::is_on;
 use crate::outgoing_side::serves;
 use crate::timeline_from_list::{first_record, has_track};
+use edl_frames::is_on;
 use edl_list::{Channel, Cross, Event, EventList, Side};
 use limits::MOST_ITEMS;
 use tick_time::Rate;

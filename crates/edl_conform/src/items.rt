@@ -13,9 +13,8 @@ ghost use Rattle.edl_frames.specs.Conformed.{IsClip, IsGap, IsReference, IsTrans
 ghost use Rattle.edl_frames.specs.Conformed.{effects_at, still as a_still, warp as a_warp};
 
 use crate::reel_rows::{ListMedia, row_of};
-use crate::speeds::{OWN_SPEED, speed_of};
 use crate::times::span;
-use edl_list::Side;
+use edl_list::{OWN_SPEED, Side, side_speed};
 use json_value::{Json, Members};
 use media_rows::MediaRow;
 use otio_model::{
@@ -179,7 +178,7 @@ pub(crate) fn clip_of(
 {
     let metadata = reel_members(alloc, reel)?;
     let name = name_of(alloc, side, reel)?;
-    let effects = effects_of(alloc, speed_of(media.rate, side))?;
+    let effects = effects_of(alloc, side_speed(media.rate, side))?;
     let reference = reference_of(alloc, row_of(media.rows, reel))?;
     let media_references = references_of(alloc, reference)?;
     let key = Text::of(alloc, "DEFAULT_MEDIA")?;

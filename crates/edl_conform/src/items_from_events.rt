@@ -12,11 +12,11 @@ ghost use Rattle.edl_frames.specs.Shown as shown;
 ghost use Rattle.edl_law.specs.Fits.{AreAhead, FitsAt, FitsBefore, FitsEvent, FitsSide};
 ghost use Rattle.edl_conform.specs.Steps.{AddsEvent, AddsLead, AddsOutgoing, AddsSpace};
 
-use crate::channels::is_on;
 use crate::items::{clip_of, gap_of, transition_of};
 use crate::outgoing_side::serves;
 use crate::reel_rows::ListMedia;
 use crate::wipes::wipe_type;
+use edl_frames::is_on;
 use edl_list::{Channel, Cross, Event, Reel, Side};
 use otio_model::Item;
 use sequences::Text;

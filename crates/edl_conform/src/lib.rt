@@ -40,7 +40,6 @@ mod overlaps;
 mod reel_rows;
 mod settings_for;
 mod sides;
-mod speeds;
 mod timeline_from_list;
 mod times;
 mod visible_clips;

@@ -1,6 +1,6 @@
 //! Speeds in tenths of a frame a second.
 
-ghost use Rattle.std.specs.Prelude.{◌≡◌, ◌≤◌, pos};
+ghost use Rattle.std.specs.Prelude.{◌≡◌, ◌≤◌};
 ghost use Rattle.edl_frames.specs.Jobs as jobs;
 ghost use Rattle.edl_conform.specs.Ranges.{IsNear};
 ghost use Rattle.edl_conform.specs.Tenths.{nearest_tenths};

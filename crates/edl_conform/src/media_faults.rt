@@ -16,9 +16,8 @@ ghost use Rattle.edl_conform.specs.Uses.{uses_fault};
 
 use crate::outgoing_side::product;
 use crate::reel_rows::{ListMedia, reel_row};
-use crate::speeds::speed_of;
 use edl_frames::{ConformFault, is_row_outside};
-use edl_list::{Cross, Event, Reel, Side};
+use edl_list::{Cross, Event, Reel, Side, side_speed};
 use media_list::MediaList;
 use media_rows::MediaRow;
 use tick_time::Rate;
@@ -91,7 +90,7 @@ fn source_frame(rate: Rate, side: &Side, k: i64) -> i128
     requires k { IsSmall k }
     ensures { result ≡ shown.source_frame rate side.now k }
 {
-    behind(side.src_in, advance(k, speed_of(rate, side)))
+    behind(side.src_in, advance(k, side_speed(rate, side)))
 }
 
 // The last of so many frames.

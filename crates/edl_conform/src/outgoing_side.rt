@@ -1,6 +1,6 @@
 //! What serves as an outgoing side.
 
-ghost use Rattle.std.specs.Prelude.{◌≡◌, ◌≤◌, ◌≤ℤ◌, ◌+ℤ◌, ◌-ℤ◌, ◌*ℤ◌, ◌==◌, ◌&&◌, pos};
+ghost use Rattle.std.specs.Prelude.{◌≡◌, ◌≤◌, ◌≤ℤ◌, ◌+ℤ◌, ◌*ℤ◌, ◌==◌, ◌&&◌, pos};
 ghost use Rattle.std.specs.Prelude.{unsigned_abs};
 ghost use Rattle.std.specs.Option.{option_copied};
 ghost use Rattle.std.specs.Ordering.{int_eq};
@@ -9,8 +9,7 @@ ghost use Rattle.edl_frames.specs.Conformed as conformed;
 ghost use Rattle.edl_law.specs.Fits.{FitsBefore, FitsEvent, FitsSide};
 ghost use Rattle.edl_conform.specs.ConformedRanges.{IsLess, IsSmall};
 
-use crate::speeds::speed_of;
-use edl_list::{Event, Reel, Side};
+use edl_list::{Event, Reel, Side, side_speed};
 use tick_time::Rate;
 
 // Whether two reels are one.
@@ -104,11 +103,11 @@ fn goes_on(rate: Rate, before: &Event, at: i64, side: &Side) -> bool
     requires side { FitsSide rate side.now }
     ensures { result ≡ conformed.goes_on rate before.now at side.now }
 {
-    let speed = speed_of(rate, &before.to);
+    let speed = side_speed(rate, &before.to);
     all_four(
         is_same(before.rec_out, at),
         is_same_reel(&before.to.reel, &side.reel),
-        is_same_speed(speed, speed_of(rate, side)),
+        is_same_speed(speed, side_speed(rate, side)),
         has_come(
             before.to.src_in,
             before.rec_out - before.rec_in,

@@ -13,7 +13,7 @@ ghost use Rattle.edl_conform.specs.Shots.{IsShot, clip_of};
 
 use crate::frames::frames_in;
 use crate::list_settings::Job;
-use coord::{speed, trimmed_start};
+use coord::{media_offset, speed, trimmed_start};
 use otio_model::{Clip, Item, ItemOf};
 
 /// A clip that is shown, its speed in millionths, and where its trimmed range starts, in ticks.
@@ -59,16 +59,6 @@ pub(crate) fn product(ticks: i128, speed: i64) -> i128
     ticks * i128::from(speed)
 }
 
-// Millionths of a tick as whole ticks.
-fn whole(run: i128) -> i128
-    requires low { (pos 0 -ℤ pos 2116800000000000000000000000000000) ≤ℤ run }
-    requires high { run ≤ℤ pos 2116800000000000000000000000000000 }
-    ensures value { result ≡ int_div_euclid run (pos 1000000) }
-    ensures range { IsNear (3000 * most_ticks + 1) result }
-{
-    run.div_euclid(1_000_000)
-}
-
 /// How far the media go in so many ticks, or frames, at a speed in millionths.
 pub(crate) fn played(ticks: i128, speed: i64) -> i128
     requires ticks { IsNear (3 * most_ticks) ticks }
@@ -76,7 +66,7 @@ pub(crate) fn played(ticks: i128, speed: i64) -> i128
     ensures value { result ≡ int_div_euclid (ticks *ℤ speed) (pos 1000000) }
     ensures range { IsNear (3000 * most_ticks + 1) result }
 {
-    whole(product(ticks, speed))
+    media_offset(ticks, speed)
 }
 
 /// How many source frames go by in so many record frames, at a speed in millionths.
@@ -86,7 +76,7 @@ pub(crate) fn gone(count: i128, speed: i64) -> i128
     ensures value { result ≡ int_div_euclid (count *ℤ speed) (pos 1000000) }
     ensures range { IsNear 1000000000000001 result }
 {
-    whole(product(count, speed))
+    media_offset(count, speed)
 }
 
 // The instant of the media that is reached in so many ticks from a start.

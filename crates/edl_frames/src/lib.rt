@@ -3,10 +3,12 @@
 //! the laws of lists and timelines.
 #![tactic(auto)]
 
+mod channels;
 mod faults;
 mod reasons;
 mod rows;
 
+pub use channels::is_on;
 pub use faults::ConformFault;
 pub use reasons::{NotCarried, Why};
 pub use rows::is_row_outside;

@@ -10,12 +10,11 @@ use Rattle.otio_model.specs.declared.compositions.ItemOf.{ItemOf}
 use Rattle.otio_model.specs.declared.compositions.ItemOf.TheVariants.{Track}
 use Rattle.otio_model.specs.declared.compositions.Listed.{Listed}
 use Rattle.otio_model.specs.declared.timelines.Timeline.{Timeline}
-use Rattle.otio_model.specs.declared.objects.Object.{Timeline as ObjectOfTimeline, out-Object}
-use Rattle.otio_model.specs.declared.objects.Object.TheOpen.{Object-F}
-use Rattle.otio_model.specs.declared.objects.Object.TheViews.{roll-Object}
+use Rattle.otio_model.specs.declared.objects.Object.{Timeline as ObjectOfTimeline}
 use Rattle.otio_model.specs.Trees.{items_of, below}
 use Rattle.otio_model.specs.Misplaced.{has_misplaced}
 use Rattle.schema_rows.specs.declared.schemas.Schema.TheVariants as S
+use Rattle.schema_write.proofs.OldLemmas.{timeline_out}
 use Rattle.edl_list.specs.declared.list.Channel.{Channel}
 use Rattle.edl_list.specs.declared.list.Cross.{Cross}
 use Rattle.edl_list.specs.declared.list.Cross.TheVariants.{Cut, Dissolve, Wipe}
@@ -111,10 +110,6 @@ root_writable list media t formed i calm = (
       (tracks_writable list media _ (items_of t.tracks.children) (events_speedy list formed)
       (λ k place y e. calm.items (k ∷ place) y e) i.tracks),
 )
-
-timeline_out : (t : Timeline) → out-Object (ObjectOfTimeline t) ≡ Object-F.Timeline t
-unfolding roll-Object denote.Hole.Carrier.roll out-Object denote.Hole.Carrier.out
-timeline_out t = refl
 
 pub timeline_writable : (list : EventList) (media : MediaRows) (t : Timeline) → IsWellFormed list
     → IsTimelineOf list media t → IsObject (ObjectOfTimeline t)

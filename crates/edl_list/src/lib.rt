@@ -14,4 +14,4 @@ mod speeds;
 pub use laws::{channel_order, equal_speeds, frames_as_times, side_speeds, wide_columns};
 pub use layout::{Layout, most_events};
 pub use list::{Channel, Cross, Event, EventList, EventSeq, MOST_NUMBER, MOST_TENTHS, Reel, Side};
-pub use speeds::{count_of, half_even};
+pub use speeds::{OWN_SPEED, count_of, half_even, side_speed};

@@ -1,17 +1,18 @@
 -- Color corrections that notes say, and those that metadata have.
 use Rattle.std.proofs.Common.{◌≡◌, ◌<◌, ◌+◌, ℕ, Bor, List, [], ◌∷◌, ◌++◌, Option, Some, None, codes, length, take, slice_index_or, refl, sym, ap, subst, ◌∙◌}
 use Rattle.std.specs.Prelude.{MatchOption}
+use Rattle.std.proofs.lemmas.Option.{same_Some}
 use Rattle.json_value.specs.declared.Json.{Json, out-Json}
 use Rattle.json_value.specs.declared.Json.TheOpen.{Json-F}
 use Rattle.sequences.specs.Pairs.{put}
 use Rattle.coord.specs.Keys.{member_in}
-use Rattle.note_text.specs.Found.{HasSat, HasSop, IsNumeralOf, IsTripleOf, color_member}
+use Rattle.note_text.specs.Found.{AreNumeralsOf, HasSat, HasSop, IsNumeralOf, IsTripleOf, color_member}
 use Rattle.note_text.specs.Noted.{last_sat, last_sop, member_if}
 use Rattle.note_text.specs.declared.notes.Triple.{Triple}
 use Rattle.note_text.specs.declared.notes.Said.{Said}
 use Rattle.note_text.specs.declared.notes.Said.TheVariants.{Loc, Sop, Sat}
 use Rattle.note_text.specs.declared.notes.Note.{Note}
-use Rattle.edl_notes.specs.Steps.{AreNumeralsOf, said_by}
+use Rattle.edl_notes.specs.Steps.{said_by}
 use Rattle.edl_notes.proofs.MarkerSteps.{said_next}
 
 -- ---- the last of several
@@ -56,18 +57,14 @@ other_numeral value n spelled h = n spelled h.0
 pub no_member : (name : List ℕ) (sop : Json) → member_in name (out-Json sop) ≡ None → (t : Triple) → IsTripleOf name sop t → ⊥
 no_member name sop e t h = absurd (cc (sym e ∙ h.member))
 
-same_some : {A : Type 0} (x y : A) → Some x ≡ Some y → x ≡ y
-same_some x y e = cc e
-
 -- the three numerals of the member that is there
 pub of_value : (name : List ℕ) (sop value : Json) (t : Triple) → member_in name (out-Json sop) ≡ Some value → IsTripleOf name sop t → AreNumeralsOf value t
 of_value name sop value t e h =
-    let same : h.value ≡ value = same_some h.value value (sym h.member ∙ e) in
-    record { r = h.r; g = h.g; b = h.b; list = ap out-Json (sym same) ∙ h.list; r_is = h.r_is; g_is = h.g_is; b_is = h.b_is }
+    let same : h.value ≡ value = same_Some h.value value (sym h.member ∙ e) in
+    subst (λ j. AreNumeralsOf j t) same h.numerals
 
 pub as_triple : (name : List ℕ) (sop value : Json) (t : Triple) → member_in name (out-Json sop) ≡ Some value → AreNumeralsOf value t → IsTripleOf name sop t
-as_triple name sop value t e h =
-    record { value = value; member = e; r = h.r; g = h.g; b = h.b; list = h.list; r_is = h.r_is; g_is = h.g_is; b_is = h.b_is }
+as_triple name sop value t e h = record { value = value; member = e; numerals = h }
 
 -- ---- slope, offset and power
 
@@ -75,7 +72,7 @@ pub no_sop : (metadata : List (List ℕ × Json)) → color_member (codes "asc_s
 no_sop metadata e slope offset power h = absurd (cc (sym e ∙ h.member))
 
 pub sop_is : (metadata : List (List ℕ × Json)) (sop : Json) (slope offset power : Triple) → color_member (codes "asc_sop") metadata ≡ Some sop → (h : HasSop metadata slope offset power) → h.sop ≡ sop
-sop_is metadata sop slope offset power e h = same_some h.sop sop (sym h.member ∙ e)
+sop_is metadata sop slope offset power e h = same_Some h.sop sop (sym h.member ∙ e)
 
 pub no_slope : (metadata : List (List ℕ × Json)) (sop : Json) → color_member (codes "asc_sop") metadata ≡ Some sop → ((t : Triple) → IsTripleOf (codes "slope") sop t → ⊥)
     → (slope offset power : Triple) → HasSop metadata slope offset power → ⊥

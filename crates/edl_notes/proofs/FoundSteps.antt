@@ -32,7 +32,7 @@ use Rattle.note_text.specs.declared.notes.Said.{Said}
 use Rattle.note_text.specs.declared.notes.Said.TheVariants.{Loc, Sop, Sat}
 use Rattle.note_text.specs.declared.notes.Note.{Note}
 use Rattle.edl_notes.specs.Steps.{AddsSaid, SaysAt, shown_clip}
-use Rattle.edl_notes.proofs.WalkSteps.{abs_is}
+use Rattle.limits.proofs.IntegerSums.{size-of_natural}
 
 as_append : (index : ℕ) (a b : List Said) → as_notes index (a ++ b) ≡ as_notes index a ++ as_notes index b
 as_append index [] b = refl
@@ -187,7 +187,7 @@ shown_at rate e v k some is h =
     let day = short_day rate some in
     let below = first_below (unsigned_abs (e.rec_out -ℤ e.rec_in)) rate e.to v 0 (unsigned_abs k) (sym h) in
     let a = is.rec_in.low in let b = is.rec_out.high in let c = is.some in
-    let long = abs_is (e.rec_out -ℤ e.rec_in) (omega (arith, ints, c)) in
+    let long = size-of_natural (e.rec_out -ℤ e.rec_in) (omega (arith, ints, c)) in
     record {
       few = omega (arith, ints, day, below, a, b, long);
       begins = a;

@@ -1,8 +1,9 @@
 -- Markers of locators, one after another.
-use Rattle.std.proofs.Common.{◌≡◌, ◌<◌, ◌≤◌, ◌+◌, ◌&&◌, ℕ, ℤ, pos, ◌-ℤ◌, ◌*ℤ◌, ◌≤ℤ◌, ◌<ℤ◌, negsuc, to_z, of_z, w64, true, Bor, List, [], ◌∷◌, ◌++◌, length, take, slice_index_or, refl, sym, ap, subst, ◌∙◌, append_assoc, append-nil, arith}
+use Rattle.std.proofs.Common.{◌≡◌, ◌<◌, ◌≤◌, ◌+◌, ◌&&◌, ℕ, ℤ, pos, ◌-ℤ◌, ◌*ℤ◌, ◌≤ℤ◌, ◌<ℤ◌, to_z, of_z, w64, true, Bor, List, [], ◌∷◌, ◌++◌, length, take, slice_index_or, refl, sym, ap, subst, ◌∙◌, append_assoc, append-nil, arith}
 use Rattle.std.specs.Prelude.{int_le, int_lt}
 use Rattle.std.proofs.lemmas.Int.{ints}
 use Rattle.std.proofs.lemmas.List.{take_more}
+use Rattle.limits.proofs.IntegerSums.{multiple-from_zero}
 use Rattle.limits.specs.Limits.{most_ticks}
 use Rattle.tick_time.specs.declared.rates.Rate.{Rate}
 use Rattle.tick_time.specs.Rates.{frame}
@@ -108,15 +109,11 @@ apart rate e at some h c =
       short = omega (arith, ints, day, a, b, low, high);
     }
 
-product_low : (z : ℤ) (n : ℕ) → pos 0 ≤ℤ z → pos 0 ≤ℤ (z *ℤ pos n)
-product_low (pos k) n h = omega (arith, ints)
-product_low (negsuc k) n h = absurd (omega (arith, ints, h))
-
 -- the source frame of a locator that counts makes a time
 pub in_range : (rate : Rate) (e : Event) (at : ℤ) → 1 ≤ count_of rate → IsEvent (day_of rate) e → IsCounted rate e at → IsInRange (source_frame rate e.to (at -ℤ e.rec_in) *ℤ pos (frame rate.num rate.den))
 in_range rate e at some h c =
     let a = apart rate e at some h c in
-    let low = product_low (source_frame rate e.to (at -ℤ e.rec_in)) (frame rate.num rate.den) (shown_low rate e.to (at -ℤ e.rec_in) some h.to a.low a.short) in
+    let low = multiple-from_zero (source_frame rate e.to (at -ℤ e.rec_in)) (frame rate.num rate.den) (shown_low rate e.to (at -ℤ e.rec_in) some h.to a.low a.short) in
     record { low = omega (arith, ints, low); high = c.range }
 
 -- what is said counts, and so the locator does

@@ -1,106 +1,18 @@
 -- Notes in the order of their events.
-use Rattle.std.proofs.Common.{◌≡◌, ◌<◌, ◌≤◌, ◌+◌, ◌-◌, ◌==◌, cond, nat_lt, nat_le, ℕ, zero, suc, Bool, true, false, Bor, Some, slice_get, All, List, [], ◌∷◌, ◌++◌, map, length, take, drop, slice_index_or, filter, refl, sym, ap, subst, ◌∙◌, append-nil, arith}
-use Rattle.std.specs.Ordering.{is_lt, nat_cmp}
-use Rattle.std.specs.List.Sorted.{IsStableByKey, IsNonDecreasingBy, IsPartitionPoint, ties}
+use Rattle.std.proofs.Common.{◌≡◌, ◌<◌, ◌+◌, ◌-◌, ◌==◌, cond, ℕ, zero, suc, Bool, true, false, Bor, Some, slice_get, All, List, [], ◌∷◌, ◌++◌, map, length, slice_index_or, filter, refl, sym, ap, subst, ◌∙◌, arith}
+use Rattle.std.specs.Ordering.{nat_cmp}
+use Rattle.std.specs.List.Sorted.{IsStableByKey}
 use Rattle.std.proofs.lemmas.Bool.Decides.{nat_tests}
-use Rattle.std.proofs.lemmas.List.{get_or-take, get_or-drop, length-take-le, length-drop, take-append-drop}
-use Rattle.std.proofs.lemmas.List.Elements.{filter-append, filter_agree}
-use Rattle.std.proofs.lemmas.List.Sorted.{IsNonDecreasingBy-drop}
 use Rattle.std.proofs.lemmas.List.Elements.{All-cons, All-filter, All-head, All-tail}
 use Rattle.coord.proofs.Members.{same_some}
 use Rattle.edl_list.specs.declared.list.Event.{Event}
 use Rattle.edl_list.specs.declared.list.EventList.{EventList}
-use Rattle.note_text.specs.Belonging.{does_count, own_notes}
+use Rattle.note_text.specs.Belonging.{does_count, own_notes, HaveSameOwn}
 use Rattle.note_text.specs.Noted.{IsNoteFor, said_of}
 use Rattle.note_text.specs.declared.notes.Said.{Said}
 use Rattle.note_text.specs.declared.notes.Note.{Note}
-use Rattle.note_text.proofs.SortedNotes.{tie}
-use Rattle.edl_notes.specs.Steps.{HaveSameOwn, notes_at, said_by}
-
-none_pass : (event : ℕ) (xs : List (Bor Note)) → ((i : ℕ) (d : Bor Note) → i < length xs → ((slice_index_or xs i d).now.event == event) ≡ false)
-    → filter (λ (o : Bor Note). o.now.event == event) xs ≡ []
-none_pass event [] h = refl
-none_pass event (x ∷ xs) h = rw (h 0 x (omega arith)) (none_pass event xs (λ i d k. h (suc i) d (omega (arith, k))))
-
-all_pass : (event : ℕ) (xs : List (Bor Note)) → ((i : ℕ) (d : Bor Note) → i < length xs → ((slice_index_or xs i d).now.event == event) ≡ true)
-    → filter (λ (o : Bor Note). o.now.event == event) xs ≡ xs
-all_pass event [] h = refl
-all_pass event (x ∷ xs) h = rw (h 0 x (omega arith)) (ap (λ l. x ∷ l) (all_pass event xs (λ i d k. h (suc i) d (omega (arith, k)))))
-
-below : (a b : ℕ) → nat_lt a b ≡ true → (a == b) ≡ false
-below a b e = grind (arith, nat_tests, e)
-
-level : (a b : ℕ) → nat_lt a b ≡ false → nat_le a b ≡ true → (a == b) ≡ true
-level a b e f = grind (arith, nat_tests, e, f)
-
-past : (a b : ℕ) → nat_le a b ≡ false → (a == b) ≡ false
-past a b e = grind (arith, nat_tests, e)
-
--- the notes of an event are those from the first that isn't below it to the last that isn't above it
-pub at_event : (event : ℕ) (xs rest : List (Bor Note)) (from to : ℕ) → from ≤ length xs → to ≤ length rest → rest ≡ drop from xs
-    → IsPartitionPoint (λ (o : Bor Note). nat_lt o.now.event event ≡ true) (λ o. nat_lt o.now.event event ≡ false) xs from
-    → IsPartitionPoint (λ (o : Bor Note). nat_le o.now.event event ≡ true) (λ o. nat_le o.now.event event ≡ false) rest to
-    → take to rest ≡ filter (λ (o : Bor Note). o.now.event == event) xs
-at_event event xs rest from to low high is first second =
-    let p : Bor Note → Bool = λ o. o.now.event == event in
-    let short = length-take-le from xs low in
-    let brief = length-take-le to rest high in
-    let left : length rest ≡ length xs - from = ap length is ∙ length-drop from xs in
-    let behind = length-drop to rest in
-    let front : filter p (take from xs) ≡ [] = none_pass event (take from xs) (λ i d k.
-    let w : i < from = omega (arith, k, short) in
-    subst (λ (o : Bor Note). (o.now.event == event) ≡ false) (sym (get_or-take from xs i d w)) (below _ event (first.0 i d (omega arith) w))) in
-    let at : (i : ℕ) (d : Bor Note) → slice_index_or rest i d ≡ slice_index_or xs (from + i) d = λ i d. ap (λ l. slice_index_or l i d) is ∙ get_or-drop from xs i d in
-    let middle : filter p (take to rest) ≡ take to rest = all_pass event (take to rest) (λ i d k.
-    let w : i < to = omega (arith, k, brief) in
-    let low2 : nat_lt (slice_index_or rest i d).now.event event ≡ false =
-    subst (λ (o : Bor Note). nat_lt o.now.event event ≡ false) (sym (at i d)) (first.1 (from + i) d (omega arith) (omega (arith, w, high, left, low))) in
-    subst (λ (o : Bor Note). (o.now.event == event) ≡ true) (sym (get_or-take to rest i d w)) (level _ event low2 (second.0 i d (omega arith) w))) in
-    let back : filter p (drop to rest) ≡ [] = none_pass event (drop to rest) (λ i d k.
-    subst (λ (o : Bor Note). (o.now.event == event) ≡ false) (sym (get_or-drop to rest i d)) (past _ event (second.1 (to + i) d (omega arith) (omega (arith, k, behind, high))))) in
-    let tail : filter p rest ≡ take to rest =
-    ap (filter p) (sym (take-append-drop to rest)) ∙ filter-append p (take to rest) (drop to rest)
-    ∙ ap (λ l. filter p (take to rest) ++ l) back ∙ append-nil (filter p (take to rest)) ∙ middle in
-    let whole : filter p xs ≡ filter p rest =
-    ap (filter p) (sym (take-append-drop from xs)) ∙ filter-append p (take from xs) (drop from xs)
-    ∙ ap (λ l. l ++ filter p (drop from xs)) front ∙ ap (filter p) (sym is) in
-    sym (whole ∙ tail)
-
-pub rising_on : (xs rest : List (Bor Note)) (from : ℕ) → rest ≡ drop from xs → IsNonDecreasingBy (λ (o : Bor Note). o.now.event) xs → IsNonDecreasingBy (λ (o : Bor Note). o.now.event) rest
-rising_on xs rest from is up = subst (IsNonDecreasingBy (λ (o : Bor Note). o.now.event)) (sym is) (IsNonDecreasingBy-drop (λ (o : Bor Note). o.now.event) from xs up)
-
--- ---- sorting
-
-head_passes : {A : Type 0} (p : A → Bool) (xs : List A) (z : A) (zs : List A) → filter p xs ≡ z ∷ zs → p z ≡ true
-head_passes p [] z zs e = absurd (cc e)
-head_passes p (x ∷ xs) z zs e = by (p x) refl (head_passes p xs z zs) e
-  where
-    by : (b : Bool) → p x ≡ b → (filter p xs ≡ z ∷ zs → p z ≡ true) → cond b (x ∷ filter p xs) (filter p xs) ≡ z ∷ zs → p z ≡ true
-    by true t h f = let same : x ≡ z = cc f in subst (λ y. p y ≡ true) same t
-    by false t h f = h f
-
-is_event : (a b : ℕ) → (a == b) ≡ true → a ≡ b
-is_event a b e = grind (arith, nat_tests, e)
-
--- a stable sort keeps the notes of each event
-event_sorted : (order sorted : List (Bor Note)) → IsStableByKey (λ (b : Bor Note). b.now.event) nat_cmp order sorted → (index : ℕ)
-    → filter (λ (b : Bor Note). b.now.event == index) sorted ≡ filter (λ (b : Bor Note). b.now.event == index) order
-event_sorted order sorted stable index = by (filter p sorted) (filter p order) refl refl
-  where
-    p : Bor Note → Bool
-    p b = b.now.event == index
-
-    from : (z : Bor Note) → p z ≡ true → filter p sorted ≡ filter p order
-    from z t =
-        let k : z.now.event ≡ index = is_event z.now.event index t in
-        let agree : (xs : List (Bor Note)) → filter (ties (λ (a b : Bor Note). is_lt (nat_cmp a.now.event b.now.event)) z) xs ≡ filter p xs =
-        filter_agree (ties (λ (a b : Bor Note). is_lt (nat_cmp a.now.event b.now.event)) z) p (λ n. tie z.now.event n.now.event ∙ ap (λ m. n.now.event == m) k) in
-        sym (agree sorted) ∙ stable z ∙ agree order
-
-    by : (a b : List (Bor Note)) → filter p sorted ≡ a → filter p order ≡ b → filter p sorted ≡ filter p order
-    by (z ∷ zs) b e f = from z (head_passes p sorted z zs e)
-    by [] (z ∷ zs) e f = from z (head_passes p order z zs f)
-    by [] [] e f = e ∙ sym f
+use Rattle.note_text.proofs.KeyRuns.{run-kept_by_sort}
+use Rattle.edl_notes.specs.Steps.{notes_at, said_by}
 
 -- ---- the notes of an event
 
@@ -116,7 +28,7 @@ own_at index (b ∷ bs) = by (b.now.event == index) (own_at index bs)
 
 pub sorted_same : (notes : List Note) (order sorted : List (Bor Note)) → notes_at order ≡ notes → IsStableByKey (λ (b : Bor Note). b.now.event) nat_cmp order sorted → HaveSameOwn notes (notes_at sorted)
 sorted_same notes order sorted is stable = λ index.
-    own_at index sorted ∙ ap notes_at (event_sorted order sorted stable index) ∙ sym (own_at index order) ∙ ap (own_notes index) is
+    own_at index sorted ∙ ap notes_at (run-kept_by_sort (λ (b : Bor Note). b.now.event) order sorted stable index) ∙ sym (own_at index order) ∙ ap (own_notes index) is
 
 said_at : (bs : List (Bor Note)) → map (λ (n : Note). n.said) (notes_at bs) ≡ said_by bs
 said_at [] = refl
@@ -133,6 +45,9 @@ notes_more [] b = refl
 notes_more (a ∷ xs) b = ap (λ l. a.now ∷ l) (notes_more xs b)
 
 -- ---- the notes of an event count for it
+
+is_event : (a b : ℕ) → (a == b) ≡ true → a ≡ b
+is_event a b e = grind (arith, nat_tests, e)
 
 counts_all : (list : EventList) (bs : List (Bor Note)) (index : ℕ) (e : Event) → slice_get list.events index ≡ Some e → All (IsNoteFor list) (notes_at bs)
     → All (λ said. does_count list.rate e said ≡ true) (said_by (filter (λ (b : Bor Note). b.now.event == index) bs))

@@ -18,7 +18,7 @@ use Rattle.note_text.specs.Noted.{AreNotedBelow, AreNotedChildren, AreNotedRoots
 use Rattle.note_text.specs.declared.notes.Note.{Note}
 use Rattle.edl_notes.specs.declared.kinds.Kinds.{Kinds}
 use Rattle.edl_notes.specs.Kinds.{AreCounted, channel_by, one_of, picture_channel, sound_channel}
-use Rattle.edl_notes.specs.Steps.{HaveSameOwn}
+use Rattle.note_text.specs.Belonging.{HaveSameOwn}
 
 -- ---- kinds
 

@@ -19,10 +19,10 @@ use Rattle.edl_list.specs.Speeds.{count_of, day_of}
 use Rattle.edl_list.proofs.DayLemmas.{IsPacedDay, day_paced, timed}
 use Rattle.edl_frames.specs.Conformed.{first_record}
 use Rattle.edl_frames.specs.Shown.{is_on}
-use Rattle.edl_conform.proofs.EventRanges.{first_is}
+use Rattle.edl_law.proofs.EventRanges.{first_is}
 use Rattle.note_text.specs.Noted.{AreNotedChildren, IsItemAt, IsNotedItem, end, noted, other, said_of}
 use Rattle.note_text.specs.declared.notes.Note.{Note}
-use Rattle.edl_notes.specs.Steps.{HaveSameOwn}
+use Rattle.note_text.specs.Belonging.{HaveSameOwn}
 use Rattle.edl_notes.specs.Walks.{AreEarlier, BeginsAt, IsNext, IsNotedBy, is_earlier, ticks_before}
 
 -- ---- tests
@@ -65,10 +65,6 @@ ticks_rise n (pos a) (pos b) l h = let k : a ≤ b = omega (arith, ints, h) in t
     times_le a b n k = let d : (b - a) + a ≡ b = omega (arith, k) in let e = ap (λ x. x * n) d in omega (arith, e)
 ticks_rise n (negsuc a) z l h = absurd (omega (arith, ints, l))
 ticks_rise n (pos a) (negsuc b) l h = absurd (omega (arith, ints, h))
-
-pub abs_is : (z : ℤ) → pos 0 ≤ℤ z → pos (unsigned_abs z) ≡ z
-abs_is (pos a) l = refl
-abs_is (negsuc a) l = absurd (omega (arith, ints, l))
 
 -- ---- the event of an item
 

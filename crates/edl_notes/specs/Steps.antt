@@ -1,8 +1,7 @@
 -- What notes that are referred to say, and what each step adds.
 use Rattle.std.specs.Prelude.{◌≡◌, ℕ, ℤ, pos, ◌+ℤ◌, cond, List, [], ◌∷◌, ◌++◌, Option, Some, None, codes, map}
 use Rattle.std.specs.Borrow.{Bor}
-use Rattle.json_value.specs.declared.Json.{Json, Str, out-Json}
-use Rattle.json_value.specs.declared.Json.TheOpen.{Json-F}
+use Rattle.json_value.specs.declared.Json.{Json, Str}
 use Rattle.tick_time.specs.declared.rates.Rate.{Rate}
 use Rattle.otio_model.specs.declared.markers.Marker.{Marker}
 use Rattle.otio_model.specs.declared.markers.Marker.TheVariants.{Known}
@@ -13,11 +12,10 @@ use Rattle.otio_model.specs.declared.compositions.ItemOf.TheVariants.{Clip, Gap,
 use Rattle.otio_model.specs.declared.compositions.Listed.{Listed}
 use Rattle.edl_list.specs.declared.list.Event.{Event}
 use Rattle.edl_frames.specs.Conformed.{HasSpan, is_black}
-use Rattle.note_text.specs.Belonging.{first_shown, own_notes}
-use Rattle.note_text.specs.Found.{IsNumeralOf, as_notes, marked_frame}
+use Rattle.note_text.specs.Belonging.{first_shown}
+use Rattle.note_text.specs.Found.{as_notes, marked_frame}
 use Rattle.note_text.specs.Noted.{AreMarkersOf, sop_json}
 use Rattle.note_text.specs.Views.{triple}
-use Rattle.note_text.specs.declared.notes.Triple.{Triple}
 use Rattle.note_text.specs.declared.notes.Said.{Said}
 use Rattle.note_text.specs.declared.notes.Note.{Note}
 use Rattle.edl_notes.specs.declared.colors.Correction.{Correction}
@@ -29,10 +27,6 @@ notes_at notes = map (λ note. note.now) notes
 -- what they say
 abbrev pub said_by : List (Bor Note) → List Said
 said_by notes = map (λ note. note.now.said) notes
-
--- each event has the same notes among both
-abbrev pub HaveSameOwn : (a b : List Note) → Type 0
-HaveSameOwn a b = (index : ℕ) → own_notes index b ≡ own_notes index a
 
 -- ---- markers
 
@@ -58,16 +52,6 @@ pub record AddsMarkers (rate : Rate) (e : Event) (said : List Said) (old new : L
 -- the lists of slope, offset and power
 abbrev pub correction : Correction → Json
 correction c = sop_json (triple c.slope) (triple c.offset) (triple c.power)
-
--- the value is a list of these three numerals
-pub record AreNumeralsOf (value : Json) (t : Triple) : Type 0 where
-  pub r : Json
-  pub g : Json
-  pub b : Json
-  pub list : out-Json value ≡ Json-F.List (r ∷ g ∷ b ∷ [])
-  pub r_is : IsNumeralOf (Some r) t.r
-  pub g_is : IsNumeralOf (Some g) t.g
-  pub b_is : IsNumeralOf (Some b) t.b
 
 -- ---- notes that are found
 

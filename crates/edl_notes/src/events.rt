@@ -1,25 +1,26 @@
 //! The children of a channel's track, with the notes of their events.
 
-ghost use Rattle.std.specs.Prelude.{◌≡◌, ◌≤◌, ◌<◌, ◌^◌, ◌-ℤ◌, ℕ, List, IfOk, MatchOption, Some, length, nat_lt, pos, slice_get};
+ghost use Rattle.std.specs.Prelude.{◌≡◌, ◌<◌, ◌^◌, ◌-ℤ◌, ℕ, List, IfOk, MatchOption, Some, length, nat_lt, pos, slice_get};
 ghost use Rattle.otio_model.specs.Counts.{count, count_of};
 ghost use Rattle.otio_model.specs.Lengths.{length_of, or_zero};
 ghost use Rattle.otio_model.specs.Trees.{items_of};
 ghost use Rattle.edl_list.specs.Laws.{IsTimed};
 ghost use Rattle.edl_list.specs.declared.list.Event.{Event as AnyEvent};
-ghost use Rattle.edl_frames.specs.Shown.{is_on as is_on_channel};
 ghost use Rattle.note_text.specs.Noted.{AreNotedChildren};
 ghost use Rattle.note_text.specs.declared.notes.Note.{Note as AnyNote};
-ghost use Rattle.edl_notes.specs.Steps.{HaveSameOwn, notes_at};
+ghost use Rattle.note_text.specs.Belonging.{HaveSameOwn};
+ghost use Rattle.edl_notes.specs.Steps.{notes_at};
 ghost use Rattle.edl_notes.specs.Walks as walks;
 ghost use Rattle.edl_notes.specs.Walks.{AreEarlier, BeginsAt, IsNext, IsNotedBy, IsWork};
 
 use crate::items::noted_item;
-use crate::markers::frames;
 use crate::own::own;
+use edl_frames::is_on;
 use edl_list::{Channel, Event, EventList};
 use note_text::Note;
 use otio_model::{Children, Item, Items, copy_item};
 use std::alloc::{AllocError, Global};
+use tick_time::Time;
 
 /// A list, its least record in, and notes of it in the order of their events.
 #[derive(Clone, Copy)]
@@ -170,19 +171,7 @@ fn ticks_before(work: Work<'_>, event: &Event) -> u128
     requires timed { IsTimed work.list.now.rate (event.now.rec_in -ℤ work.first) }
     ensures { result ≡ walks.ticks_before work.entry.list.now event.now }
 {
-    frames(event.rec_in - work.first, work.list.rate)
+    Time::of_frames(event.rec_in - work.first, work.list.rate)
         .ticks
         .unsigned_abs()
-}
-
-// Whether an event is on a channel.
-fn is_on(channel: Channel, event: &Event) -> bool
-    ensures { result ≡ is_on_channel channel event.now }
-{
-    match (channel, event.channel) {
-        (Channel::V, Channel::V) => true,
-        (Channel::A, Channel::A) => true,
-        (Channel::A2, Channel::A2) => true,
-        _ => false,
-    }
 }

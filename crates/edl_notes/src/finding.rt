@@ -1,12 +1,12 @@
 //! The notes of a timeline for the list of its events.
 
-ghost use Rattle.std.specs.Prelude.{◌≡◌, ◌≤◌, ◌<◌, ◌^◌, ◌++◌, ◌∷◌, [], IfOk};
+ghost use Rattle.std.specs.Prelude.{◌≡◌, ◌<◌, ◌^◌, ◌++◌, ◌∷◌, [], IfOk};
 ghost use Rattle.std.specs.Option.{option_copied};
 ghost use Rattle.otio_model.specs.Counts.{count};
 ghost use Rattle.otio_model.specs.Trees.{item_at};
 ghost use Rattle.coord.specs.Soundness.{IsFaultless};
 ghost use Rattle.edl_list.specs.Formed.{IsEvent, IsWellFormed};
-ghost use Rattle.edl_list.specs.Speeds.{count_of, day_of};
+ghost use Rattle.edl_list.specs.Speeds.{day_of};
 ghost use Rattle.edl_frames.specs.Homes.{HasList};
 ghost use Rattle.note_text.specs.Found.{AreNotesOf, SaysClip, SaysHome, SaysSat, SaysSop};
 ghost use Rattle.note_text.specs.Views.{spoken as said_in};
@@ -53,7 +53,6 @@ fn put_notes(
     shown: Shown<'_>,
     notes: &mut Vec<Note>,
 ) -> Result<(), AllocError>
-    requires timecode { 1 ≤ count_of shown.rate }
     requires event { IsEvent (day_of shown.rate) shown.event.now }
     ensures { IfOk result (λ _. AddsSaid shown.entry.index
         (SaysHome shown.entry.rate shown.entry.event.now
@@ -90,7 +89,6 @@ fn put_clip(
     shown: Shown<'_>,
     notes: &mut Vec<Note>,
 ) -> Result<(), AllocError>
-    requires timecode { 1 ≤ count_of shown.rate }
     requires event { IsEvent (day_of shown.rate) shown.event.now }
     ensures { IfOk result (λ _. AddsSaid shown.entry.index
         (SaysClip shown.entry.rate shown.entry.event.now clip.now)

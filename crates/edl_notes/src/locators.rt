@@ -22,12 +22,13 @@ use tick_time::Rate;
 /// The color of a marker that gives none.
 const RED: &str = "RED";
 
-/// An event of a list, at its place, and the list's rate.
+/// An event of a list, at its place, and the list's rate, which has timecode.
 #[derive(Clone, Copy)]
 pub(crate) struct Shown<'a> {
     pub(crate) index: usize,
     pub(crate) event: &'a Event,
     pub(crate) rate: Rate,
+    ghost timecode: { 1 ≤ count_of rate },
 }
 
 /// Puts a locator for each marker that begins in a frame that the event shows at the end of the
@@ -38,7 +39,6 @@ pub(crate) fn put_locators(
     shown: Shown<'_>,
     notes: &mut Vec<Note>,
 ) -> Result<(), AllocError>
-    requires timecode { 1 ≤ count_of shown.rate }
     requires event { IsEvent (day_of shown.rate) shown.event.now }
     ensures { IfOk result (λ _. AddsSaid shown.entry.index
         (SayMarkers shown.entry.rate shown.entry.event.now markers.now)
@@ -57,7 +57,6 @@ fn put_locator(
     shown: Shown<'_>,
     notes: &mut Vec<Note>,
 ) -> Result<(), AllocError>
-    requires timecode { 1 ≤ count_of shown.rate }
     requires event { IsEvent (day_of shown.rate) shown.event.now }
     ensures { IfOk result (λ _. AddsSaid shown.entry.index
         (SaysMarker shown.entry.rate shown.entry.event.now marker.now)
@@ -76,7 +75,6 @@ fn put_mark(
     shown: Shown<'_>,
     notes: &mut Vec<Note>,
 ) -> Result<(), AllocError>
-    requires timecode { 1 ≤ count_of shown.rate }
     requires event { IsEvent (day_of shown.rate) shown.event.now }
     ensures { IfOk result (λ _. AddsSaid shown.entry.index
         (SaysMark shown.entry.rate shown.entry.event.now mark.now)

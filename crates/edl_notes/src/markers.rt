@@ -3,7 +3,6 @@
 ghost use Rattle.std.specs.Prelude.{◌≡◌, ◌≤◌, ◌*ℤ◌, ◌∷◌, [], All, IfOk, pos, true};
 ghost use Rattle.tick_time.specs.Rates.{frame as ticks_of};
 ghost use Rattle.tick_time.specs.Times.{IsInRange};
-ghost use Rattle.tick_time.specs.Frames.{IsFrames};
 ghost use Rattle.edl_frames.specs.Conformed.{IsSpanOf};
 ghost use Rattle.edl_list.specs.Formed.{IsEvent};
 ghost use Rattle.edl_list.specs.Speeds.{count_of, day_of};
@@ -17,7 +16,7 @@ use otio_model::{Mark, Marker, Markers};
 use owned::Owned;
 use sequences::{NamedValues, Text};
 use std::alloc::{AllocError, Global};
-use tick_time::{Rate, Span, Time};
+use tick_time::{Rate, Span};
 
 /// Puts a marker for each locator among the notes of an event at the end of the markers.
 pub(crate) fn put_markers(
@@ -91,19 +90,5 @@ fn frame_span(frame: i64, rate: Rate) -> Span
     requires { IsInRange (frame *ℤ pos (ticks_of rate.num rate.den)) }
     ensures { IsSpanOf rate frame (pos 1) result }
 {
-    Span {
-        start: frames(frame, rate),
-        len: frames(1, rate),
-    }
-}
-
-/// So many frames of the rate.
-pub(crate) fn frames(n: i64, rate: Rate) -> Time
-    requires { IsInRange (n *ℤ pos (ticks_of rate.num rate.den)) }
-    ensures { IsFrames rate n result }
-{
-    match Time::frames(n, rate) {
-        Ok(time) => time,
-        Err(_) => unreachable!(),
-    }
+    Span::of_frames(frame, rate, 1, rate)
 }

@@ -1,13 +1,12 @@
 //! Color corrections that metadata have.
 
-ghost use Rattle.std.specs.Prelude.{◌≡◌, List, ℕ, MatchOption, Some, codes};
+ghost use Rattle.std.specs.Prelude.{◌≡◌, List, ℕ, MatchOption, Some};
 ghost use Rattle.std.specs.Option.{option_copied};
 ghost use Rattle.json_value.specs.declared.Json.{out-Json};
 ghost use Rattle.coord.specs.Keys as keys;
 ghost use Rattle.note_text.specs.declared.notes.Triple.{Triple as AnyTriple};
-ghost use Rattle.note_text.specs.Found.{HasSat, HasSop, IsNumeralOf, IsTripleOf, color_member as color_in};
+ghost use Rattle.note_text.specs.Found.{AreNumeralsOf, HasSat, HasSop, IsNumeralOf, IsTripleOf, color_member as color_in};
 ghost use Rattle.note_text.specs.Views.{triple};
-ghost use Rattle.edl_notes.specs.Steps.{AreNumeralsOf};
 
 use crate::colors::Correction;
 use json_value::{Json, Members};

@@ -2,7 +2,8 @@
 
 ghost use Rattle.std.specs.Prelude.{◌≡◌, ◌==◌, IfOk, filter};
 ghost use Rattle.std.specs.List.Sorted.{IsNonDecreasingBy};
-ghost use Rattle.edl_notes.specs.Steps.{HaveSameOwn, notes_at};
+ghost use Rattle.note_text.specs.Belonging.{HaveSameOwn};
+ghost use Rattle.edl_notes.specs.Steps.{notes_at};
 
 use note_text::Note;
 use std::alloc::{AllocError, Global};

@@ -1,6 +1,6 @@
 //! The tracks of a conformed timeline with notes.
 
-ghost use Rattle.std.specs.Prelude.{◌≡◌, ◌<◌, ◌^◌, ◌++◌, ◌∷◌, [], IfOk, List};
+ghost use Rattle.std.specs.Prelude.{◌<◌, ◌^◌, [], IfOk, List};
 ghost use Rattle.otio_model.specs.Counts.{count, count_of};
 ghost use Rattle.otio_model.specs.Trees.{items_of};
 ghost use Rattle.otio_model.specs.declared.compositions.ItemOf.{ItemOf as AnyItem};
@@ -8,7 +8,8 @@ ghost use Rattle.otio_model.specs.declared.compositions.Listed.{Listed};
 ghost use Rattle.otio_model.specs.declared.compositions.ItemOf.TheVariants as items;
 ghost use Rattle.note_text.specs.Noted.{AreNotedRoots, IsNotedRoot};
 ghost use Rattle.note_text.specs.declared.notes.Note.{Note as AnyNote};
-ghost use Rattle.edl_notes.specs.Steps.{HaveSameOwn, notes_at};
+ghost use Rattle.note_text.specs.Belonging.{HaveSameOwn};
+ghost use Rattle.edl_notes.specs.Steps.{notes_at};
 ghost use Rattle.edl_notes.specs.Kinds.{AreCounted};
 ghost use Rattle.edl_notes.specs.Walks.{IsWork};
 

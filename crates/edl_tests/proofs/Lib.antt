@@ -1,2 +1,1 @@
 pub mod FilmFrames
-pub mod NotedLemmas

@@ -5,8 +5,6 @@
 #[cfg(test)]
 mod fault_tests;
 #[cfg(test)]
-mod film;
-#[cfg(test)]
 mod list_tests;
 #[cfg(test)]
 mod media_tests;

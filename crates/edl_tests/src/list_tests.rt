@@ -1,13 +1,13 @@
 //! One event of each kind.
 ghost use Rattle.std.specs.Prelude.{◌≤ℤ◌, pos};
 
-use crate::film::rate_24;
 use crate::reader_tests::{dissolved_side, event_at};
 use edl_list::{Channel, Cross, Event, EventList, Reel, Side};
 use owned::Owned;
 use sequences::{Sequence, Text};
 use std::alloc::Global;
 use std::process::Abort;
+use tick_time::rate_24;
 
 /// The text of a string, where there is memory.
 pub fn text_of(rt: &impl Abort, alloc: Global, text: &str) -> Text {

@@ -75,10 +75,21 @@ fn is_row(rows: &[MediaRow], rate: &str, start: i64, count: i64) -> bool {
     }
 }
 
+/// The rate, the start and the count of a row.
+#[derive(Clone, Copy)]
+struct Wanted<'a> {
+    rate: &'a str,
+    start: i64,
+    count: i64,
+}
+
 // Checks that a text is a list of one such row.
-fn row_is(rt: &impl Abort, alloc: Global, text: &str, rate: &str, start: i64, count: i64) {
+fn row_is(rt: &impl Abort, alloc: Global, text: &str, wanted: Wanted<'_>) {
     let list = MediaList::read(alloc, text.as_bytes()).expect(rt, "a list");
-    assert!(rt; is_row(list.rows(), rate, start, count), "{text}");
+    assert!(rt;
+        is_row(list.rows(), wanted.rate, wanted.start, wanted.count),
+        "{text}"
+    );
     drop(list);
 }
 
@@ -129,7 +140,7 @@ fn refuses_bytes_that_are_no_text(rt: HostRuntime) {
 #[test]
 fn reads_one_row(rt: HostRuntime) {
     for (text, rate, start, count) in ROWS {
-        row_is(&rt, rt.alloc(), text, rate, start, count);
+        row_is(&rt, rt.alloc(), text, Wanted { rate, start, count });
     }
 }
 

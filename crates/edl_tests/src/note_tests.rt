@@ -3,14 +3,13 @@ ghost use Rattle.std.specs.Prelude.{◌<◌, IfOk};
 ghost use Rattle.edl_list.specs.Formed.{IsWellFormed};
 ghost use Rattle.edl_text.specs.Lists.{IsList};
 
-use crate::film::rate_24;
 use edl_list::EventList;
 use edl_text::{EdlFault, EdlReader};
 use note_text::{Note, NoteReader, Notes, Said, Triple};
 use sequences::Text;
 use std::alloc::{AllocError, Global};
 use std::process::Abort;
-use tick_time::Rate;
+use tick_time::{Rate, rate_24};
 
 /// The numerals of red, green and blue.
 #[derive(Clone, Copy)]

@@ -4,7 +4,6 @@ ghost use Rattle.edl_list.specs.Formed.{IsWellFormed};
 ghost use Rattle.edl_text.specs.Lists.{IsList};
 ghost use Rattle.note_text.specs.Noted.{IsNoteFor};
 
-use crate::film::rate_24;
 use crate::note_tests::listed;
 use crate::reader_tests::rate_of;
 use dev_io::MemOut;
@@ -14,7 +13,7 @@ use note_text::{Notes, Said, notes_below_day, notes_by_event, read_notes, write_
 use std::alloc::{AllocError, Global};
 use std::mem;
 use std::process::Abort;
-use tick_time::Rate;
+use tick_time::{Rate, rate_24};
 
 // The notes of a text for its list.
 fn noted(alloc: Global, text: &[u8], list: &EventList) -> Result<Notes, AllocError>
@@ -44,8 +43,17 @@ fn send(rt: &impl Abort, list: &EventList, notes: Notes, drop: bool, out: &mut M
     mem::drop(notes);
 }
 
+/// The text of a list and its notes, and the text that is written of them.
+#[derive(Clone, Copy)]
+struct Rewriting<'a> {
+    text: &'a [u8],
+    drop: bool,
+    wanted: &'a [u8],
+}
+
 // A text and its notes are written so.
-fn is_written(rt: &impl Abort, alloc: Global, rate: Rate, text: &[u8], drop: bool, wanted: &[u8]) {
+fn is_written(rt: &impl Abort, alloc: Global, rate: Rate, rewriting: Rewriting<'_>) {
+    let Rewriting { text, drop, wanted } = rewriting;
     let list = listed(alloc, rate, text).expect(rt, "a list");
     let notes = noted(alloc, text, &list).expect(rt, "notes");
     let mut out = MemOut::new(alloc, 2000).expect(rt, "a device");
@@ -57,7 +65,16 @@ fn is_written(rt: &impl Abort, alloc: Global, rate: Rate, text: &[u8], drop: boo
 
 // The same text, whatever notes are written from it.
 fn is_kept(rt: &impl Abort, alloc: Global, rate: Rate, text: &str) {
-    is_written(rt, alloc, rate, text.as_bytes(), false, text.as_bytes());
+    is_written(
+        rt,
+        alloc,
+        rate,
+        Rewriting {
+            text: text.as_bytes(),
+            drop: false,
+            wanted: text.as_bytes(),
+        },
+    );
 }
 
 #[test]
@@ -80,7 +97,16 @@ fn a_cut_with_notes(rt: HostRuntime) {
 * LOC: 00:00:11:23 MAGENTA a b
 * LOC: 00:00:10:00 BLUE
 ";
-    is_written(&rt, rt.alloc(), rate_24(), text, false, wanted);
+    is_written(
+        &rt,
+        rt.alloc(),
+        rate_24(),
+        Rewriting {
+            text,
+            drop: false,
+            wanted,
+        },
+    );
 }
 
 #[test]
@@ -103,7 +129,16 @@ fn events_in_another_order(rt: HostRuntime) {
 * ASC_SAT: 1
 * LOC: 00:00:01:00 RED     one
 ";
-    is_written(&rt, rt.alloc(), rate_24(), text, false, wanted);
+    is_written(
+        &rt,
+        rt.alloc(),
+        rate_24(),
+        Rewriting {
+            text,
+            drop: false,
+            wanted,
+        },
+    );
 }
 
 #[test]
@@ -140,8 +175,26 @@ fn labels_of_either_mode(rt: HostRuntime) {
 * LOC: 00:01:00;02 RED     x
 ";
     let rate = rate_of(&rt, "29.97");
-    is_written(&rt, rt.alloc(), rate, text, false, plain);
-    is_written(&rt, rt.alloc(), rate, text, true, drop);
+    is_written(
+        &rt,
+        rt.alloc(),
+        rate,
+        Rewriting {
+            text,
+            drop: false,
+            wanted: plain,
+        },
+    );
+    is_written(
+        &rt,
+        rt.alloc(),
+        rate,
+        Rewriting {
+            text,
+            drop: true,
+            wanted: drop,
+        },
+    );
 }
 
 // The events of notes of saturation, each with its numeral, are these.

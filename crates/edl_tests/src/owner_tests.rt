@@ -1,7 +1,7 @@
 //! To which events the notes of a list belong, in pieces of several sizes.
-use crate::film::rate_24;
 use crate::note_tests::{Wanted, has_notes, numerals};
 use crate::reader_tests::rate_of;
+use tick_time::rate_24;
 
 #[test]
 fn notes_of_one_cut(rt: HostRuntime) {

@@ -6,7 +6,6 @@ ghost use Rattle.edl_list.specs.Speeds.{day_of};
 ghost use Rattle.edl_list.specs.Labelled.{IsLabelled};
 ghost use Rattle.edl_list.specs.Layouts.{narrow, wide_layout, FitsEvent};
 
-use crate::film::rate_24;
 use crate::list_tests::text_of;
 use dev_io::MemOut;
 use edl_list::{Channel, Cross, Event, EventList, Reel, Side};
@@ -14,7 +13,7 @@ use edl_text::{first_label_past_day, first_wide_reel, write_event, write_list};
 use sequences::{Sequence, Text};
 use std::alloc::Global;
 use std::process::Abort;
-use tick_time::Rate;
+use tick_time::{Rate, rate_24};
 
 // Two seconds of black at twice the speed.
 fn black(name: Text, rate: Rate) -> Event

@@ -1,6 +1,6 @@
 //! The frames of the four labels of an event line.
 
-ghost use Rattle.std.specs.Prelude.{◌≡◌, ◌≤ℤ◌, ◌<ℤ◌, pos, false, true, is_some, MatchOption};
+ghost use Rattle.std.specs.Prelude.{◌≡◌, false, true, is_some, MatchOption};
 ghost use Rattle.smpte_tc.specs.Frames.{label_frame as frame_named};
 ghost use Rattle.edl_text.specs.StateSaid.{AreFrames, are_labels, run_back as runs_back};
 

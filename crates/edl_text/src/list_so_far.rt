@@ -1,6 +1,6 @@
 //! What lines say together, taken one by one.
 
-ghost use Rattle.std.specs.Prelude.{◌≡◌, ◌<◌, ◌-◌, ◌^◌, ◌++◌, ◌&&◌, not, List, [], length, unwrap_or, IfOk, IfErr, OnOk};
+ghost use Rattle.std.specs.Prelude.{◌≡◌, ◌<◌, ◌-◌, ◌^◌, ◌++◌, ◌&&◌, not, List, [], length, unwrap_or, IfOk, OnOk};
 ghost use Rattle.edl_text.specs.Statements as plain;
 ghost use Rattle.edl_text.specs.Views.{said as view, event_said, speed_said};
 ghost use Rattle.edl_text.specs.Lines.{named as named_by};

@@ -1,6 +1,6 @@
 //! The latest event line, which M2 lines and notes may still change.
 
-ghost use Rattle.std.specs.Prelude.{◌≡◌, ◌++◌, ◌∷◌, [], List, ℕ, Some, map, true, false, IfOk, MatchOption, OnOk};
+ghost use Rattle.std.specs.Prelude.{◌≡◌, ◌++◌, ◌∷◌, [], Some, map, true, false, IfOk, MatchOption, OnOk};
 ghost use Rattle.edl_text.specs.Views.{reel_said};
 ghost use Rattle.edl_text.specs.Events.{where_set};
 ghost use Rattle.edl_text.specs.Sides.{reel_of as reel_named, begun as begun_by, duration as duration_of, is_cut as is_cut_kind};

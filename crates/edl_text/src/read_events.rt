@@ -1,5 +1,5 @@
 // The event of a line that begins with a digit.
-ghost use Rattle.std.specs.Prelude.{◌≡◌, ◌∷◌, [], ◌++◌, List, ℕ, None, Some, MatchOption, codes, IsTrue, ◌↔◌};
+ghost use Rattle.std.specs.Prelude.{◌≡◌, ◌∷◌, [], ℕ, None, Some, MatchOption};
 ghost use Rattle.text_lines.specs.KeyWords.{meaning};
 ghost use Rattle.text_lines.specs.Lines.{fields_of};
 ghost use Rattle.edl_text.specs.Statements.{EventLine as Event};

@@ -1,5 +1,5 @@
 // The speed of a line whose first field is `M2`.
-ghost use Rattle.std.specs.Prelude.{◌≡◌, ℕ, Bool, MatchOption};
+ghost use Rattle.std.specs.Prelude.{ℕ, Bool, MatchOption};
 ghost use Rattle.text_lines.specs.Lines.{fields_of};
 ghost use Rattle.edl_text.specs.Statements.{SpeedLine as Speed};
 ghost use Rattle.edl_text.specs.Speeds.{IsSpeed, IsSpeedText, IsTenths};

@@ -1,7 +1,7 @@
 // What a line says.
-ghost use Rattle.std.specs.Prelude.{◌≡◌, ◌↔◌, ◌++◌, List, ℕ, Bool, true, false, codes, IsTrue, MatchOption, MatchResult};
+ghost use Rattle.std.specs.Prelude.{◌≡◌, ◌↔◌, Bool, true, false, codes, IsTrue, MatchOption, MatchResult};
 ghost use Rattle.text_lines.specs.First.{begins_with_blank};
-ghost use Rattle.text_lines.specs.Lines.{fields_of, trimmed};
+ghost use Rattle.text_lines.specs.Lines.{fields_of};
 ghost use Rattle.edl_text.specs.Notes.{IsNote};
 ghost use Rattle.edl_text.specs.Saying as saying;
 ghost use Rattle.edl_text.specs.Saying.{Says, HasFault, SaysTight, FaultTight, IsFree};

@@ -1,18 +1,15 @@
 -- What is wrong with the root children of an input, found child by child.
-use Rattle.std.proofs.Common.{◌≡◌, refl, sym, subst, ap, ◌∙◌, ℕ, ◌<◌, ◌≤◌, ◌&&◌, ◌||◌, Bool, true, false, Option, Some, None, List, [], ◌∷◌, length, arith}
+use Rattle.std.proofs.Common.{◌≡◌, refl, sym, subst, ap, ◌∙◌, ℕ, zero, suc, ◌<◌, ◌≤◌, ◌&&◌, ◌||◌, Bool, true, false, cond, Option, Some, None, List, [], ◌∷◌, length, arith}
 use Rattle.std.specs.Prelude.{slice_get, not}
 use Rattle.otio_model.specs.declared.compositions.ItemOf.{ItemOf}
 use Rattle.otio_model.specs.declared.compositions.Listed.{Listed}
-use Rattle.otio_model.specs.declared.compositions.ItemOf.TheVariants.{Track}
-use Rattle.otio_model.specs.declared.compositions.TrackOf.{TrackOf}
-use Rattle.otio_model.specs.Trees.{children_of, items_of}
 use Rattle.coord.specs.Looks.{Overlap}
 use Rattle.coord.specs.Sights.{overlap_of}
 use Rattle.coord.proofs.Members.{got_below, same_some}
 use Rattle.flat.specs.declared.faults.Cause.{Cause}
 use Rattle.flat.specs.declared.faults.Cause.TheVariants as C
 use Rattle.flat.specs.Blocked.{IsFree, IsFirst}
-use Rattle.flat.specs.Joined.{JoinBlocks, begins_early, ends_late}
+use Rattle.flat.specs.Joined.{JoinBlocks, begins_early, ends_late, own_items}
 use Rattle.flat.specs.Joined as J
 use Rattle.flat.specs.Roots.{is_enabled, is_plain, items_in}
 use Rattle.flat_stack.specs.Spots.{Under, StartsBelow, IsFreeTo, inner_place}
@@ -118,10 +115,6 @@ free_child f s l k x e p a =
     low [] c h = tt
     low (i ∷ q) c h = child_low f s l k i q x (k ∷ i ∷ q) c e refl h
 
-pub disabled_apart : (f s : Bool) (x : ItemOf Listed) (n : ℕ) → is_enabled x ≡ false
-    → Apart f s x n
-disabled_apart f s x n off = λ on. absurd (true_false (is_enabled x) on off)
-
 -- ---- all root children
 
 pub none_first : (f s : Bool) (l : List (ItemOf Listed)) → IsFreeTo (JoinBlocks f s l) 0
@@ -153,35 +146,35 @@ root_first f s l k j child c e free h =
     subst (λ z. IsFirst (JoinBlocks f s l) (z ∷ inner_place child) c) (sym e)
     (first_under (JoinBlocks f s l) k (inner_place child) c free h)
 
--- ---- a root child that is taken apart
+-- ---- the children of an enabled root child
 
-pub children_is : (x : ItemOf Listed) (t : TrackOf Listed) → x ≡ Track t
-    → children_of x ≡ Some t.children
-children_is x t e = ap children_of e
+own_on : (x : ItemOf Listed) (i : ℕ) (y : ItemOf Listed) (b : Bool) → is_enabled x ≡ b
+    → slice_get (own_items (Some x)) i ≡ Some y → is_enabled x ≡ true
+own_on x i y true e f = e
+own_on x i y false e f =
+    absurd (none i (ap (λ c. slice_get (cond c (items_in x) []) i) (sym e) ∙ f))
+  where
+    none : (i : ℕ) → slice_get {X = ItemOf Listed} [] i ≡ Some y → ⊥
+    none zero g = cc g
+    none (suc i) g = cc g
 
-pub items_are : (x : ItemOf Listed) (t : TrackOf Listed) → x ≡ Track t
-    → items_in x ≡ items_of t.children
-items_are x t e = ap (λ (z : ItemOf Listed). items_in z) e
+own_all : (x : ItemOf Listed) → is_enabled x ≡ true → own_items (Some x) ≡ items_in x
+own_all x on = ap (λ b. cond b (items_in x) []) on
 
-pub track_crossing : (f s : Bool) (l : List (ItemOf Listed)) (k i : ℕ) (x : ItemOf Listed)
-    (t : TrackOf Listed) → x ≡ Track t → slice_get l k ≡ Some x → is_plain x ≡ true
-    → t.enabled ≡ true → IsCrossing f s (items_of t.children) i
+pub own_crossing : (f s : Bool) (l : List (ItemOf Listed)) (k i : ℕ) (x : ItemOf Listed)
+    (m : List (ItemOf Listed)) → m ≡ own_items (Some x) → slice_get l k ≡ Some x
+    → is_plain x ≡ true → IsCrossing f s m i
     → IsFirst (Under (JoinBlocks f s l) k) (i ∷ []) C.Crossing
-track_crossing f s l k i x t e g p on u =
-    crossing_first f s l k i x g p (ap (λ (z : ItemOf Listed). is_enabled z) e ∙ on)
-    (subst (λ m. IsCrossing f s m i) (sym (items_are x t e)) u)
+own_crossing f s l k i x m e g p u =
+    let on = own_on x i u.item (is_enabled x) refl (ap (λ z. slice_get z i) (sym e) ∙ u.there) in
+    crossing_first f s l k i x g p on (subst (λ z. IsCrossing f s z i) (e ∙ own_all x on) u)
 
-pub track_free : (f s : Bool) (l : List (ItemOf Listed)) (k : ℕ) (x : ItemOf Listed)
-    (t : TrackOf Listed) → x ≡ Track t → slice_get l k ≡ Some x → is_plain x ≡ true
-    → AreApartTo f s (items_of t.children) (length (items_of t.children))
-    → IsFree (Under (JoinBlocks f s l) k)
-track_free f s l k x t e g p a =
+pub own_apart : (f s : Bool) (l : List (ItemOf Listed)) (k : ℕ) (x : ItemOf Listed)
+    (m : List (ItemOf Listed)) → m ≡ own_items (Some x) → slice_get l k ≡ Some x
+    → is_plain x ≡ true → AreApartTo f s m (length m) → IsFree (Under (JoinBlocks f s l) k)
+own_apart f s l k x m e g p a =
     free_child f s l k x g p
-    (λ on. subst (λ m. AreApartTo f s m (length m)) (sym (items_are x t e)) a)
+    (λ on. subst (λ z. AreApartTo f s z (length z)) (e ∙ own_all x on) a)
 
-pub track_disabled : (f s : Bool) (l : List (ItemOf Listed)) (k : ℕ) (x : ItemOf Listed)
-    (t : TrackOf Listed) → x ≡ Track t → slice_get l k ≡ Some x → is_plain x ≡ true
-    → t.enabled ≡ false → IsFree (Under (JoinBlocks f s l) k)
-track_disabled f s l k x t e g p off =
-    free_child f s l k x g p
-    (disabled_apart f s x (length (items_in x)) (ap (λ (z : ItemOf Listed). is_enabled z) e ∙ off))
+pub none_apart : (f s : Bool) → AreApartTo f s [] 0
+none_apart f s i y h e = absurd (omega (arith, h))

@@ -22,7 +22,7 @@ use Rattle.flat_law.proofs.Joined.{AreGoodSlots}
 use Rattle.flat_stack.specs.declared.inputs.Part.{Part}
 use Rattle.flat_stack.specs.Inputs.{given, pad_behind, piece, children_from, track_from, tracks_from, child_count, child_counts, track_count, track_counts}
 use Rattle.flat_stack.proofs.JoinedTracks.{more_is}
-use Rattle.pieces.proofs.Tests.{lt_yes, lt_no}
+use Rattle.limits.proofs.IntegerTests.{below-int_lt, above-int_lt}
 
 -- ---- lists of children
 
@@ -42,10 +42,10 @@ piece_count s p more =
     ∙ ap (λ n. n + child_counts (cond more (pad_behind s p) [])) (olds_count (given s p))
 
 pub one_pad : (n : ℤ) → pos 0 <ℤ n → 1 ≡ child_counts (pad n)
-one_pad n h = ap (λ b. child_counts (cond b (new_gap n ∷ []) [])) (sym (lt_yes (pos 0) n h))
+one_pad n h = ap (λ b. child_counts (cond b (new_gap n ∷ []) [])) (sym (below-int_lt (pos 0) n h))
 
 pub no_pad : (n : ℤ) → n ≤ℤ pos 0 → 0 ≡ child_counts (pad n)
-no_pad n h = ap (λ b. child_counts (cond b (new_gap n ∷ []) [])) (sym (lt_no (pos 0) n h))
+no_pad n h = ap (λ b. child_counts (cond b (new_gap n ∷ []) [])) (sym (above-int_lt (pos 0) n h))
 
 test_yes : (n m : ℕ) → n < m → nat_lt n m ≡ true
 test_yes n m h = grind (arith, nat_tests)
@@ -146,7 +146,8 @@ room_end ps ss rest most room a e =
 
 -- ---- the tracks that are made
 
-range_count : (w : Span) (x : ItemOf Listed) → count_of (with_range w x) ≡ count_of x
+-- a range changes no number of items
+pub range_count : (w : Span) (x : ItemOf Listed) → count_of (with_range w x) ≡ count_of x
 range_count w (Clip c) = refl
 range_count w (Gap c) = refl
 range_count w (Transition c) = refl

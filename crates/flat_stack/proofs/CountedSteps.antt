@@ -30,6 +30,8 @@ use Rattle.flat.specs.Windowed.{front_alone, stripped, window_of, with_items, wi
 use Rattle.flat_law.proofs.Straight.{whole_item, straight-listed}
 use Rattle.coord.proofs.Members.{same_some}
 use Rattle.flat_stack.specs.Gathered.{items_in}
+use Rattle.edits.specs.Good.{item_of}
+use Rattle.flat_stack.proofs.CountLemmas.{range_count}
 
 pub count_bare : (t u : Timeline) → bare t ≡ bare u
     → count t.tracks.children ≡ count u.tracks.children
@@ -118,20 +120,9 @@ straight_count t r e =
 
 -- ---- a window
 
-abbrev item_of : Child → ItemOf Listed
-item_of (Old x) = x
-item_of (Ranged x s n) = x
-
 abbrev counts_in : List Child → ℕ
 counts_in [] = 0
 counts_in (c ∷ l) = count_of (item_of c) + counts_in l
-
-range_count : (w : Span) (x : ItemOf Listed) → count_of (with_range w x) ≡ count_of x
-range_count w (Clip c) = refl
-range_count w (Gap g) = refl
-range_count w (Transition t) = refl
-range_count w (Stack s) = refl
-range_count w (Track t) = refl
 
 made_count : (r : Rate) (c : Child) (y : ItemOf Listed) → made r c ≡ Some y
     → count_of y ≡ count_of (item_of c)

@@ -15,6 +15,7 @@ use Rattle.flat_stack.proofs.FirstLemmas.{below_or}
 use Rattle.coord.proofs.Members.{same_some}
 use Rattle.edits.proofs.NextStarts.{added_next}
 use Rattle.flat_stack.specs.Blocking.{early_by, late_by, blocks_at, AreApartTo, IsCrossing, IsPassed}
+use Rattle.std.proofs.lemmas.Bool.{or_from, or_left, or_right}
 
 -- ---- what stands behind a child
 
@@ -56,18 +57,6 @@ late_is : (is_last : Bool) (l : List (ItemOf Listed)) (i n : ℕ) (rest : ℤ) (
 late_is is_last l i n rest o e f =
     ap₂ (λ b z. not is_last && (b || int_lt z o.after)) (none_behind l (suc i) n e) f
 
-or_first : (a b : Bool) → a ≡ true → (a || b) ≡ true
-or_first true b e = refl
-or_first false b e = absurd (cc e)
-
-or_second : (a b : Bool) → b ≡ true → (a || b) ≡ true
-or_second true b e = refl
-or_second false b e = e
-
-or_neither : (a b : Bool) → a ≡ false → b ≡ false → (a || b) ≡ false
-or_neither true b e f = absurd (cc e)
-or_neither false b e f = f
-
 never : (a : Bool) → (a && false) ≡ true → ⊥
 never true e = cc e
 never false e = cc e
@@ -78,7 +67,7 @@ pub blocks_early : (is_first is_last c : Bool) (l : List (ItemOf Listed)) (i : �
     → blocks_at is_first is_last l i p ≡ true
 blocks_early is_first is_last c l i at None e f g = absurd (never (not is_first) (sym f ∙ g))
 blocks_early is_first is_last c l i at (Some o) e f g =
-    or_first (not is_first && begins_early l i o) (not is_last && ends_late l i o)
+    or_left (not is_first && begins_early l i o) (not is_last && ends_late l i o)
     (sym (early_is is_first l i at o e) ∙ sym f ∙ g)
 
 pub blocks_late : (is_first is_last c : Bool) (l : List (ItemOf Listed)) (i n : ℕ) (rest : ℤ)
@@ -87,7 +76,7 @@ pub blocks_late : (is_first is_last c : Bool) (l : List (ItemOf Listed)) (i n : 
     → blocks_at is_first is_last l i p ≡ true
 blocks_late is_first is_last c l i n rest None e f g h = absurd (never (not is_last) (sym g ∙ h))
 blocks_late is_first is_last c l i n rest (Some o) e f g h =
-    or_second (not is_first && begins_early l i o) (not is_last && ends_late l i o)
+    or_right (not is_first && begins_early l i o) (not is_last && ends_late l i o)
     (sym (late_is is_last l i n rest o e f) ∙ sym g ∙ h)
 
 pub blocks_not : (is_first is_last c d : Bool) (l : List (ItemOf Listed)) (i n : ℕ) (at rest : ℤ)
@@ -97,7 +86,7 @@ pub blocks_not : (is_first is_last c d : Bool) (l : List (ItemOf Listed)) (i n :
     → blocks_at is_first is_last l i p ≡ false
 blocks_not is_first is_last c d l i n at rest None e f g h k m q = refl
 blocks_not is_first is_last c d l i n at rest (Some o) e f g h k m q =
-    or_neither (not is_first && begins_early l i o) (not is_last && ends_late l i o)
+    or_from (not is_first && begins_early l i o) (not is_last && ends_late l i o)
     (sym (early_is is_first l i at o e) ∙ sym f ∙ g)
     (sym (late_is is_last l i n rest o h k) ∙ sym m ∙ q)
 

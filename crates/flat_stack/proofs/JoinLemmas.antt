@@ -27,7 +27,7 @@ use Rattle.flat_law.proofs.Joined.{AllPlain, AreGoodSlots, good_slots}
 use Rattle.flat.specs.Roots.{ArePlainTracks}
 use Rattle.coord.proofs.Members.{same_some}
 use Rattle.flat_stack.specs.declared.inputs.Part.{Part}
-use Rattle.flat_stack.specs.Inputs.{AreParts, AreStretched, IsJoinedOf, IsPart, IsWithin, children_from, given, inputs_of, list_of, lists_of, pad_behind, track_counts, tracks_from}
+use Rattle.flat_stack.specs.Inputs.{AreParts, AreStretched, IsJoinedOf, IsPreparedInput, IsWithin, children_from, given, inputs_of, list_of, lists_of, pad_behind, track_counts, tracks_from}
 use Rattle.flat_stack.proofs.CountLemmas.{tracks_made}
 
 -- ---- inputs that nothing refuses have plain tracks alone
@@ -63,8 +63,8 @@ pub kept_first : (f : ℕ) (l : List Timeline) (ps : List Part) → ps ≡ [] �
 kept_first f l ps e = subst (λ z. AreKept f l z 0) (sym e)
     (record { parts = λ i p h. absurd (cc h); inputs = refl; stretched = tt })
 
-parts_more : (ps : List Part) (p : Part) → AreParts ps → IsPart p → AreParts (ps ++ p ∷ [])
-parts_more [] p a k zero q e = subst IsPart (same_some p q e) k
+parts_more : (ps : List Part) (p : Part) → AreParts ps → IsPreparedInput p → AreParts (ps ++ p ∷ [])
+parts_more [] p a k zero q e = subst IsPreparedInput (same_some p q e) k
 parts_more [] p a k (suc i) q e = absurd (none i e)
   where
     none : (i : ℕ) → slice_get {X = Part} [] i ≡ Some q → ⊥
@@ -79,7 +79,7 @@ stretched_more f [] p a e = (e, tt)
 stretched_more f (r ∷ ps) p a e = (a.0, stretched_more f ps p a.1 e)
 
 pub kept_more : (f : ℕ) (l : List Timeline) (ps more : List Part) (i : ℕ) (t : Timeline) (p : Part)
-    → AreKept f l ps i → slice_get l i ≡ Some t → IsPart p → p.input.now ≡ t
+    → AreKept f l ps i → slice_get l i ≡ Some t → IsPreparedInput p → p.input.now ≡ t
     → p.stretch ≡ stretch f (roots t) → more ≡ ps ++ p ∷ [] → AreKept f l more (i + 1)
 kept_more f l ps more i t p a e k g h n = subst (λ z. AreKept f l z (i + 1)) (sym n) (record {
   parts = parts_more ps p a.parts k;

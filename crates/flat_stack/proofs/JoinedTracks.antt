@@ -7,22 +7,24 @@ use Rattle.std.proofs.lemmas.List.{append-nil}
 use Rattle.limits.specs.Limits.{most_ticks}
 use Rattle.tick_time.specs.declared.rates.Rate.{Rate}
 use Rattle.otio_model.specs.declared.compositions.ItemOf.{ItemOf}
+use Rattle.otio_model.specs.declared.compositions.ItemOf.TheVariants.{Clip, Gap, Transition, Stack, Track}
 use Rattle.otio_model.specs.declared.compositions.Listed.{Listed}
 use Rattle.otio_model.specs.Counts.{count}
-use Rattle.otio_model.specs.Trees.{children_of, items_of}
+use Rattle.otio_model.specs.Edits.{deeper}
+use Rattle.otio_model.specs.Trees.{children_of, is_track, items_of, listed}
 use Rattle.coord.proofs.Members.{child_few, next, none_left, same_some}
 use Rattle.edits.specs.Finest.{in_range}
 use Rattle.edits.specs.Children.{Child, all_made, made, new_gap, is_far, with_first}
 use Rattle.edits.specs.Cuts.{olds}
-use Rattle.flat.specs.Joined.{Slot, own_items, pad, track_of}
+use Rattle.flat.specs.Joined.{Slot, joined_with, own_items, pad, track_of}
 use Rattle.flat.specs.Roots.{is_empty}
 use Rattle.flat_law.proofs.Exists.{range_yes}
 use Rattle.flat_law.proofs.Fit.{kth_at}
 use Rattle.pieces.specs.Short.{AreCuttable}
 use Rattle.pieces.proofs.Inner.{root_faultless, inner_few, inner_cuttable}
 use Rattle.flat_stack.specs.declared.inputs.Part.{Part}
-use Rattle.flat_stack.specs.Inputs.{IsPart, IsAdded, given, list_of, pad_behind, piece, children_from, track_from, tracks_from, with_front}
-use Rattle.pieces.proofs.Tests.{lt_yes, lt_no}
+use Rattle.flat_stack.specs.Inputs.{IsPreparedInput, IsAdded, as_enabled, given, list_of, pad_behind, piece, children_from, track_from, tracks_from, with_front}
+use Rattle.limits.proofs.IntegerTests.{below-int_lt, above-int_lt}
 
 -- ---- the children of an input's track
 
@@ -31,7 +33,7 @@ pub record AreOwn (c : Listed) : Type 0 where
   pub few : count c < 2 ^ 32
   pub cuttable : AreCuttable (items_of c)
 
-pub own_known : (p : Part) (kind : List ℕ) (k : ℕ) (x : ItemOf Listed) (c : Listed) → IsPart p
+pub own_known : (p : Part) (kind : List ℕ) (k : ℕ) (x : ItemOf Listed) (c : Listed) → IsPreparedInput p
     → Some x ≡ track_of kind k (list_of p) → children_of x ≡ Some c → AreOwn c
 own_known p kind k x c known e f =
     let at = kth_at kind (list_of p) k x (sym e) in
@@ -45,17 +47,11 @@ given_is p s o e = ap own_items e
 
 -- ---- a gap
 
-pub gap_near : (n : ℤ) → pos 0 <ℤ n → n ≤ℤ pos most_ticks → is_far (new_gap n) ≡ true → ⊥
-gap_near n h k e =
-    let first : in_range (pos 0) ≡ true = range_yes (pos 0) (omega (arith, ints)) (omega (arith, ints)) in
-    let second : in_range n ≡ true = range_yes n (omega (arith, ints, h)) k in
-    absurd (cc (sym (ap₂ (λ a b. not a || not b) first second) ∙ e))
-
 pub no_pad : (r : Rate) (n : ℤ) (old new : List (ItemOf Listed)) → n ≤ℤ pos 0 → new ≡ old
     → IsAdded r (pad n) old new
 no_pad r n old new h e = record {
   items = [];
-  are = ap (λ b. all_made r (cond b (new_gap n ∷ []) [])) (lt_no (pos 0) n h);
+  are = ap (λ b. all_made r (cond b (new_gap n ∷ []) [])) (above-int_lt (pos 0) n h);
   is = e ∙ sym (append-nil old);
 }
 
@@ -63,7 +59,7 @@ pub one_pad : (r : Rate) (n : ℤ) (old new : List (ItemOf Listed)) (x : ItemOf 
     → pos 0 <ℤ n → made r (new_gap n) ≡ Some x → new ≡ old ++ x ∷ [] → IsAdded r (pad n) old new
 one_pad r n old new x h m e = record {
   items = x ∷ [];
-  are = ap (λ b. all_made r (cond b (new_gap n ∷ []) [])) (lt_yes (pos 0) n h)
+  are = ap (λ b. all_made r (cond b (new_gap n ∷ []) [])) (below-int_lt (pos 0) n h)
       ∙ ap (λ o. with_first o (Some [])) m;
   is = e;
 }
@@ -215,3 +211,25 @@ pub tracks_end : (r : Rate) (ps : List Part) (ss rest : List Slot) (done : List 
     → AreTracks r ps ss done rest → rest ≡ [] → tracks_from r ps ss ≡ Some done
 tracks_end r ps ss rest done a e =
     a ∙ ap (λ z. with_front done (tracks_from r ps z)) e ∙ ap Some (append-nil done)
+
+-- ---- the track itself
+
+-- a track with other children, enabled
+pub track_joined : (x y z : ItemOf Listed) (c : Listed) (m : List (ItemOf Listed))
+    → is_track x ≡ true → c ≡ listed m → y ≡ deeper (λ l. c) x → z ≡ as_enabled y
+    → z ≡ joined_with x m
+track_joined (Clip x) y z c m h e f g = absurd (cc h)
+track_joined (Gap x) y z c m h e f g = absurd (cc h)
+track_joined (Transition x) y z c m h e f g = absurd (cc h)
+track_joined (Stack x) y z c m h e f g = absurd (cc h)
+track_joined (Track x) y z c m h e f g =
+    g ∙ ap as_enabled f ∙ ap (λ l. Track (record x { enabled = true; children = l })) e
+
+-- another item is joined to nothing
+pub other_joined : (x y : ItemOf Listed) (m : List (ItemOf Listed)) → is_track x ≡ false → y ≡ x
+    → y ≡ joined_with x m
+other_joined (Clip x) y m h e = e
+other_joined (Gap x) y m h e = e
+other_joined (Transition x) y m h e = e
+other_joined (Stack x) y m h e = e
+other_joined (Track x) y m h e = absurd (cc h)

@@ -32,7 +32,7 @@ use Rattle.flat_stack.specs.Inputs.{Tracks, lent, tracks_at, Knows, Updates, slo
 
 -- ---- a look-up
 
-got_map : {A B : Type 0} (f : A → B) (xs : List A) (i : ℕ)
+pub got_map : {A B : Type 0} (f : A → B) (xs : List A) (i : ℕ)
     → slice_get (map f xs) i ≡ option_map f (slice_get xs i)
 got_map f [] zero = refl
 got_map f [] (suc i) = refl
@@ -66,7 +66,7 @@ of_kind (Transition c) kind t = absurd (cc t)
 of_kind (Stack c) kind t = absurd (cc t)
 of_kind (Track c) kind t = refl
 
-same_kind : (a b : List ℕ) → bytes_eq a b ≡ true → a ≡ b
+pub same_kind : (a b : List ℕ) → bytes_eq a b ≡ true → a ≡ b
 same_kind a b h = (bytes_eq-Decides a b).0 h
 
 known_with : (old mid new : Tracks) (l : List (ItemOf Listed)) (x : ItemOf Listed)

@@ -19,7 +19,7 @@ use Rattle.flat_stack.specs.declared.stretches.Stretch.{Stretch}
 use Rattle.flat_stack.specs.Runs.{item_in, given_of, AreRuns, given_by, longer, LeavesRuns, IsAlong}
 use Rattle.edits.proofs.NextStarts.{added_next}
 use Rattle.flat_stack.proofs.RunLemmas.{leaves_first, leaves_more, leaves_all, runs_as}
-use Rattle.pieces.proofs.Tests.{lt_yes, lt_no}
+use Rattle.limits.proofs.IntegerTests.{below-int_lt, above-int_lt}
 
 held_past : (k i : ℕ) (s : ℤ) (l : List (ItemOf Listed)) (n : ℕ) (w : ℤ) → added (take n l) ≤ℤ w
     → holder k i s l w
@@ -185,12 +185,12 @@ longer_other kind x end e = rw e refl
 pub longer_more : (kind : List ℕ) (x : ItemOf Listed) (end n : ℤ) → is_layer kind x ≡ true
     → n ≡ ticks x → end <ℤ n → n ≡ longer kind x end
 longer_more kind x end n e d h =
-    let f = lt_yes end (ticks x) (subst (λ z. end <ℤ z) d h) in rw (e, f) d
+    let f = below-int_lt end (ticks x) (subst (λ z. end <ℤ z) d h) in rw (e, f) d
 
 pub longer_same : (kind : List ℕ) (x : ItemOf Listed) (end n : ℤ) → n ≡ ticks x → n ≤ℤ end
     → end ≡ longer kind x end
 longer_same kind x end n d h =
-    let f = lt_no end (ticks x) (subst (λ z. z ≤ℤ end) d h) in of (is_layer kind x) f
+    let f = above-int_lt end (ticks x) (subst (λ z. z ≤ℤ end) d h) in of (is_layer kind x) f
   where
     of : (b : Bool) → int_lt end (ticks x) ≡ false
         → end ≡ cond (b && int_lt end (ticks x)) (ticks x) end

@@ -14,6 +14,7 @@ pub mod BlockLemmas
 pub mod InputLemmas
 pub mod KnowLemmas
 pub mod SeatLemmas
+pub mod MostLemmas
 pub mod JoinedTracks
 pub mod CountLemmas
 pub mod JoinLemmas

@@ -24,7 +24,8 @@ use Rattle.flat_stack.specs.declared.step_faults.ToolFault.TheVariants.{At, Unso
 use Rattle.flat_stack.specs.Gathered.{IsFew, IsMany, IsConcat, IsConcatFault, unjoined, many, IsChecked, IsCheckFault, Piles, IsStack, IsStackFault, IsGathered, IsUngathered}
 use Rattle.flat_stack.proofs.OneStep.{IsSure, then_sure, names_placed, placed_same, placed_never}
 
-abbrev bares : List Timeline → List Timeline
+-- the timelines without their spare memory
+abbrev pub bares : List Timeline → List Timeline
 bares l = map bare l
 
 -- ---- equal inputs

@@ -9,10 +9,7 @@ use Rattle.flat_stack.specs.Gathered.{IsGathered, IsUngathered}
 use Rattle.flat_stack.specs.Shaped.{IsOnly, IsStraightened, IsTrimmed, IsUntrimmed, IsFlattened, IsUnflat}
 use Rattle.flat_stack.specs.Tooled.{IsShaped, IsCut, IsTooled, IsToolFault, ungathered, untrimmed, unflat}
 use Rattle.flat_stack.proofs.OneStep.{IsSure, Never, then_sure, only_sure, straight_sure, trim_sure, flat_sure}
-use Rattle.flat_stack.proofs.OneGathered.{gathered_sure}
-
-abbrev bares : List Timeline → List Timeline
-bares l = map bare l
+use Rattle.flat_stack.proofs.OneGathered.{bares, gathered_sure}
 
 -- the steps' faults, one step after another
 abbrev KeptStops : ToolAsked → List Timeline → ToolFault → Type 0

@@ -23,16 +23,16 @@ use Rattle.flat_law.proofs.WindowKept.{ticks_is}
 use Rattle.pieces.specs.Short.{IsCuttable}
 use Rattle.pieces.specs.declared.cutting.CutFault.{CutFault}
 use Rattle.pieces.specs.declared.cutting.CutFault.TheVariants as F
-use Rattle.pieces.proofs.Tests.{lt_yes, lt_no, le_yes, le_no}
+use Rattle.limits.proofs.IntegerTests.{below-int_lt, above-int_lt, below-int_le, above-int_le}
 
 -- ---- whether a cut is needed
 
 pub cut_early : (x : ItemOf Listed) (t : ℤ) → t ≤ℤ pos 0 → true ≡ cuts_at x t
-cut_early x t h = let e = le_yes t (pos 0) h in rw e refl
+cut_early x t h = let e = below-int_le t (pos 0) h in rw e refl
 
 pub cut_late : (x : ItemOf Listed) (t n : ℤ) → n ≡ ticks x → n ≤ℤ t → true ≡ cuts_at x t
 cut_late x t n e h =
-    let f : int_le (ticks x) t ≡ true = le_yes (ticks x) t (subst (λ z. z ≤ℤ t) e h) in
+    let f : int_le (ticks x) t ≡ true = below-int_le (ticks x) t (subst (λ z. z ≤ℤ t) e h) in
     rw f (or_true (int_le t (pos 0)))
   where
     or_true : (b : Bool) → true ≡ ((b || true) || is_whole_at x t)
@@ -42,8 +42,8 @@ cut_late x t n e h =
 pub cut_inside : (x : ItemOf Listed) (t n : ℤ) (b : Bool) → n ≡ ticks x → pos 0 <ℤ t → t <ℤ n
     → b ≡ is_whole_at x t → b ≡ cuts_at x t
 cut_inside x t n b e h k w =
-    let f = le_no t (pos 0) h in
-    let g : int_le (ticks x) t ≡ false = le_no (ticks x) t (subst (λ z. t <ℤ z) e k) in
+    let f = above-int_le t (pos 0) h in
+    let g : int_le (ticks x) t ≡ false = above-int_le (ticks x) t (subst (λ z. t <ℤ z) e k) in
     rw (f, g) w
 
 -- ---- up to an instant
@@ -51,23 +51,23 @@ cut_inside x t n b e h k w =
 pub front_all : (r : Rate) (x y : ItemOf Listed) (t n : ℤ) → n ≡ ticks x → n ≤ℤ t → y ≡ x
     → up_to r t x ≡ Some y
 front_all r x y t n e h f =
-    let g : int_lt t (ticks x) ≡ false = lt_no t (ticks x) (subst (λ z. z ≤ℤ t) e h) in
+    let g : int_lt t (ticks x) ≡ false = above-int_lt t (ticks x) (subst (λ z. z ≤ℤ t) e h) in
     rw g (ap Some (sym f))
 
 pub front_cut : (r : Rate) (x y : ItemOf Listed) (t n : ℤ) → n ≡ ticks x → t <ℤ n
     → made r (left_piece x t) ≡ Some y → up_to r t x ≡ Some y
 front_cut r x y t n e h m =
-    let g : int_lt t (ticks x) ≡ true = lt_yes t (ticks x) (subst (λ z. t <ℤ z) e h) in rw g m
+    let g : int_lt t (ticks x) ≡ true = below-int_lt t (ticks x) (subst (λ z. t <ℤ z) e h) in rw g m
 
 -- ---- from an instant on
 
 pub back_all : (r : Rate) (x y : ItemOf Listed) (t : ℤ) → t ≤ℤ pos 0 → y ≡ x
     → from_on r t x ≡ Some y
-back_all r x y t h f = let g = lt_no (pos 0) t h in rw g (ap Some (sym f))
+back_all r x y t h f = let g = above-int_lt (pos 0) t h in rw g (ap Some (sym f))
 
 pub back_cut : (r : Rate) (x y : ItemOf Listed) (t : ℤ) → pos 0 <ℤ t
     → from_on r t x ≡ made r (Rattle.edits.specs.Cuts.right_piece x t)
-back_cut r x y t h = let g = lt_yes (pos 0) t h in rw g refl
+back_cut r x y t h = let g = below-int_lt (pos 0) t h in rw g refl
 
 -- ---- the first piece, to be cut again
 

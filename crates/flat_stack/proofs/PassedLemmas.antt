@@ -35,7 +35,10 @@ use Rattle.flat_law.proofs.Givers.{bare_of}
 use Rattle.flat_stack.specs.Uncut.{is_cut, AreCutTo}
 use Rattle.flat_stack.specs.Passed.{back_of, one_passed, both_lists, passed, IsPut, IsBetween}
 use Rattle.edits.proofs.NextStarts.{added_next}
-use Rattle.pieces.proofs.Tests.{lt_yes, lt_no, le_yes, le_no, lt_is, le_is}
+use Rattle.limits.proofs.IntegerTests.{below-int_lt, above-int_lt, below-int_le, above-int_le, int_lt-true, int_le-true}
+use Rattle.std.proofs.lemmas.Bool.{and_parts, or_parts}
+use Rattle.std.proofs.lemmas.List.{append-nil}
+use Rattle.limits.proofs.IntegerSums.{minus-zero}
 
 -- ---- tests
 
@@ -71,16 +74,16 @@ all_olds r (x ∷ l) = ap (with_first (Some x)) (all_olds r l)
 -- ---- one item
 
 back_stop : (r : Rate) (a : ℤ) (y : ItemOf Listed) → a ≤ℤ pos 0 → back_of r a y ≡ Some (y ∷ [])
-back_stop r a y h = let e = lt_no (pos 0) a h in rw e refl
+back_stop r a y h = let e = above-int_lt (pos 0) a h in rw e refl
 
 back_whole : (r : Rate) (a : ℤ) (y : ItemOf Listed) → pos 0 <ℤ a → ticks y ≤ℤ a
     → back_of r a y ≡ Some []
-back_whole r a y h k = let e = lt_yes (pos 0) a h in let f = le_yes (ticks y) a k in rw (e, f) refl
+back_whole r a y h k = let e = below-int_lt (pos 0) a h in let f = below-int_le (ticks y) a k in rw (e, f) refl
 
 back_inside : (r : Rate) (a : ℤ) (y : ItemOf Listed) → pos 0 <ℤ a → a <ℤ ticks y
     → back_of r a y ≡ option_map (λ z. z ∷ []) (made r (right_piece y a))
 back_inside r a y h k =
-    let e = lt_yes (pos 0) a h in let f = le_no (ticks y) a k in rw (e, f) refl
+    let e = below-int_lt (pos 0) a h in let f = above-int_le (ticks y) a k in rw (e, f) refl
 
 back_late : (l : List (ItemOf Listed)) (a : ℤ) → a ≤ℤ pos 0 → back l a ≡ olds l
 back_late [] a h = refl
@@ -88,19 +91,19 @@ back_late (x ∷ l) a h = back_before x l a h
 
 passed_none : (r : Rate) (a b : ℤ) (l : List (ItemOf Listed)) → b ≤ℤ pos 0 → passed r a b l ≡ Some []
 passed_none r a b [] h = refl
-passed_none r a b (x ∷ l) h = let e = lt_no (pos 0) b h in rw e refl
+passed_none r a b (x ∷ l) h = let e = above-int_lt (pos 0) b h in rw e refl
 
 passed_step : (r : Rate) (a b : ℤ) (x : ItemOf Listed) (l : List (ItemOf Listed)) → pos 0 <ℤ b
     → passed r a b (x ∷ l)
     ≡ both_lists (one_passed r a b x) (passed r (a -ℤ ticks x) (b -ℤ ticks x) l)
-passed_step r a b x l h = let e = lt_yes (pos 0) b h in rw e refl
+passed_step r a b x l h = let e = below-int_lt (pos 0) b h in rw e refl
 
 up_whole : (r : Rate) (b : ℤ) (x : ItemOf Listed) → ticks x ≤ℤ b → up_to r b x ≡ Some x
-up_whole r b x h = let e = lt_no b (ticks x) h in rw e refl
+up_whole r b x h = let e = above-int_lt b (ticks x) h in rw e refl
 
 up_inside : (r : Rate) (b : ℤ) (x : ItemOf Listed) → b <ℤ ticks x
     → up_to r b x ≡ made r (left_piece x b)
-up_inside r b x h = let e = lt_yes b (ticks x) h in rw e refl
+up_inside r b x h = let e = below-int_lt b (ticks x) h in rw e refl
 
 -- ---- the front's back, in one pass
 
@@ -172,9 +175,9 @@ two_steps (Some y) f z e = (y, refl, e)
 from_list : (r : Rate) (a : ℤ) (y z : ItemOf Listed) → (pos 0 <ℤ a → a <ℤ ticks y)
     → from_on r a y ≡ Some z → back_of r a y ≡ Some (z ∷ [])
 from_list r a y z h e = by_lt_z (pos 0) a
-    (λ k. let f = lt_yes (pos 0) a k in
+    (λ k. let f = below-int_lt (pos 0) a k in
     back_inside r a y k (h k) ∙ ap (option_map (λ w. w ∷ [])) (rw f at e))
-    (λ k. let f = lt_no (pos 0) a k in
+    (λ k. let f = above-int_lt (pos 0) a k in
     back_stop r a y k ∙ ap (λ w. Some (w ∷ [])) (same_some y z (rw f at e)))
 
 -- a part is put
@@ -190,33 +193,25 @@ part_put r a b x z old new h e f =
       put = f;
     }
 
-none_more : (l : List (ItemOf Listed)) → l ++ [] ≡ l
-none_more [] = refl
-none_more (x ∷ l) = ap (λ m. x ∷ m) (none_more l)
-
-and_true : (a b : Bool) → (a && b) ≡ true → (a ≡ true) × (b ≡ true)
-and_true true b e = (refl, e)
-and_true false b e = absurd (cc e)
-
 -- nothing is put of what ends before the window
 pub none_put : (r : Rate) (a b : ℤ) (x : ItemOf Listed) (c : Bool) (old new : List (ItemOf Listed))
     → c ≡ (int_lt (pos 0) a && int_le (ticks x) a) → c ≡ true → a <ℤ b → new ≡ old
     → IsPut r a b x old new
 none_put r a b x c old new e f wide g =
-    let t = and_true (int_lt (pos 0) a) (int_le (ticks x) a) (sym e ∙ f) in
-    let k = le_is (ticks x) a t.1 in
+    let t = and_parts (int_lt (pos 0) a) (int_le (ticks x) a) (sym e ∙ f) in
+    let k = int_le-true (ticks x) a t.1 in
     record {
       items = [];
       are = ap (option_and_then (back_of r a)) (up_whole r b x (omega (arith, ints, k, wide)))
-          ∙ back_whole r a x (lt_is (pos 0) a t.0) k;
-      put = g ∙ sym (none_more old);
+          ∙ back_whole r a x (int_lt-true (pos 0) a t.0) k;
+      put = g ∙ sym (append-nil old);
     }
 
 -- what doesn't end before it holds its first instant
 pub not_over : (a : ℤ) (x : ItemOf Listed) (c : Bool)
     → c ≡ (int_lt (pos 0) a && int_le (ticks x) a) → c ≡ false → pos 0 <ℤ a → a <ℤ ticks x
 not_over a x c e f h =
-    let g = lt_yes (pos 0) a h in
+    let g = below-int_lt (pos 0) a h in
     let k : int_le (ticks x) a ≡ false = rw g at (sym e ∙ f) in
     gt_is (ticks x) a k
   where
@@ -225,16 +220,10 @@ not_over a x c e f h =
 
 -- ---- the loop over a track's children
 
-from_zero : (z : ℤ) → z ≡ z -ℤ pos 0
-from_zero z = omega (arith, ints)
-
-less_more : (a s n : ℤ) → (a -ℤ s) -ℤ n ≡ a -ℤ (s +ℤ n)
-less_more a s n = omega (arith, ints)
-
 pub between_first : (r : Rate) (l done rest : List (ItemOf Listed)) (a b : ℤ) → done ≡ [] → rest ≡ l
     → IsBetween r l a b done rest (pos 0) 0
 between_first r l _ rest a b d e = subst (λ m. IsBetween r l a b m rest (pos 0) 0) (sym d) (record {
-  is = ap₂ (λ y z. passed r y z (stripped l y z)) (from_zero a) (from_zero b)
+  is = ap₂ (λ y z. passed r y z (stripped l y z)) (minus-zero a) (minus-zero b)
       ∙ ap (λ m. passed r (a -ℤ pos 0) (b -ℤ pos 0) (stripped m (a -ℤ pos 0) (b -ℤ pos 0))) (sym e)
       ∙ sym (nothing_first _);
   start = refl;
@@ -269,16 +258,11 @@ left_out x l a b e = cases (is_stripped a a (overlap_of x))
       z,
     ))
 
-neither : (a b : Bool) → (a || b) ≡ false → (a ≡ false) × (b ≡ false)
-neither false false e = (refl, refl)
-neither false true e = absurd (cc e)
-neither true b e = absurd (cc e)
-
 pub kept_in : (x : ItemOf Listed) (l : List (ItemOf Listed)) (a b : ℤ)
     → (is_stripped a a (overlap_of x) || is_stripped b b (overlap_of x)) ≡ false
     → stripped (x ∷ l) a b ≡ x ∷ stripped l (a -ℤ ticks x) (b -ℤ ticks x)
 kept_in x l a b e =
-    let n = neither (is_stripped a a (overlap_of x)) (is_stripped b b (overlap_of x)) e in
+    let n = or_parts (is_stripped a a (overlap_of x)) (is_stripped b b (overlap_of x)) e in
     ap (λ m. strip m b b) (in_first x l a a n.0)
     ∙ in_first x (strip l (a -ℤ ticks x) (a -ℤ ticks x)) b b n.1
 
@@ -334,12 +318,12 @@ pub both_cut : (l : List (ItemOf Listed)) (a b at : ℤ) (i : ℕ) (x : ItemOf L
     → is_cut l a b i x ≡ true → at ≡ added (take i l)
     → (cuts_at x (a -ℤ at) ≡ true) × (cuts_at x (b -ℤ at) ≡ true)
 both_cut l a b at i x e s =
-    and_true (cuts_at x (a -ℤ at)) (cuts_at x (b -ℤ at))
+    and_parts (cuts_at x (a -ℤ at)) (cuts_at x (b -ℤ at))
     (ap (λ z. cuts_at x (a -ℤ z) && cuts_at x (b -ℤ z)) s ∙ e)
 
 done_alone : (done : List (ItemOf Listed)) (o : Option (List (ItemOf Listed))) → o ≡ Some []
     → both_lists (Some done) o ≡ Some done
-done_alone done o e = ap (both_lists (Some done)) e ∙ ap Some (none_more done)
+done_alone done o e = ap (both_lists (Some done)) e ∙ ap Some (append-nil done)
 
 pub between_stop : (r : Rate) (l rest done : List (ItemOf Listed)) (a b at : ℤ) (i : ℕ)
     → IsBetween r l a b done rest at i → b ≤ℤ at → passed r a b (stripped l a b) ≡ Some done
@@ -362,14 +346,14 @@ pub window_early : (r : Rate) (a b n : ℤ) (l : List (ItemOf Listed)) → n ≡
     → window_of r a b (stripped l a b) ≡ Some []
 window_early r a b n l e h =
     let f : int_le (added (stripped l a b)) a ≡ true =
-    le_yes (added (stripped l a b)) a (subst (λ z. z ≤ℤ a) (e ∙ sym (added_stripped l a b)) h) in
+    below-int_le (added (stripped l a b)) a (subst (λ z. z ≤ℤ a) (e ∙ sym (added_stripped l a b)) h) in
     rw f refl
 
 pub window_made : (r : Rate) (a b n : ℤ) (l m : List (ItemOf Listed)) → n ≡ added l → a <ℤ n
     → passed r a b (stripped l a b) ≡ Some m → window_of r a b (stripped l a b) ≡ Some m
 window_made r a b n l m e h p =
     let f : int_le (added (stripped l a b)) a ≡ false =
-    le_no (added (stripped l a b)) a (subst (λ z. a <ℤ z) (e ∙ sym (added_stripped l a b)) h) in
+    above-int_le (added (stripped l a b)) a (subst (λ z. a <ℤ z) (e ∙ sym (added_stripped l a b)) h) in
     rw f (sym (passed_is r a b (stripped l a b)) ∙ p)
 
 -- ---- all tracks

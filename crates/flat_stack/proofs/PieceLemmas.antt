@@ -159,17 +159,6 @@ parts_known kind l parts all s =
 
 -- ---- the item that a part becomes
 
-pub gap_near : (n : ℤ) → pos 0 ≤ℤ n → n ≤ℤ pos 705600000000000000000000
-    → is_far (new_gap n) ≡ true → ⊥
-gap_near n low high e = never (is_far (new_gap n)) near e
-  where
-    never : (b : Bool) → b ≡ false → b ≡ true → ⊥
-    never b f g = cc (sym f ∙ g)
-
-    near : is_far (new_gap n) ≡ false
-    near =
-        let e = range_yes n (omega (arith, ints, low)) high in rw e refl
-
 pub gap_is : (r : Rate) (l : List (ItemOf Listed)) (p : Part) (n : ℤ) (y : ItemOf Listed)
     → p.given ≡ None → n ≡ p.to -ℤ p.from → made r (new_gap n) ≡ Some y
     → piece_item r (piece_of l p) ≡ Some y

@@ -1,6 +1,6 @@
 -- The root children of inputs, one input after another.
-use Rattle.std.proofs.Common.{◌≡◌, sym, ap, ◌∙◌, ℕ, ◌+◌, ◌≤◌, List, [], ◌∷◌, ◌++◌, Some, take}
-use Rattle.std.specs.Prelude.{slice_get, flat_map, length, IfOk}
+use Rattle.std.proofs.Common.{◌≡◌, sym, ap, ◌∙◌, ℕ, ◌+◌, ◌≤◌, List, [], ◌∷◌, ◌++◌, Some, take, arith}
+use Rattle.std.specs.Prelude.{slice_get, slice_index_or, flat_map, length, IfOk}
 use Rattle.std.specs.declared.result.Result.{Result}
 use Rattle.std.proofs.lemmas.List.{flat_map_more, take_all}
 use Rattle.std.proofs.lemmas.Result.{IfOk-weaker}
@@ -40,3 +40,10 @@ piled_ok o inputs i first all past a f e =
     IfOk-weaker o (λ r. bare r ≡ bare (with_roots all first))
     (λ r. (t : Timeline) (more : List Timeline) → inputs ≡ t ∷ more → IsPiled t more r)
     (λ r same t more is. all_piled inputs more i first t r all past a f same is) e
+
+-- a list of one element is what is taken from its front
+pub only_one : {A : Type 0} (l : List A) (x : A) → length l ≡ 1 → x ≡ slice_index_or l 0 x
+    → l ≡ x ∷ []
+only_one [] x e f = absurd (omega (arith, e))
+only_one (y ∷ []) x e f = ap (λ z. z ∷ []) (sym f)
+only_one (y ∷ z ∷ l) x e f = absurd (omega (arith, e))

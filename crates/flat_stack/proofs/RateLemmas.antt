@@ -8,9 +8,7 @@ use Rattle.coord.specs.Keys.{frame_rate}
 use Rattle.coord.specs.Programs.{record_rate}
 use Rattle.edits.specs.After.{rate_of}
 use Rattle.edits.proofs.RecordRates.{rate_is}
-
-by_frames : (a b : Rate) → frame_rate a ≡ frame_rate b → a ≡ b
-by_frames a b e = same_rate a b (ap (λ (r : FrameRate). r.num) e) (ap (λ (r : FrameRate). r.den) e)
+use Rattle.coord.proofs.FrameRates.{by_frames}
 
 pub flat_rate_is : (t : Timeline) (a : Rate) → frame_rate a ≡ record_rate t → a ≡ rate_of t
 flat_rate_is t a e = by_frames a (rate_of t) (e ∙ sym (rate_is t))

@@ -15,7 +15,7 @@ use Rattle.flat.specs.Built.{IsOne}
 use Rattle.flat_stack.specs.declared.stretches.Given.{Given}
 use Rattle.flat_stack.specs.declared.stretches.Stretch.{Stretch}
 use Rattle.flat_stack.specs.Runs.{given_of, AreRuns, upper_first, behind, LeavesRuns}
-use Rattle.pieces.proofs.Tests.{le_is}
+use Rattle.limits.proofs.IntegerTests.{int_le-true}
 
 -- ---- tracks by halves
 
@@ -140,7 +140,7 @@ least_first s t = cases (int_le s.to t.to)
 
 least_second : (s t : Stretch) → (upper_first s t).to ≤ℤ t.to
 least_second s t = cases (int_le s.to t.to)
-    (λ e. let k = le_is s.to t.to e in rw e k) (λ e. rw e (omega (arith, ints)))
+    (λ e. let k = int_le-true s.to t.to e in rw e k) (λ e. rw e (omega (arith, ints)))
 
 -- what is left of a list from an instant within its first stretch on
 pub left_behind : (l : List (ItemOf Listed)) (g : ℤ → Option Giver) (end at to : ℤ) (i : ℕ) (s : Stretch)
@@ -148,7 +148,7 @@ pub left_behind : (l : List (ItemOf Listed)) (g : ℤ → Option Giver) (end at 
     → AreRuns l g end at (drop i all) → at <ℤ to → to ≤ℤ s.to
     → AreRuns l g end to (drop (behind i s to) all)
 left_behind l g end at to i s all rest e f r low high = cases (int_le s.to to)
-    (λ k. let m : s.to ≡ to = same s.to to high (le_is s.to to k) in
+    (λ k. let m : s.to ≡ to = same s.to to high (int_le-true s.to to k) in
     rw k (subst (AreRuns l g end to) (sym f) (subst (λ z. AreRuns l g end z rest) m first.3)))
     (λ k. let m = gt_is s.to to k in
     rw k (subst (AreRuns l g end to) (sym e)

@@ -23,7 +23,7 @@ new_append (m ∷ a) l s e f =
     both true g h = h g
     both false g h = g
 
-lists_more : (ps : List Part) (i : ℕ) (p : Part) → slice_get ps i ≡ Some p
+pub lists_more : (ps : List Part) (i : ℕ) (p : Part) → slice_get ps i ≡ Some p
     → take (i + 1) (lists_of ps) ≡ take i (lists_of ps) ++ list_of p ∷ []
 lists_more ps i p e = taken_more (lists_of ps) i (list_of p) (got ps i p e)
   where

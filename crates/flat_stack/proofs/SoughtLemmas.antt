@@ -4,28 +4,14 @@ use Rattle.std.specs.Prelude.{nat_lt, IfSome}
 use Rattle.coord.specs.Soundness.{Precedes}
 use Rattle.flat.specs.declared.faults.Cause.{Cause}
 use Rattle.flat.specs.Blocked.{IsFirst, IsFree}
-use Rattle.std.proofs.lemmas.Bool.{and_parts}
+use Rattle.std.proofs.lemmas.Bool.{and_parts, eqb-true, ltb-false, ltb-true, or_cases, or_parts}
 use Rattle.flat_stack.specs.declared.fault_places.Spot.{Spot}
 use Rattle.flat_stack.specs.Spots.{inner_place, spot_place, IsNear, Under, StartsBelow, IsFreeTo}
 use Rattle.flat_stack.specs.Sought.{child_before, is_before, earlier, IsSought}
 use Rattle.flat_stack.proofs.FirstLemmas.{below_or, free_all, first_under}
 use Rattle.flat_stack.proofs.PlaceLemmas.{none_before, starts_later}
-use Rattle.flat_stack.proofs.TrackPlaces.{neither}
 
 -- ---- tests
-
-either : (a b : Bool) → (a || b) ≡ true → (a ≡ true) ⊎ (b ≡ true)
-either true b e = inl refl
-either false b e = inr e
-
-lt_is : (a b : ℕ) → nat_lt a b ≡ true → a < b
-lt_is a b e = grind arith
-
-lt_not : (a b : ℕ) → nat_lt a b ≡ false → b ≤ a
-lt_not a b e = grind arith
-
-same_is : (a b : ℕ) → (a == b) ≡ true → a ≡ b
-same_is a b e = grind arith
 
 same_yes : (a b : ℕ) → a ≡ b → (a == b) ≡ true
 same_yes a b e = grind arith
@@ -55,7 +41,7 @@ inner_before None d p e h = absurd (none_before p h)
 inner_before (Some i) None p e h = absurd (cc e)
 inner_before (Some i) (Some j) [] e h = tt
 inner_before (Some i) (Some j) (k ∷ p) e h =
-    let less = lt_is i j e in
+    let less = ltb-true i j e in
     elim h [
       | inl a ↦ inl (omega (arith, a, less))
       | inr b ↦ absurd (none_before p b.1)
@@ -68,7 +54,7 @@ inner_behind None (Some j) p e h = absurd (cc e)
 inner_behind (Some i) None p e h = absurd (none_before p h)
 inner_behind (Some i) (Some j) [] e h = tt
 inner_behind (Some i) (Some j) (k ∷ p) e h =
-    let least = lt_not i j e in
+    let least = ltb-false i j e in
     elim h [
       | inl a ↦ inl (omega (arith, a, least))
       | inr b ↦ absurd (none_before p b.1)
@@ -78,16 +64,16 @@ before_both : (s t : Spot) (p : List ℕ) → is_before s t ≡ true → Precede
     → Precedes p (spot_place t)
 before_both s t [] e h = tt
 before_both s t (i ∷ p) e h =
-    elim (either (nat_lt s.track t.track) ((s.track == t.track) && child_before s.child t.child) e) [
+    elim (or_cases (nat_lt s.track t.track) ((s.track == t.track) && child_before s.child t.child) e) [
       | inl a ↦
-          let less = lt_is s.track t.track a in
+          let less = ltb-true s.track t.track a in
           elim h [
             | inl b ↦ inl (omega (arith, b, less))
             | inr b ↦ let same = b.0 in inl (omega (arith, same, less))
           ]
       | inr a ↦
           let two = and_parts (s.track == t.track) (child_before s.child t.child) a in
-          let same = same_is s.track t.track two.0 in
+          let same = eqb-true s.track t.track two.0 in
           elim h [
             | inl b ↦ inl (omega (arith, b, same))
             | inr b ↦ inr (b.0 ∙ same, inner_before s.child t.child p two.1 b.1)
@@ -98,8 +84,8 @@ before_first : (s t : Spot) (p : List ℕ) → is_before s t ≡ false → Prece
     → Precedes p (spot_place s)
 before_first s t [] e h = tt
 before_first s t (i ∷ p) e h =
-    let two = neither (nat_lt s.track t.track) ((s.track == t.track) && child_before s.child t.child) e in
-    let least = lt_not s.track t.track two.0 in
+    let two = or_parts (nat_lt s.track t.track) ((s.track == t.track) && child_before s.child t.child) e in
+    let least = ltb-false s.track t.track two.0 in
     elim h [
       | inl a ↦ inl (omega (arith, a, least))
       | inr b ↦ of b (below_or t.track s.track (omega (arith, least))) two.1

@@ -9,6 +9,7 @@ use Rattle.flat.specs.Straight.{without}
 use Rattle.flat_law.proofs.Flat.{items-listed}
 use Rattle.flat_law.proofs.Straight.{whole_item, straight-items, step_out, step_in}
 use Rattle.flat_stack.specs.Straighten.{straight_children, straight_items}
+use Rattle.std.proofs.lemmas.List.{append-nil}
 
 -- with the copies so far and those of the rest all are copied
 abbrev pub Copied : Bool → List (ItemOf Listed) → List (ItemOf Listed) → List (ItemOf Listed)
@@ -37,10 +38,6 @@ copied_less b c done new rest more all x k r e f n =
     ∙ ap (λ d. done ++ cond d (straight_items b more) (whole_item x ∷ straight_items b more))
     (sym (sym e ∙ f))
     ∙ ap (λ l. done ++ straight_items b l) (sym r) ∙ k
-
-none_more : (l : List (ItemOf Listed)) → l ++ [] ≡ l
-none_more [] = refl
-none_more (x ∷ l) = ap (λ m. x ∷ m) (none_more l)
 
 kept_kind : (x : ItemOf Listed) → is_transition (whole_item x) ≡ is_transition x
 kept_kind (Clip c) = refl
@@ -71,5 +68,5 @@ whole_children true l =
 pub copied_all : (b : Bool) (done rest : List (ItemOf Listed)) (l made : Listed)
     → Copied b done rest (items_of l) → rest ≡ [] → made ≡ listed done → made ≡ straight_children b l
 copied_all b done rest l made k r e =
-    e ∙ ap listed (sym (none_more done) ∙ ap (λ m. done ++ straight_items b m) (sym r) ∙ k)
+    e ∙ ap listed (sym (append-nil done) ∙ ap (λ m. done ++ straight_items b m) (sym r) ∙ k)
     ∙ whole_children b l

@@ -9,30 +9,23 @@ use Rattle.flat.specs.Flattened.{has_kind, in_place}
 use Rattle.coord.proofs.Members.{same_some}
 use Rattle.flat_stack.specs.Placed.{IsFirstOf}
 use Rattle.flat_stack.proofs.CopyLemmas.{taken_more}
+use Rattle.std.proofs.lemmas.Bool.{or_from, or_parts}
 
 -- ---- one child more
 
-either_no : (a b : Bool) → a ≡ false → b ≡ false → (a || b) ≡ false
-either_no a b e f = rw (e, f) refl
-
-pub neither : (a b : Bool) → (a || b) ≡ false → (a ≡ false) × (b ≡ false)
-neither false false e = (refl, refl)
-neither false true e = absurd (cc e)
-neither true b e = absurd (cc e)
-
-none_more : (kind : List ℕ) (l : List (ItemOf Listed)) (x : ItemOf Listed) → has_kind kind l ≡ false
+no_kind_more : (kind : List ℕ) (l : List (ItemOf Listed)) (x : ItemOf Listed) → has_kind kind l ≡ false
     → is_of kind x ≡ false → has_kind kind (l ++ x ∷ []) ≡ false
-none_more kind [] x e f = either_no (is_of kind x) false f refl
-none_more kind (y ∷ l) x e f =
-    let n = neither (is_of kind y) (has_kind kind l) e in
-    either_no (is_of kind y) (has_kind kind (l ++ x ∷ [])) n.0 (none_more kind l x n.1 f)
+no_kind_more kind [] x e f = or_from (is_of kind x) false f refl
+no_kind_more kind (y ∷ l) x e f =
+    let n = or_parts (is_of kind y) (has_kind kind l) e in
+    or_from (is_of kind y) (has_kind kind (l ++ x ∷ [])) n.0 (no_kind_more kind l x n.1 f)
 
 -- ---- the first track of a kind
 
 pub none_next : (kind : List ℕ) (l : List (ItemOf Listed)) (i : ℕ) (x : ItemOf Listed)
     → has_kind kind (take i l) ≡ false → slice_get l i ≡ Some x → is_of kind x ≡ false
     → has_kind kind (take (i + 1) l) ≡ false
-none_next kind l i x e there f = ap (has_kind kind) (taken_more l i x there) ∙ none_more kind (take i l) x e f
+none_next kind l i x e there f = ap (has_kind kind) (taken_more l i x there) ∙ no_kind_more kind (take i l) x e f
 
 -- ---- the others
 
@@ -82,16 +75,16 @@ place_is kind flat [] (suc i) x e f g = absurd (cc e)
 place_is kind flat (y ∷ l) zero x e f g =
     let h : is_of kind y ≡ true = ap (is_of kind) (same_some y x e) ∙ f in rw h refl
 place_is kind flat (y ∷ l) (suc i) x e f g =
-    let n = neither (is_of kind y) (has_kind kind (take i l)) g in
+    let n = or_parts (is_of kind y) (has_kind kind (take i l)) g in
     let h = n.0 in
     rw h (ap (λ m. y ∷ m) (place_is kind flat l i x e f n.1))
 
-pub placed : (kind : List ℕ) (flat : ItemOf Listed) (l front before all : List (ItemOf Listed))
-    (i : ℕ) → IsFirstOf kind l i → front ≡ take i l → before ≡ front ++ flat ∷ []
+pub placed : (kind : List ℕ) (flat : ItemOf Listed) (l before all : List (ItemOf Listed))
+    (i : ℕ) → IsFirstOf kind l i → before ≡ take i l ++ flat ∷ []
     → all ≡ before ++ filter (λ x. not (is_of kind x)) (drop (i + 1) l)
     → all ≡ in_place kind flat l
-placed kind flat l front before all i h e f g =
-    g ∙ ap (λ m. m ++ others kind (drop (i + 1) l)) (f ∙ ap (λ m. m ++ flat ∷ []) e)
+placed kind flat l before all i h e g =
+    g ∙ ap (λ m. m ++ others kind (drop (i + 1) l)) e
     ∙ append_assoc (take i l) (flat ∷ []) (others kind (drop (i + 1) l))
     ∙ ap (λ n. take i l ++ flat ∷ others kind (drop n l)) (let k : i + 1 ≡ suc i = omega arith in k)
     ∙ sym (place_is kind flat l i h.item h.there h.of h.before)

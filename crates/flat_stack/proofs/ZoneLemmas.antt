@@ -19,10 +19,10 @@ use Rattle.edits.specs.Finest.{in_range, rate_24}
 use Rattle.edits_law.proofs.Pieces.{sum-times}
 use Rattle.edits.specs.After.{clip_rate, rate_of, frame_of}
 use Rattle.flat.specs.Windowed.{from_start, is_window}
-use Rattle.edits_law.proofs.Accepted.{times_low}
+use Rattle.limits.proofs.IntegerSums.{multiple-from_zero}
 use Rattle.edits_law.proofs.EditShown.{frame_low}
 use Rattle.flat_stack.specs.Ends.{first_ticks, IsZone}
-use Rattle.pieces.proofs.Tests.{lt_no, lt_yes, le_no, le_yes}
+use Rattle.limits.proofs.IntegerTests.{above-int_lt, below-int_lt, above-int_le, below-int_le}
 use Rattle.pieces.proofs.SameTimes.{range_yes}
 
 -- ---- a timeline that starts on a frame
@@ -144,11 +144,11 @@ both_yes : (a b : Bool) → a ≡ true → b ≡ true → (a && b) ≡ true
 both_yes a b e f = rw (e, f) refl
 
 pub no_order : (t : Timeline) (a b : ℤ) → b ≤ℤ a → is_window t a b ≡ false
-no_order t a b h = first_no _ _ (first_no _ _ (lt_no a b h))
+no_order t a b h = first_no _ _ (first_no _ _ (above-int_lt a b h))
 
 pub no_start : (t : Timeline) (a b g : ℤ) → g ≡ start_frame t → a <ℤ g → is_window t a b ≡ false
 no_start t a b g e h =
-    first_no _ _ (second_no _ _ (le_no (start_frame t) a (subst (λ z. a <ℤ z) e h)))
+    first_no _ _ (second_no _ _ (above-int_le (start_frame t) a (subst (λ z. a <ℤ z) e h)))
 
 pub no_first : (t : Timeline) (a b : ℤ) (r : Rate) → r ≡ rate_of t
     → in_range (a *ℤ pos (frame r.num r.den)) ≡ false → is_window t a b ≡ false
@@ -190,14 +190,14 @@ zone_is t a b first g r start end h e k f order begins s q n =
     let low = start.low in let high = start.high in let last = end.low in let most = end.high in
     record {
       window = both_yes _ _
-          (both_yes _ _ (lt_yes a b order) (le_yes (start_frame t) a (subst (λ z. z ≤ℤ a) k begins)))
+          (both_yes _ _ (below-int_lt a b order) (below-int_le (start_frame t) a (subst (λ z. z ≤ℤ a) k begins)))
           (both_yes _ _ (range_yes (a *ℤ frame_of t) (omega (arith, ints, at, low)) (omega (arith, ints, at, high)))
           (range_yes (b *ℤ frame_of t) (omega (arith, ints, to, last)) (omega (arith, ints, to, most))));
       ticks = at;
       rate = q ∙ e;
       from_is = from_a;
       to_is = from_b;
-      low = subst (λ z. pos 0 ≤ℤ z) (sym from_a) (times_low (a -ℤ start_frame t) (frame (rate_of t).num (rate_of t).den) (let m = subst (λ z. z ≤ℤ a) k begins in omega (arith, ints, m)));
+      low = subst (λ z. pos 0 ≤ℤ z) (sym from_a) (multiple-from_zero (a -ℤ start_frame t) (frame (rate_of t).num (rate_of t).den) (let m = subst (λ z. z ≤ℤ a) k begins in omega (arith, ints, m)));
       wide = omega (arith, ints, at, to, apart);
       high = omega (arith, ints, most, near.0, f);
     }

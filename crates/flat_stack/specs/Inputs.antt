@@ -1,5 +1,5 @@
 -- Inputs with their tracks by kind, and the tracks that they are joined to, as the code keeps them.
-use Rattle.std.specs.Prelude.{◌≡◌, ℕ, suc, ◌+◌, ◌<◌, ◌^◌, ◌-ℤ◌, pos, ◌≤ℤ◌, ◌≤◌, cond, not, Bool, List, [], ◌∷◌, ◌++◌, filter, map, Option, Some, None, slice_get, option_map}
+use Rattle.std.specs.Prelude.{◌≡◌, ℕ, suc, ◌+◌, ◌<◌, ◌^◌, ◌-ℤ◌, pos, ◌≤ℤ◌, ◌≤◌, max, length, cond, not, Bool, true, List, [], ◌∷◌, ◌++◌, filter, map, Option, Some, None, slice_get, option_map}
 use Rattle.std.specs.BTreeMap.{BTreeMap, get_by}
 use Rattle.std.specs.Cmp.Lexicographic.{slice_cmp}
 use Rattle.std.specs.Map.{update}
@@ -11,10 +11,13 @@ use denote.Ref.{Bor}
 use Rattle.limits.specs.Limits.{most_ticks}
 use Rattle.tick_time.specs.declared.rates.Rate.{Rate}
 use Rattle.otio_model.specs.declared.compositions.ItemOf.{ItemOf}
+use Rattle.otio_model.specs.declared.compositions.ItemOf.TheVariants.{Clip, Gap, Transition, Stack}
+use Rattle.otio_model.specs.declared.compositions.ItemOf.TheVariants.{Track}
 use Rattle.otio_model.specs.declared.compositions.Listed.{Listed}
 use Rattle.otio_model.specs.declared.timelines.Timeline.{Timeline}
 use Rattle.otio_model.specs.Timelines.{bare}
 use Rattle.otio_model.specs.Counts.{count, count_of}
+use Rattle.otio_model.specs.Lengths.{or_zero}
 use Rattle.coord.specs.Programs.{kind_of}
 use Rattle.coord.specs.Soundness.{AreFaultless}
 use Rattle.edits.specs.Children.{Child, Old, Ranged, all_made, with_first}
@@ -59,6 +62,29 @@ slot_of s = record { kind = kind_of s.first.now; index = s.index; first = s.firs
 abbrev pub slots_of : List Seat → List Slot
 slots_of l = map slot_of l
 
+-- ---- the greatest number of tracks of a kind
+
+abbrev pub Most : Type 0
+Most = BTreeMap (Bor (List ℕ)) ℕ
+
+-- the number that a map has for a kind; 0 where it has none
+abbrev pub most_at : List ℕ → Most → ℕ
+most_at kind m = or_zero (get_by (λ k. slice_cmp nat_cmp kind k.now) m)
+
+-- the greatest number of tracks of a kind in one of some lists
+abbrev pub most_in : List ℕ → List (List (ItemOf Listed)) → ℕ
+most_in kind [] = 0
+most_in kind (l ∷ lists) = max (length (filter (is_of kind) l)) (most_in kind lists)
+
+-- the map has it for each kind
+abbrev pub HasMost : Most → List (List (ItemOf Listed)) → Type 0
+HasMost m lists = (kind : List ℕ) → most_at kind m ≡ most_in kind lists
+
+-- at one kind the new map has this number, and at all others what the old one has
+abbrev pub Raises : List ℕ → ℕ → Most → Most → Type 0
+Raises kind n old new = (q : List ℕ) → get_by (λ k. slice_cmp nat_cmp q k.now) new
+    ≡ update bytes_eq (λ ds. get_by (λ k. slice_cmp nat_cmp ds k.now) old) kind (Some n) q
+
 -- ---- inputs
 
 abbrev pub list_of : Part → List (ItemOf Listed)
@@ -68,7 +94,7 @@ abbrev pub lists_of : List Part → List (List (ItemOf Listed))
 lists_of ps = map list_of ps
 
 -- an input of plain tracks without a fault, with what is kept of it
-pub record IsPart (p : Part) : Type 0 where
+pub record IsPreparedInput (p : Part) : Type 0 where
   pub plain : ArePlainTracks (list_of p)
   pub few : count p.input.now.tracks.children < 2 ^ 32
   pub faultless : AreFaultless p.input.now.tracks.children
@@ -78,7 +104,7 @@ pub record IsPart (p : Part) : Type 0 where
   pub high : p.stretch ≤ℤ pos most_ticks
 
 abbrev pub AreParts : List Part → Type 0
-AreParts ps = (i : ℕ) (p : Part) → slice_get ps i ≡ Some p → IsPart p
+AreParts ps = (i : ℕ) (p : Part) → slice_get ps i ≡ Some p → IsPreparedInput p
 
 -- each is as long as frames of so many ticks ask
 abbrev pub AreStretched : ℕ → List Part → Type 0
@@ -112,6 +138,14 @@ children_from s (p ∷ ps) = piece s p (not (is_empty ps)) ++ children_from s ps
 abbrev pub with_front : List (ItemOf Listed) → Option (List (ItemOf Listed))
     → Option (List (ItemOf Listed))
 with_front l o = option_map (λ m. l ++ m) o
+
+-- the item, enabled where it is a track
+abbrev pub as_enabled : ItemOf Listed → ItemOf Listed
+as_enabled (Clip c) = Clip c
+as_enabled (Gap g) = Gap g
+as_enabled (Transition t) = Transition t
+as_enabled (Stack s) = Stack s
+as_enabled (Track t) = Track (record t { enabled = true })
 
 -- what is added to a list: what children are made
 pub record IsAdded (r : Rate) (c : List Child) (old new : List (ItemOf Listed)) : Type 0 where

@@ -24,7 +24,7 @@ use std::alloc::Global;
 
 /// The timelines one after another, track by track, with at most 100 000 items. An error tells the
 /// first input that can't be joined ([`ToolFault::At`]), or else [`ToolFault::Items`]; or it is
-/// want of memory. Whether what comes of them is sound isn't asked.
+/// [`ToolFault::Memory`] where memory runs out. Whether what comes of them is sound isn't asked.
 pub fn concatenated(alloc: Global, inputs: &[Timeline]) -> Result<Timeline, ToolFault>
     requires some { inputs.now ≢ [] }
     requires ready { All IsReady inputs.now }
@@ -116,10 +116,7 @@ fn the_one(inputs: Vec<Timeline>) -> Timeline
     ensures { inputs.items ≡ result ∷ [] }
 {
     let mut inputs = inputs;
-    match inputs.pop() {
-        Some(timeline) => timeline,
-        None => unreachable!(),
-    }
+    inputs.swap_remove(0)
 }
 
 // The timelines as one, one after another or above each other.

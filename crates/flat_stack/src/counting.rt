@@ -4,7 +4,7 @@ ghost use Rattle.std.specs.Prelude.{◌≡◌, ◌+◌, ◌<◌, ◌^◌, ◌≤
 ghost use Rattle.std.specs.Prelude.{nat_lt, slice_get, Some};
 ghost use Rattle.otio_model.specs.Counts.{count, counts_by};
 ghost use Rattle.flat_stack.specs.declared.inputs.Part.{Part as AnyPart};
-ghost use Rattle.flat_stack.specs.Inputs.{AreParts, IsPart, child_counts, given, pad_behind};
+ghost use Rattle.flat_stack.specs.Inputs.{AreParts, IsPreparedInput, child_counts, given, pad_behind};
 ghost use Rattle.flat_stack.specs.Inputs.{piece, slot_of, slots_of, track_count, track_counts};
 
 use crate::input_tracks::{part_at, seat_at};
@@ -13,7 +13,7 @@ use crate::joined_tracks::{own_children, pad_ticks};
 
 // How many items an input gives to a joined track, at all levels.
 fn own_count<'a>(part: &Part<'a>, seat: Seat<'a>) -> usize
-    requires { IsPart part.now }
+    requires { IsPreparedInput part.now }
     ensures value { result ≡ counts_by count (given (slot_of seat.entry) part.now) }
     ensures high { result < 2 ^ 32 }
 {
@@ -23,9 +23,9 @@ fn own_count<'a>(part: &Part<'a>, seat: Seat<'a>) -> usize
     }
 }
 
-// 1 where a gap stands behind what an input gives, else 0.
+// 1 where a gap stands after what an input gives, else 0.
 fn pad_count<'a>(part: &Part<'a>, seat: Seat<'a>) -> usize
-    requires { IsPart part.now }
+    requires { IsPreparedInput part.now }
     ensures value { result ≡ child_counts (pad_behind (slot_of seat.entry) part.now) }
     ensures high { result ≤ 1 }
 {
@@ -35,8 +35,8 @@ fn pad_count<'a>(part: &Part<'a>, seat: Seat<'a>) -> usize
     0
 }
 
-// How many items the input of an index gives to a joined track, the gap behind them with them;
-// none stands behind the last.
+// How many items the input of an index gives to a joined track, with the gap after them; no gap
+// stands after the last.
 fn part_count<'a>(parts: &[Part<'a>], index: usize, seat: Seat<'a>) -> usize
     requires parts { AreParts parts.now }
     requires there { index < length parts.now }

@@ -2,6 +2,7 @@
 
 ghost use Rattle.std.specs.Prelude.{◌≡◌, ◌<ℤ◌, IfOk, Some, pos, true, option_and_then};
 ghost use Rattle.edits.specs.Children as children;
+ghost use Rattle.edits.specs.Cuts as cuts;
 ghost use Rattle.flat.specs.Pieces as flat_pieces;
 ghost use Rattle.pieces.specs.Short.{IsCuttable};
 
@@ -24,6 +25,24 @@ pub(crate) fn cuts_at(item: &Item, ticks: i128) -> bool
     is_whole_at(item, ticks)
 }
 
+// Both parts of an item that is cut so many ticks from its start, on a whole tick of its media.
+fn parted(alloc: Global, item: &Item, ticks: i128, rate: Rate) -> Result<(Item, Item), AllocError>
+    requires cuttable { IsCuttable item.now }
+    requires low { pos 0 <ℤ ticks }
+    requires high { ticks <ℤ children.ticks item.now }
+    requires whole { flat_pieces.cuts_at item.now ticks ≡ true }
+    ensures left { IfOk result
+        (λ parts. children.made rate (cuts.left_piece item.now ticks) ≡ Some parts.0) }
+    ensures right { IfOk result
+        (λ parts. children.made rate (cuts.right_piece item.now ticks) ≡ Some parts.1) }
+{
+    match cut(alloc, item, ticks, rate) {
+        Ok((front, back)) => Ok((front, back)),
+        Err(CutFault::Phase) => unreachable!(),
+        Err(CutFault::Memory) => Err(AllocError),
+    }
+}
+
 // What stands of an item up to so many ticks from its start, as a copy.
 fn up_to(alloc: Global, item: &Item, ticks: i128, rate: Rate) -> Result<Item, AllocError>
     requires cuttable { IsCuttable item.now }
@@ -35,13 +54,12 @@ fn up_to(alloc: Global, item: &Item, ticks: i128, rate: Rate) -> Result<Item, Al
         let copy = copy_item(alloc, item)?;
         return Ok(copy);
     }
-    match cut(alloc, item, ticks, rate) {
+    match parted(alloc, item, ticks, rate) {
         Ok((front, back)) => {
             drop(back);
             Ok(front)
         }
-        Err(CutFault::Phase) => unreachable!(),
-        Err(CutFault::Memory) => Err(AllocError),
+        Err(error) => Err(error),
     }
 }
 
@@ -55,16 +73,15 @@ fn from_on(alloc: Global, item: Item, ticks: i128, rate: Rate) -> Result<Item, A
     if ticks <= 0 {
         return Ok(item);
     }
-    match cut(alloc, &item, ticks, rate) {
+    match parted(alloc, &item, ticks, rate) {
         Ok((front, back)) => {
             drop(front);
             drop(item);
             Ok(back)
         }
-        Err(CutFault::Phase) => unreachable!(),
-        Err(CutFault::Memory) => {
+        Err(error) => {
             drop(item);
-            Err(AllocError)
+            Err(error)
         }
     }
 }

@@ -1,6 +1,6 @@
 //! Places at which something is wrong.
 
-ghost use Rattle.std.specs.Prelude.{◌≡◌, IfOk};
+ghost use Rattle.std.specs.Prelude.{◌≡◌, IfOk, None};
 ghost use Rattle.flat_stack.specs.Spots.{IsNear, IsSaid, spot_place};
 
 use flat::{Cause, FlatFault};
@@ -16,6 +16,17 @@ pub struct Spot {
     pub track: usize,
     /// The index of its child; `None` for the root child itself.
     pub child: Option<usize>,
+}
+
+/// A root child of an index that isn't what it has to be, itself.
+pub(crate) fn nested(track: usize) -> Spot
+    ensures { result ≡ record { cause = Cause.Nested; track = track; child = None } }
+{
+    Spot {
+        cause: Cause::Nested,
+        track,
+        child: None,
+    }
 }
 
 // The place of a spot.
@@ -34,7 +45,7 @@ fn place_of(alloc: Global, spot: Spot) -> Result<Place, AllocError>
     }
 }
 
-/// The fault that tells of a spot, or want of memory.
+/// The fault at a spot, or [`FlatFault::Memory`] where memory runs out.
 pub fn fault_of(alloc: Global, spot: Spot) -> FlatFault
     requires { IsNear spot }
     ensures { IsSaid spot result }

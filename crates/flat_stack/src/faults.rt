@@ -15,17 +15,15 @@ use otio_model::Timeline;
 use std::alloc::Global;
 
 /// The input of an index that isn't past the end.
+#[tactic(auto, using(crate::proofs::RunLemmas::at_index))]
 pub(crate) fn input_at(inputs: &[Timeline], index: usize) -> &Timeline
     requires { index < length inputs.now }
     ensures { slice_get inputs.now index ≡ Some result.now }
 {
-    match inputs.get(index) {
-        Some(input) => input,
-        None => unreachable!(),
-    }
+    &inputs[index]
 }
 
-// The fault of an input that tells of a spot in it; want of memory tells input 0.
+// The fault at a spot of an input; where memory runs out, the input is 0.
 fn told(alloc: Global, input: usize, spot: Spot) -> FlatAt
     requires { IsNear spot }
     ensures said { IsSaid spot result.fault }

@@ -14,7 +14,7 @@ ghost use Rattle.flat_stack.specs.Parts.{AreAll};
 ghost use Rattle.flat_stack.specs.Spots.{IsNear, Under, inner_place};
 ghost use Rattle.flat_stack.specs.Sought.{IsSought};
 
-use crate::fault_places::Spot;
+use crate::fault_places::{Spot, nested};
 use crate::first_faults::earlier;
 use crate::refusals::first_refusal;
 use crate::root_children::is_plain;
@@ -33,16 +33,6 @@ fn child_cause(item: &Item) -> Option<Cause>
         ItemOf::Track(_) => Some(Cause::Nested),
         ItemOf::Transition(_) => Some(Cause::Crossing),
         _ => None,
-    }
-}
-
-// Whether an item is a track.
-fn is_track(item: &Item) -> bool
-    ensures { result ≡ roots.is_track item.now }
-{
-    match item {
-        ItemOf::Track(_) => true,
-        _ => false,
     }
 }
 
@@ -73,22 +63,14 @@ fn layer_fault(item: &Item, kind: &Text, track: usize) -> Option<Spot>
     ensures none { IfNone result ((l : List (AnyItemOf Listed)) →
         slice_get l track ≡ Some item.now → IsFree (Under (Misfits kind.now l) track)) }
 {
-    if !is_track(item) {
-        return Some(Spot {
-            cause: Cause::Nested,
-            track,
-            child: None,
-        });
+    if !item.is_track() {
+        return Some(nested(track));
     }
     if !is_layer(item, kind) {
         return None;
     }
     if !is_plain(item) {
-        return Some(Spot {
-            cause: Cause::Nested,
-            track,
-            child: None,
-        });
+        return Some(nested(track));
     }
     match item.children() {
         Some(children) => match first_misfit(children) {

@@ -10,7 +10,7 @@ ghost use Rattle.pieces.specs.Short.{IsCuttable};
 ghost use Rattle.flat_stack.specs.Runs.{longer, piece_of};
 
 use crate::same_clips::{Part, longest};
-use crate::stretches::{is_layer, stretches_in};
+use crate::stretches::{RootRange, is_layer, stretches_in};
 use otio_model::{Children, Item};
 use pieces::sound_ticks;
 use sequences::Text;
@@ -66,7 +66,11 @@ pub fn flat_parts(alloc: Global, children: &Children, kind: &Text) -> Result<Vec
     if end <= 0 {
         return Ok(Vec::new(alloc));
     }
-    let runs = stretches_in(alloc, children, kind, 0, children.len(), end)?;
+    let all = RootRange {
+        from: 0,
+        count: children.len(),
+    };
+    let runs = stretches_in(alloc, children, kind, all, end)?;
     let parts = longest(alloc, runs.as_slice())?;
     Ok(parts)
 }

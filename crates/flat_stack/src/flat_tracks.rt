@@ -46,6 +46,27 @@ fn copy_front(alloc: Global, children: &Children, end: usize) -> Result<Vec<Item
     Ok(front)
 }
 
+// Copies of the children before an index, and another item after them.
+fn front_with(
+    alloc: Global,
+    children: &Children,
+    end: usize,
+    item: Item,
+) -> Result<Vec<Item>, AllocError>
+    requires { end ≤ length (items_of children.now) }
+    ensures { IfOk result (λ all. all.items ≡ take end (items_of children.now) ++ item ∷ []) }
+{
+    let mut all = match copy_front(alloc, children, end) {
+        Ok(front) => front,
+        Err(error) => {
+            drop(item);
+            return Err(error);
+        }
+    };
+    all.push(item)?;
+    Ok(all)
+}
+
 // Adds copies of the children from an index on that are no track of a kind.
 fn copy_others(
     alloc: Global,
@@ -80,14 +101,7 @@ pub(crate) fn in_place(
     ensures { IfOk result
         (λ all. all.items ≡ flattened.in_place kind.now flat (items_of children.now)) }
 {
-    let mut all = match copy_front(alloc, children, first) {
-        Ok(front) => front,
-        Err(error) => {
-            drop(flat);
-            return Err(error);
-        }
-    };
-    all.push(flat)?;
+    let mut all = front_with(alloc, children, first, flat)?;
     copy_others(alloc, children, kind, first + 1, &mut all)?;
     Ok(all)
 }
@@ -112,7 +126,7 @@ pub(crate) fn flat_track(alloc: Global, kind: &Text, items: Vec<Item>) -> Result
     }))
 }
 
-/// Copies of the children, and another behind them.
+/// Copies of the children, and another after them.
 pub(crate) fn with_last(
     alloc: Global,
     children: &Children,
@@ -120,13 +134,5 @@ pub(crate) fn with_last(
 ) -> Result<Vec<Item>, AllocError>
     ensures { IfOk result (λ all. all.items ≡ items_of children.now ++ flat ∷ []) }
 {
-    let mut all = match copy_front(alloc, children, children.len()) {
-        Ok(front) => front,
-        Err(error) => {
-            drop(flat);
-            return Err(error);
-        }
-    };
-    all.push(flat)?;
-    Ok(all)
+    front_with(alloc, children, children.len(), flat)
 }

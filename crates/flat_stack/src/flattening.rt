@@ -27,23 +27,10 @@ use crate::root_children::flat_rate;
 use crate::same_clips::Part;
 use flat::FlatFault;
 use otio_model::{Children, Item, Timeline, copy_timeline};
-use pieces::{RangedFault, new_gap};
+use pieces::short_gap;
 use sequences::Text;
 use std::alloc::{AllocError, Global};
 use tick_time::Rate;
-
-// A gap as long as a part.
-fn part_gap(alloc: Global, ticks: i128, rate: Rate) -> Result<Item, AllocError>
-    requires low { pos 0 ≤ℤ ticks }
-    requires high { ticks ≤ℤ pos 705600000000000000000000 }
-    ensures { IfOk result (λ gap. children.made rate (children.new_gap ticks) ≡ Some gap) }
-{
-    match new_gap(alloc, ticks, rate) {
-        Ok(gap) => Ok(gap),
-        Err(RangedFault::Range) => unreachable!(),
-        Err(RangedFault::Memory) => Err(AllocError),
-    }
-}
 
 // The item that a part becomes: a piece of its clip, or a gap.
 fn part_item(alloc: Global, children: &Children, part: Part, rate: Rate) -> Result<Item, AllocError>
@@ -63,10 +50,7 @@ fn part_item(alloc: Global, children: &Children, part: Part, rate: Rate) -> Resu
             let piece = part_of(alloc, item, from, to, rate)?;
             Ok(piece)
         }
-        None => {
-            let gap = part_gap(alloc, part.to - part.from, rate)?;
-            Ok(gap)
-        }
+        None => Ok(short_gap(alloc, part.to - part.from, rate)),
     }
 }
 
@@ -93,24 +77,32 @@ fn part_items(
     Ok(done)
 }
 
-// Copies of the children, with a flat track behind them or in place of the tracks of its kind.
+/// Where a flat track goes among root children.
+#[derive(Clone, Copy)]
+pub(crate) struct FlatPlace {
+    /// The index of the first track of its kind.
+    first: usize,
+    /// Whether the tracks of its kind stay; then it comes after all root children.
+    keep: bool,
+}
+
+// Copies of the children, with a flat track after them or in place of the tracks of its kind.
 fn with_flat(
     alloc: Global,
     children: &Children,
     kind: &Text,
-    first: usize,
+    place: FlatPlace,
     flat: Item,
-    keep: bool,
 ) -> Result<Vec<Item>, AllocError>
-    requires first { IsFirstOf kind.now (items_of children.now) first }
+    requires { IsFirstOf kind.now (items_of children.now) place.first }
     ensures { IfOk result (λ all. all.items ≡
-        flattened.put_flat keep kind.now flat (items_of children.now)) }
+        flattened.put_flat place.keep kind.now flat (items_of children.now)) }
 {
-    if keep {
+    if place.keep {
         let all = with_last(alloc, children, flat)?;
         return Ok(all);
     }
-    let all = in_place(alloc, children, kind, first, flat)?;
+    let all = in_place(alloc, children, kind, place.first, flat)?;
     Ok(all)
 }
 
@@ -134,7 +126,7 @@ fn flat_copy(
         Some(first) => {
             let items = part_items(alloc, children, kind, parts, flat_rate(timeline))?;
             let flat = flat_track(alloc, kind, items)?;
-            let all = with_flat(alloc, children, kind, first, flat, keep)?;
+            let all = with_flat(alloc, children, kind, FlatPlace { first, keep }, flat)?;
             let copy = copy_with(alloc, timeline, all)?;
             Ok(copy)
         }
@@ -147,7 +139,7 @@ fn flat_copy(
 
 /// A copy of the timeline with the tracks of a kind as one track, in which the enabled clip of the
 /// topmost enabled track that has one there gives each instant; the last track is the topmost. With
-/// `keep` it comes behind all root children; else it takes the place of the first track of the
+/// `keep` it comes after all root children; else it takes the place of the first track of the
 /// kind, and the others go. Where no track is of the kind, nothing changes.
 ///
 /// The fault is that of the first place in document order: [`FlatFault::Nested`] for a root child

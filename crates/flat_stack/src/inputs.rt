@@ -13,10 +13,10 @@ ghost use Rattle.coord.specs.Soundness.{AreFaultless};
 ghost use Rattle.flat.specs.Joined as joined;
 ghost use Rattle.flat.specs.Roots as roots;
 ghost use Rattle.flat.specs.Roots.{ArePlainTracks};
-ghost use Rattle.flat_stack.specs.Inputs.{IsPart, Knows, Updates, lent, tracks_at};
+ghost use Rattle.flat_stack.specs.Inputs.{IsPreparedInput, Knows, Updates, lent, tracks_at};
 
 use crate::lengths::stretch_of;
-use otio_model::{Children, Item, ItemOf, Timeline};
+use otio_model::{Children, Item, Timeline};
 use std::alloc::{AllocError, Global};
 use std::collections::BTreeMap;
 use tick_time::Rate;
@@ -42,25 +42,13 @@ pub(crate) struct Part<'a> {
     pub(crate) stretch: i128,
 }
 
-/// The kind of a root child.
-pub(crate) fn kind_of(item: &Item) -> &str
-    ensures { result.now ≡ programs.kind_of item.now }
-{
-    match item {
-        ItemOf::Track(track) => track.kind.as_str(),
-        _ => "Video",
-    }
-}
-
 // The item of an index that isn't past the end.
+#[tactic(auto, using(crate::proofs::RunLemmas::at_index))]
 fn item_at<'b, 'a>(items: &'b [&'a Item], index: usize) -> &'b &'a Item
     requires { index < length items.now }
     ensures { slice_get items.now index ≡ Some result.now }
 {
-    match items.get(index) {
-        Some(item) => item,
-        None => unreachable!(),
-    }
+    &items[index]
 }
 
 /// The track of a kind that has so many of its kind before it.
@@ -90,7 +78,7 @@ fn taken<'a>(alloc: Global, tracks: &mut Tracks<'a>, kind: &str) -> Vec<&'a Item
     }
 }
 
-// Adds a track behind those of its kind, and tells how many these are.
+// Adds a track after those of its kind, and says how many these are.
 fn add_track<'a>(
     alloc: Global,
     tracks: &mut Tracks<'a>,
@@ -101,7 +89,7 @@ fn add_track<'a>(
         (index ≡ length (filter (roots.is_of (programs.kind_of item.now)) l)) ×
         Knows tracks.new (l ++ item.now ∷ [])) }
 {
-    let kind = kind_of(item);
+    let kind = item.root_kind();
     let mut of_kind = taken(alloc, tracks, kind);
     let index = of_kind.len();
     of_kind.push(item)?;
@@ -118,7 +106,7 @@ pub(crate) fn part_of<'a>(
     requires plain { ArePlainTracks (roots.roots input.now) }
     requires few { count input.now.tracks.children < 2 ^ 32 }
     requires faultless { AreFaultless input.now.tracks.children }
-    ensures part { IfOk result IsPart }
+    ensures part { IfOk result IsPreparedInput }
     ensures input { IfOk result (λ part. part.input.now ≡ input.now) }
     ensures stretch { IfOk result (λ part. part.stretch ≡
         joined.stretch (frame rate.num rate.den) (roots.roots input.now)) }

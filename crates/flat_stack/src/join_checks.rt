@@ -15,9 +15,9 @@ ghost use Rattle.pieces.specs.Short.{AreCuttable};
 ghost use Rattle.flat_stack.specs.Spots.{IsNear, Under, inner_place, spot_place};
 ghost use Rattle.flat_stack.specs.Blocking.{AreApartTo, IsCrossing, early_by, late_by};
 
-use crate::fault_places::Spot;
+use crate::fault_places::{Spot, nested};
 use crate::lengths::total_ticks;
-use crate::root_children::is_plain;
+use crate::root_children::{enabled_children, is_plain};
 use flat::Cause;
 use otio_model::{Children, Item, ItemOf, offset_ticks};
 use pieces::sound_ticks;
@@ -33,8 +33,8 @@ fn begins_early(item: &Item, index: usize, at: i128) -> bool
     }
 }
 
-// Whether an item is a transition that ends behind its list or as its last child, where so many
-// children of so many ticks stand behind it.
+// Whether an item is a transition that ends after its list or as its last child, where so many
+// children of so many ticks stand after it.
 fn ends_late(item: &Item, left: usize, rest: i128) -> bool
     ensures { result ≡ late_by left rest (overlap_of item.now) }
 {
@@ -98,17 +98,12 @@ fn inner_crossing(item: &Item, is_first: bool, is_last: bool) -> Option<usize>
     ensures none { IfNone result ((l : List (AnyItemOf Listed)) (k : ℕ) →
         slice_get l k ≡ Some item.now → IsFree (Under (JoinBlocks is_first is_last l) k)) }
 {
-    match item {
-        ItemOf::Track(track) => {
-            if !track.enabled {
-                return None;
-            }
-            match first_crossing(&track.children, is_first, is_last) {
-                Some(child) => Some(child),
-                None => None,
-            }
-        }
-        _ => unreachable!(),
+    match enabled_children(item) {
+        Some(children) => match first_crossing(children, is_first, is_last) {
+            Some(child) => Some(child),
+            None => None,
+        },
+        None => None,
     }
 }
 
@@ -129,11 +124,7 @@ fn track_fault(item: &Item, track: usize, is_first: bool, is_last: bool) -> Opti
         IsFree (Under (JoinBlocks is_first is_last l) track)) }
 {
     if !is_plain(item) {
-        return Some(Spot {
-            cause: Cause::Nested,
-            track,
-            child: None,
-        });
+        return Some(nested(track));
     }
     match inner_crossing(item, is_first, is_last) {
         Some(child) => Some(Spot {

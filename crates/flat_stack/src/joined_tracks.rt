@@ -10,39 +10,24 @@ ghost use Rattle.edits.specs.Edges.{added};
 ghost use Rattle.flat.specs.Joined as joined;
 ghost use Rattle.pieces.specs.Short.{AreCuttable};
 ghost use Rattle.flat_stack.specs.declared.inputs.Part.{Part as AnyPart};
-ghost use Rattle.flat_stack.specs.Inputs.{AreParts, IsAdded, IsPart, children_from, given};
+ghost use Rattle.flat_stack.specs.Inputs.{AreParts, IsAdded, IsPreparedInput, as_enabled};
+ghost use Rattle.flat_stack.specs.Inputs.{children_from, given};
 ghost use Rattle.flat_stack.specs.Inputs.{pad_behind, piece, slot_of, slots_of, track_from};
 ghost use Rattle.flat_stack.specs.Inputs.{tracks_from};
 
 use crate::input_tracks::{part_at, seat_at};
-use crate::inputs::{Part, Seat, kind_of, track_at};
+use crate::inputs::{Part, Seat, track_at};
 use crate::lengths::total_ticks;
 use crate::part_copies::copy_behind;
-use otio_model::{Children, Item, ItemOf, Items, copy_item};
-use pieces::{RangedFault, new_gap};
+use crate::root_children::enabled_children;
+use otio_model::{Children, Item, ItemOf, Items, copy_item, copy_item_with};
+use pieces::short_gap;
 use std::alloc::{AllocError, Global};
 use tick_time::Rate;
 
-// The children of a track, where it is enabled.
-fn enabled_children(item: &Item) -> Option<&Children>
-    ensures there { IfSome result (λ c. children_of item.now ≡ Some c.now) }
-    ensures some { IfSome result (λ c. items_of c.now ≡ joined.own_items (Some item.now)) }
-    ensures none { IfNone result (joined.own_items (Some item.now) ≡ []) }
-{
-    match item {
-        ItemOf::Track(track) => {
-            if track.enabled {
-                return Some(&track.children);
-            }
-            None
-        }
-        _ => None,
-    }
-}
-
 /// The children that an input gives to a joined track.
 pub(crate) fn own_children<'b, 'a>(part: &'b Part<'a>, seat: Seat<'a>) -> Option<&'b Children>
-    requires { IsPart part.now }
+    requires { IsPreparedInput part.now }
     ensures some { IfSome result (λ c. items_of c.now ≡
         given (slot_of seat.entry) part.now) }
     ensures none { IfNone result
@@ -50,7 +35,7 @@ pub(crate) fn own_children<'b, 'a>(part: &'b Part<'a>, seat: Seat<'a>) -> Option
     ensures few { IfSome result (λ c. count c.now < 2 ^ 32) }
     ensures cuttable { IfSome result (λ c. AreCuttable (items_of c.now)) }
 {
-    match track_at(&part.tracks, kind_of(seat.first), seat.index) {
+    match track_at(&part.tracks, seat.first.root_kind(), seat.index) {
         Some(track) => match enabled_children(track) {
             Some(children) => Some(children),
             None => None,
@@ -61,7 +46,7 @@ pub(crate) fn own_children<'b, 'a>(part: &'b Part<'a>, seat: Seat<'a>) -> Option
 
 // How long the children are that an input gives, in ticks.
 fn own_ticks<'a>(part: &Part<'a>, seat: Seat<'a>) -> i128
-    requires { IsPart part.now }
+    requires { IsPreparedInput part.now }
     ensures value { result ≡
         added (given (slot_of seat.entry) part.now) }
     ensures low { pos 0 ≤ℤ result }
@@ -73,9 +58,9 @@ fn own_ticks<'a>(part: &Part<'a>, seat: Seat<'a>) -> i128
     }
 }
 
-/// How long the gap is behind what an input gives, in ticks; none where this isn't above 0.
+/// How long the gap is after what an input gives, in ticks; there is none where this isn't above 0.
 pub(crate) fn pad_ticks<'a>(part: &Part<'a>, seat: Seat<'a>) -> i128
-    requires { IsPart part.now }
+    requires { IsPreparedInput part.now }
     ensures value { result ≡ (part.now.stretch -ℤ
         added (given (slot_of seat.entry) part.now)) }
     ensures low { (pos 0 -ℤ pos 10000000000000000000000000000000000) ≤ℤ result }
@@ -91,7 +76,7 @@ fn put_own<'a>(
     seat: Seat<'a>,
     all: &mut Vec<Item>,
 ) -> Result<(), AllocError>
-    requires { IsPart part.now }
+    requires { IsPreparedInput part.now }
     ensures { OnOk result (all.new.items ≡ all.old.items ++
         given (slot_of seat.entry) part.now) }
 {
@@ -101,20 +86,7 @@ fn put_own<'a>(
     }
 }
 
-// A gap of so many ticks, at a rate.
-fn gap(alloc: Global, ticks: i128, rate: Rate) -> Result<Item, AllocError>
-    requires low { pos 0 <ℤ ticks }
-    requires high { ticks ≤ℤ pos most_ticks }
-    ensures { IfOk result (λ gap. children.made rate (children.new_gap ticks) ≡ Some gap) }
-{
-    match new_gap(alloc, ticks, rate) {
-        Ok(gap) => Ok(gap),
-        Err(RangedFault::Range) => unreachable!(),
-        Err(RangedFault::Memory) => Err(AllocError),
-    }
-}
-
-// Adds the gap behind what an input gives, up to the next input.
+// Adds the gap after what an input gives, up to the next input.
 fn put_pad<'a>(
     alloc: Global,
     part: &Part<'a>,
@@ -122,7 +94,7 @@ fn put_pad<'a>(
     rate: Rate,
     all: &mut Vec<Item>,
 ) -> Result<(), AllocError>
-    requires { IsPart part.now }
+    requires { IsPreparedInput part.now }
     ensures { OnOk result (IsAdded rate
         (pad_behind (slot_of seat.entry) part.now) all.old.items
         all.new.items) }
@@ -131,30 +103,38 @@ fn put_pad<'a>(
     if ticks <= 0 {
         return Ok(());
     }
-    let gap = gap(alloc, ticks, rate)?;
-    all.push(gap)?;
+    all.push(short_gap(alloc, ticks, rate))?;
     Ok(())
 }
 
-// Adds what the input of an index gives, and the gap behind it where more inputs follow.
+/// A track that is joined.
+#[derive(Clone, Copy)]
+struct JoinedTrack<'a> {
+    /// The first track of an input that it is made of.
+    seat: Seat<'a>,
+    /// The record rate, at which its gaps are counted.
+    rate: Rate,
+}
+
+// Adds what the input of an index gives, and the gap after it where more inputs follow.
 fn put_part<'a>(
     alloc: Global,
     parts: &[Part<'a>],
     index: usize,
-    seat: Seat<'a>,
-    rate: Rate,
+    track: JoinedTrack<'a>,
     all: &mut Vec<Item>,
 ) -> Result<(), AllocError>
     requires parts { AreParts parts.now }
     requires there { index < length parts.now }
     ensures { OnOk result ((part : AnyPart) → slice_get parts.now index ≡ Some part →
-        IsAdded rate (piece (slot_of seat.entry) part (nat_lt (index + 1) (length parts.now)))
+        IsAdded track.entry.rate
+        (piece (slot_of track.entry.seat) part (nat_lt (index + 1) (length parts.now)))
         all.old.items all.new.items) }
 {
     let part = part_at(parts, index);
-    put_own(alloc, part, seat, all)?;
+    put_own(alloc, part, track.seat, all)?;
     if index + 1 < parts.len() {
-        put_pad(alloc, part, seat, rate, all)?;
+        put_pad(alloc, part, track.seat, track.rate, all)?;
         return Ok(());
     }
     Ok(())
@@ -164,36 +144,48 @@ fn put_part<'a>(
 fn seat_items<'a>(
     alloc: Global,
     parts: &[Part<'a>],
-    seat: Seat<'a>,
-    rate: Rate,
+    track: JoinedTrack<'a>,
 ) -> Result<Vec<Item>, AllocError>
     requires { AreParts parts.now }
-    ensures { IfOk result (λ items. children.all_made rate
-        (children_from (slot_of seat.entry) parts.now) ≡ Some items.items) }
+    ensures { IfOk result (λ items. children.all_made track.entry.rate
+        (children_from (slot_of track.entry.seat) parts.now) ≡ Some items.items) }
 {
     let mut all: Vec<Item> = Vec::new(alloc);
     'parts: for index in 0..parts.len() {
-        put_part(alloc, parts, index, seat, rate, &mut all)?;
+        put_part(alloc, parts, index, track, &mut all)?;
     }
     Ok(all)
 }
 
-// A copy of a track, enabled, with other children.
+// The item, enabled where it is a track.
+fn enabled(item: Item) -> Item
+    ensures { result ≡ as_enabled item }
+{
+    match item {
+        ItemOf::Clip(clip) => ItemOf::Clip(clip),
+        ItemOf::Gap(gap) => ItemOf::Gap(gap),
+        ItemOf::Transition(transition) => ItemOf::Transition(transition),
+        ItemOf::Stack(stack) => ItemOf::Stack(stack),
+        ItemOf::Track(mut track) => {
+            track.enabled = true;
+            ItemOf::Track(track)
+        }
+    }
+}
+
+// A copy of a track, enabled, with other children; its own aren't copied.
+#[tactic(auto, using(crate::proofs::JoinedTracks::track_joined, crate::proofs::JoinedTracks::other_joined))]
 fn joined_with(alloc: Global, first: &Item, items: Vec<Item>) -> Result<Item, AllocError>
     ensures { IfOk result (λ track. track ≡ joined.joined_with first.now items.items) }
 {
-    let children = Children::of(alloc, Items::of(items))?;
-    match copy_item(alloc, first)? {
-        ItemOf::Track(mut track) => {
-            track.enabled = true;
-            track.children = children;
-            Ok(ItemOf::Track(track))
-        }
-        ItemOf::Clip(clip) => Ok(ItemOf::Clip(clip)),
-        ItemOf::Gap(gap) => Ok(ItemOf::Gap(gap)),
-        ItemOf::Transition(transition) => Ok(ItemOf::Transition(transition)),
-        ItemOf::Stack(stack) => Ok(ItemOf::Stack(stack)),
+    if !first.is_track() {
+        drop(items);
+        let copy = copy_item(alloc, first)?;
+        return Ok(copy);
     }
+    let children = Children::of(alloc, Items::of(items))?;
+    let track = copy_item_with(alloc, first, children)?;
+    Ok(enabled(track))
 }
 
 // The joined track of a seat.
@@ -207,7 +199,7 @@ fn seat_track<'a>(
     ensures { IfOk result (λ track.
         track_from rate parts.now (slot_of seat.entry) ≡ Some track) }
 {
-    let items = seat_items(alloc, parts, seat, rate)?;
+    let items = seat_items(alloc, parts, JoinedTrack { seat, rate })?;
     let track = joined_with(alloc, seat.first, items)?;
     Ok(track)
 }

@@ -98,7 +98,7 @@ fn joined_within(
     }
 }
 
-// Want of memory, which tells no input.
+// Memory ran out, which is no input's fault.
 fn no_memory() -> FlatAt
     ensures { result ≡ record { input = 0; fault = FlatFault.Memory } }
 {

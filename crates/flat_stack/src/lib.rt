@@ -58,7 +58,7 @@ pub use flattening::flatten;
 pub use joining::{join, join_within};
 pub use laws::{one_concat, one_outcome};
 pub use otio_model::{Children, Item, Place, Timeline};
-pub use part_copies::{copy_around, copy_behind, copy_with};
+pub use part_copies::{copy_behind, copy_with};
 pub use root_children::{flat_rate, is_plain};
 pub use same_clips::Part;
 pub use sequences::Text;

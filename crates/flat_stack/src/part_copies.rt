@@ -1,12 +1,11 @@
 //! Copies of parts of timelines.
 
 ghost use Rattle.std.specs.Prelude.{◌≡◌, ◌++◌, IfOk, OnOk};
-ghost use Rattle.otio_model.specs.Edits.{deeper};
 ghost use Rattle.otio_model.specs.Timelines.{bare};
 ghost use Rattle.otio_model.specs.Trees.{items_of};
 ghost use Rattle.flat.specs.Roots.{with_roots};
 
-use otio_model::{Children, Item, ItemOf, Items, Timeline, copy_item, copy_timeline};
+use otio_model::{Children, Item, Items, Timeline, copy_item, copy_timeline_with};
 use std::alloc::{AllocError, Global};
 
 /// Adds copies of children at the end of a list. An error comes where memory runs out; then the
@@ -24,7 +23,8 @@ pub fn copy_behind(
     Ok(())
 }
 
-/// A copy of a timeline with other root children. An error comes where memory runs out.
+/// A copy of a timeline with other root children; its own aren't copied. An error comes where
+/// memory runs out.
 pub fn copy_with(
     alloc: Global,
     timeline: &Timeline,
@@ -33,36 +33,5 @@ pub fn copy_with(
     ensures { IfOk result (λ copy. bare copy ≡ bare (with_roots items.items timeline.now)) }
 {
     let children = Children::of(alloc, Items::of(items))?;
-    let mut copy = copy_timeline(alloc, timeline)?;
-    copy.tracks.children = children;
-    Ok(copy)
-}
-
-/// A copy of an item, with other children where it is a stack or a track. An error comes where
-/// memory runs out.
-pub fn copy_around(alloc: Global, item: &Item, children: Children) -> Result<Item, AllocError>
-    ensures { IfOk result (λ copy. copy ≡ deeper (λ _. children) item.now) }
-{
-    match copy_item(alloc, item)? {
-        ItemOf::Stack(mut stack) => {
-            stack.children = children;
-            Ok(ItemOf::Stack(stack))
-        }
-        ItemOf::Track(mut track) => {
-            track.children = children;
-            Ok(ItemOf::Track(track))
-        }
-        ItemOf::Clip(clip) => {
-            drop(children);
-            Ok(ItemOf::Clip(clip))
-        }
-        ItemOf::Gap(gap) => {
-            drop(children);
-            Ok(ItemOf::Gap(gap))
-        }
-        ItemOf::Transition(transition) => {
-            drop(children);
-            Ok(ItemOf::Transition(transition))
-        }
-    }
+    copy_timeline_with(alloc, timeline, children)
 }

@@ -4,6 +4,7 @@ ghost use Rattle.std.specs.Prelude.{◌≡◌, ◌≢◌, [], ◌∷◌, IfOk, L
 ghost use Rattle.otio_model.specs.declared.timelines.Timeline.{Timeline as AnyTimeline};
 ghost use Rattle.flat.specs.Piled.{IsPiled};
 
+use crate::faults::input_at;
 use crate::part_copies::{copy_behind, copy_with};
 use otio_model::{Item, Timeline};
 use std::alloc::{AllocError, Global};
@@ -19,8 +20,5 @@ pub fn pile(alloc: Global, inputs: &[Timeline]) -> Result<Timeline, AllocError>
     'inputs: for input in inputs {
         copy_behind(alloc, &input.tracks.children, &mut all)?;
     }
-    match inputs.first() {
-        Some(first) => copy_with(alloc, first, all),
-        None => unreachable!(),
-    }
+    copy_with(alloc, input_at(inputs, 0), all)
 }

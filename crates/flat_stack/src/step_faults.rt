@@ -11,22 +11,23 @@ use flat::FlatFault;
 #[derive(Drop)]
 pub enum ToolFault {
     /// An input can't be joined, or a step can't be done with what came of the inputs. The fault is
-    /// never want of memory.
+    /// never [`FlatFault::Memory`].
     At {
-        /// Which input it is told of, counted from 0; 0 for what came of the inputs.
+        /// Which input it lies in, counted from 0; 0 for what came of the inputs.
         input: usize,
         /// What is wrong.
         fault: FlatFault,
     },
     /// There would be more than 100 000 items.
     Items,
-    /// The joined timeline isn't sound. The fault is never want of memory.
+    /// The joined timeline isn't sound. The fault is never
+    /// [`CoordFault::Memory`].
     Unsound(CoordFault),
     /// Memory ran out.
     Memory,
 }
 
-/// What is told of a fault at an input.
+/// The fault at an input.
 pub(crate) fn at(input: usize, fault: FlatFault) -> ToolFault
     ensures { Told (λ told. (fault ≢ FlatFault.Memory) × (told ≡ ToolFault.At input fault))
         result }
@@ -37,7 +38,7 @@ pub(crate) fn at(input: usize, fault: FlatFault) -> ToolFault
     }
 }
 
-/// What is told of a timeline's fault.
+/// The fault of a timeline.
 pub(crate) fn unsound(fault: CoordFault) -> ToolFault
     ensures { Told (λ told. (fault ≢ CoordFault.Memory) × (told ≡ ToolFault.Unsound fault))
         result }

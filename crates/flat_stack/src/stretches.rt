@@ -4,13 +4,14 @@
 //! So the work is that of a sort, however the tracks' children lie.
 
 ghost use Rattle.std.specs.Prelude.{◌≡◌, ◌+◌, ◌<◌, ◌≤◌, ◌^◌, ◌<ℤ◌, ◌≤ℤ◌, ℤ, IfOk, List, None, Option};
-ghost use Rattle.std.specs.Prelude.{Some, drop, length, pos, slice_get, take, ◌∷◌, []};
+ghost use Rattle.std.specs.Prelude.{IfNone, IfSome, Some, drop, false, length, pos, slice_get, take, true};
+ghost use Rattle.std.specs.Prelude.{◌∷◌, []};
 ghost use Rattle.std.specs.Option.{option_or};
 ghost use Rattle.otio_model.specs.declared.compositions.ItemOf.{ItemOf as AnyItemOf};
 ghost use Rattle.otio_model.specs.declared.compositions.Listed.{Listed};
 ghost use Rattle.otio_model.specs.Counts as counts;
 ghost use Rattle.otio_model.specs.Counts.{count_of};
-ghost use Rattle.otio_model.specs.Trees.{items_of};
+ghost use Rattle.otio_model.specs.Trees.{children_of, items_of};
 ghost use Rattle.coord.specs.Soundness.{AreFaultless, IsFaultlessItem};
 ghost use Rattle.flat.specs.Pieces as flat_pieces;
 ghost use Rattle.flat.specs.Pieces.{Giver};
@@ -33,6 +34,15 @@ pub struct Given {
     pub child: usize,
     /// Where it starts, in ticks from the start of its track.
     pub start: i128,
+}
+
+/// Root children that follow one another.
+#[derive(Clone, Copy)]
+pub(crate) struct RootRange {
+    /// The index of the first.
+    pub(crate) from: usize,
+    /// How many there are.
+    pub(crate) count: usize,
 }
 
 /// What one clip, or none, gives up to an instant.
@@ -59,6 +69,23 @@ pub fn is_layer(item: &Item, kind: &Text) -> bool
     match item {
         ItemOf::Track(track) => track.enabled && track.kind.as_str() == kind.as_str(),
         _ => false,
+    }
+}
+
+// The children of an item that is an enabled track of a kind.
+fn layer_children<'a>(item: &'a Item, kind: &Text) -> Option<&'a Children>
+    ensures there { IfSome result (λ c. children_of item.now ≡ Some c.now) }
+    ensures some { IfSome result (λ c. roots.is_layer kind.now item.now ≡ true) }
+    ensures none { IfNone result (roots.is_layer kind.now item.now ≡ false) }
+{
+    match item {
+        ItemOf::Track(track) => {
+            if track.enabled && track.kind.as_str() == kind.as_str() {
+                return Some(&track.children);
+            }
+            None
+        }
+        _ => None,
     }
 }
 
@@ -144,16 +171,15 @@ fn layer_stretches(
         slice_get l track ≡ Some item.now →
         AreRuns l (flat_pieces.giver track kind.now (item.now ∷ [])) end (pos 0) all.items) }
 {
-    if !is_layer(item, kind) {
-        let all = nothing(alloc, end)?;
-        return Ok(all);
-    }
-    match item.children() {
+    match layer_children(item, kind) {
         Some(children) => {
             let all = track_stretches(alloc, children, track, end)?;
             Ok(all)
         }
-        None => unreachable!(),
+        None => {
+            let all = nothing(alloc, end)?;
+            Ok(all)
+        }
     }
 }
 
@@ -188,7 +214,7 @@ fn behind(index: usize, stretch: Stretch, to: i128) -> usize
     index
 }
 
-// The stretch of an index; `None` behind the last one.
+// The stretch of an index; `None` after the last one.
 #[tactic(auto, using(crate::proofs::RunLemmas::at_index, crate::proofs::RunLemmas::none_at))]
 fn stretch_at(list: &[Stretch], index: usize) -> Option<Stretch>
     ensures { result ≡ slice_get list.now index }
@@ -222,34 +248,42 @@ fn merged(alloc: Global, upper: &[Stretch], lower: &[Stretch]) -> Result<Vec<Str
     Ok(all)
 }
 
-/// What the tracks of a kind give among so many root children from one on, up to an end.
+/// What the tracks of a kind give among root children that follow one another, up to an end.
 pub(crate) fn stretches_in(
     alloc: Global,
     children: &Children,
     kind: &Text,
-    from: usize,
-    count: usize,
+    among: RootRange,
     end: i128,
 ) -> Result<Vec<Stretch>, AllocError>
     requires few { counts.count children.now < 2 ^ 32 }
     requires faultless { AreFaultless children.now }
-    requires there { from + count ≤ length (items_of children.now) }
+    requires there { among.from + among.count ≤ length (items_of children.now) }
     requires low { pos 0 <ℤ end }
     requires high { end ≤ℤ pos 705600000000000000000000 }
-    ensures { IfOk result (λ all. AreRuns (items_of children.now) (flat_pieces.giver from kind.now
-        (take count (drop from (items_of children.now)))) end (pos 0) all.items) }
+    ensures { IfOk result (λ all. AreRuns (items_of children.now)
+        (flat_pieces.giver among.from kind.now
+        (take among.count (drop among.from (items_of children.now)))) end (pos 0) all.items) }
 {
-    if count == 0 {
+    if among.count == 0 {
         let all = nothing(alloc, end)?;
         return Ok(all);
     }
-    if count == 1 {
-        let all = layer_stretches(alloc, children.child(from), kind, from, end)?;
+    if among.count == 1 {
+        let all = layer_stretches(alloc, children.child(among.from), kind, among.from, end)?;
         return Ok(all);
     }
-    let half = count / 2;
-    let lower = stretches_in(alloc, children, kind, from, half, end)?;
-    let upper = stretches_in(alloc, children, kind, from + half, count - half, end)?;
+    let half = among.count / 2;
+    let front = RootRange {
+        from: among.from,
+        count: half,
+    };
+    let back = RootRange {
+        from: among.from + half,
+        count: among.count - half,
+    };
+    let lower = stretches_in(alloc, children, kind, front, end)?;
+    let upper = stretches_in(alloc, children, kind, back, end)?;
     let all = merged(alloc, upper.as_slice(), lower.as_slice())?;
     Ok(all)
 }

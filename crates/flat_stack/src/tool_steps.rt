@@ -82,8 +82,8 @@ fn only_of(alloc: Global, timeline: Timeline, kind: TrackKind) -> Result<Timelin
     Ok(kept)
 }
 
-// The timeline with the tracks of a kind alone, where one is asked for. An error is want of
-// memory.
+// The timeline with the tracks of a kind alone, where one is asked for. An error comes where
+// memory runs out.
 fn only(alloc: Global, timeline: Timeline, kind: Option<TrackKind>) -> Result<Timeline, AllocError>
     requires { IsReady timeline }
     ensures only { IfOk result (IsOnly kind timeline) }
@@ -98,7 +98,8 @@ fn only(alloc: Global, timeline: Timeline, kind: Option<TrackKind>) -> Result<Ti
     }
 }
 
-// The timeline without transitions, where that is asked for. An error is want of memory.
+// The timeline without transitions, where that is asked for. An error comes where
+// memory runs out.
 fn straightened(alloc: Global, timeline: Timeline, asked: bool) -> Result<Timeline, AllocError>
     requires { IsReady timeline }
     ensures straight { IfOk result (IsStraightened asked timeline) }

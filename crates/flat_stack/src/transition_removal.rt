@@ -6,25 +6,14 @@ ghost use Rattle.flat.specs.Straight.{IsStraight};
 ghost use Rattle.flat_law.proofs.Straight.{whole_item};
 ghost use Rattle.flat_stack.specs.Straighten.{straight_children};
 
-use crate::part_copies::copy_around;
-use otio_model::{Children, Item, ItemOf, Items, Timeline, copy_item};
+use otio_model::{Children, Item, ItemOf, Items, Timeline, copy_item, copy_item_with};
 use std::alloc::{AllocError, Global};
-
-// Whether an item is a transition.
-fn is_transition(item: &Item) -> bool
-    ensures { result ≡ trees.is_transition item.now }
-{
-    match item {
-        ItemOf::Transition(_) => true,
-        _ => false,
-    }
-}
 
 // Whether an item isn't copied: a transition of a track.
 fn is_left_out(item: &Item, in_track: bool) -> bool
     ensures { result ≡ (in_track && trees.is_transition item.now) }
 {
-    in_track && is_transition(item)
+    in_track && item.is_transition()
 }
 
 // A copy of an item, without the transitions of the tracks that it is or that stand below it.
@@ -35,11 +24,11 @@ fn straight_item(alloc: Global, item: &Item) -> Result<Item, AllocError>
     match item {
         ItemOf::Stack(stack) => {
             let children = straight_list(alloc, &stack.children, false)?;
-            copy_around(alloc, item, children)
+            copy_item_with(alloc, item, children)
         }
         ItemOf::Track(track) => {
             let children = straight_list(alloc, &track.children, true)?;
-            copy_around(alloc, item, children)
+            copy_item_with(alloc, item, children)
         }
         _ => copy_item(alloc, item),
     }

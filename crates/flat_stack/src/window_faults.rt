@@ -16,7 +16,7 @@ ghost use Rattle.flat_stack.specs.Spots.{IsNear, Under, inner_place, spot_place}
 ghost use Rattle.flat_stack.specs.Uncut.{AreCutTo, IsUncut};
 
 use crate::cutting::cuts_at;
-use crate::fault_places::Spot;
+use crate::fault_places::{Spot, nested};
 use crate::root_children::is_plain;
 use flat::Cause;
 use otio_model::{Children, Item, ItemOf};
@@ -79,11 +79,7 @@ fn track_fault(item: &Item, track: usize, from: i128, to: i128) -> Option<Spot>
         slice_get l track ≡ Some item.now → IsFree (Under (WindowBlocks l from to) track)) }
 {
     if !is_plain(item) {
-        return Some(Spot {
-            cause: Cause::Nested,
-            track,
-            child: None,
-        });
+        return Some(nested(track));
     }
     match item.children() {
         Some(children) => match first_uncut(children, from, to) {

@@ -3,10 +3,10 @@
 ghost use Rattle.std.specs.Prelude.{◌≡◌, ◌<◌, ◌^◌, ◌||◌, ◌≤ℤ◌, ◌<ℤ◌, ◌-ℤ◌, IfErr, IfOk, OnOk, Some};
 ghost use Rattle.std.specs.Prelude.{◌&&◌, int_le, int_lt, length, pos, true};
 ghost use Rattle.edits.specs.Children as children;
-ghost use Rattle.otio_model.specs.Counts.{count, count_of};
+ghost use Rattle.otio_model.specs.Counts.{count};
 ghost use Rattle.otio_model.specs.Trees.{items_of};
 ghost use Rattle.coord.specs.Sights.{overlap_of};
-ghost use Rattle.coord.specs.Soundness.{AreFaultless, IsFaultlessItem, IsSound};
+ghost use Rattle.coord.specs.Soundness.{AreFaultless, IsSound};
 ghost use Rattle.edits.specs.Splices.{is_stripped as is_met};
 ghost use Rattle.flat.specs.Answers as answers;
 ghost use Rattle.flat.specs.Blocked.{IsFree};
@@ -16,17 +16,16 @@ ghost use Rattle.flat.specs.Windowed.{WindowBlocks};
 ghost use Rattle.pieces.specs.Short.{AreCuttable, IsCuttable};
 ghost use Rattle.flat_stack.specs.Ends.{IsCutTo};
 ghost use Rattle.flat_stack.specs.Passed.{IsPut, passed};
-ghost use Rattle.flat_stack.specs.Uncut.{AreCutTo};
+ghost use Rattle.flat_stack.specs.Uncut.{AreCutTo, IsInWindow};
 ghost use Rattle.flat.specs.Pieces as flat_pieces;
 
 use crate::cutting::part;
 use crate::fault_places::fault_of;
-use crate::part_copies::copy_around;
 use crate::root_children::flat_rate;
 use crate::window_faults::window_fault;
 use crate::zones::zone_of;
 use flat::FlatFault;
-use otio_model::{Children, Item, Items, Timeline};
+use otio_model::{Children, Item, Items, Timeline, copy_item_with};
 use pieces::{is_stripped, sound_ticks};
 use std::alloc::{AllocError, Global};
 use tick_time::{Rate, Time};
@@ -41,7 +40,7 @@ fn is_left_out(item: &Item, at: i128, from: i128, to: i128) -> bool
     is_stripped(item, at, from, from) || is_stripped(item, at, to, to)
 }
 
-// Whether an item ends at an instant behind its start, or before it.
+// Whether an item ends at an instant after its start, or before it.
 fn is_over(item: &Item, from: i128) -> bool
     requires { IsCuttable item.now }
     ensures { result ≡ (int_lt (pos 0) from && int_le (children.ticks item.now) from) }
@@ -49,26 +48,33 @@ fn is_over(item: &Item, from: i128) -> bool
     from > 0 && sound_ticks(item) <= from
 }
 
-// Adds what stands of an item between two instants, counted from its start.
+/// From one instant up to another, in ticks from the start of an item.
+#[derive(Clone, Copy)]
+pub(crate) struct Zone {
+    from: i128,
+    to: i128,
+}
+
+// Adds what stands of an item in a zone.
 fn put_part(
     alloc: Global,
     item: &Item,
-    from: i128,
-    to: i128,
+    zone: Zone,
     rate: Rate,
     all: &mut Vec<Item>,
 ) -> Result<(), AllocError>
     requires cuttable { IsCuttable item.now }
-    requires low { pos 0 <ℤ to }
-    requires wide { from <ℤ to }
-    requires first { flat_pieces.cuts_at item.now from ≡ true }
-    requires last { flat_pieces.cuts_at item.now to ≡ true }
-    ensures { OnOk result (IsPut rate from to item.now all.old.items all.new.items) }
+    requires low { pos 0 <ℤ zone.to }
+    requires wide { zone.from <ℤ zone.to }
+    requires first { flat_pieces.cuts_at item.now zone.from ≡ true }
+    requires last { flat_pieces.cuts_at item.now zone.to ≡ true }
+    ensures { OnOk result
+        (IsPut rate zone.from zone.to item.now all.old.items all.new.items) }
 {
-    if is_over(item, from) {
+    if is_over(item, zone.from) {
         return Ok(());
     }
-    let piece = part(alloc, item, from, to, rate)?;
+    let piece = part(alloc, item, zone.from, zone.to, rate)?;
     all.push(piece)?;
     Ok(())
 }
@@ -98,7 +104,11 @@ fn window_items(
             return Ok(done);
         }
         if !is_left_out(item, at, from, to) {
-            put_part(alloc, item, from - at, to - at, rate, &mut done)?;
+            let zone = Zone {
+                from: from - at,
+                to: to - at,
+            };
+            put_part(alloc, item, zone, rate, &mut done)?;
             at += sound_ticks(item);
         }
     }
@@ -113,14 +123,7 @@ fn track_items(
     to: i128,
     rate: Rate,
 ) -> Result<Vec<Item>, AllocError>
-    requires plain { roots.is_plain item.now ≡ true }
-    requires few { count_of item.now < 2 ^ 32 }
-    requires faultless { IsFaultlessItem item.now }
-    requires cut { AreCutTo (roots.items_in item.now) from to
-        (length (roots.items_in item.now)) }
-    requires low { pos 0 ≤ℤ from }
-    requires wide { from <ℤ to }
-    requires high { to ≤ℤ pos 1411200000000000000000000 }
+    requires { IsInWindow item.now from to }
     ensures { IfOk result (λ items. windowed.window_of rate from to
         (windowed.stripped (roots.items_in item.now) from to) ≡ Some items.items) }
 {
@@ -132,7 +135,7 @@ fn track_items(
             let items = window_items(alloc, children, from, to, rate)?;
             Ok(items)
         }
-        None => unreachable!(),
+        None => Ok(Vec::new(alloc)),
     }
 }
 
@@ -144,20 +147,13 @@ fn window_track(
     to: i128,
     rate: Rate,
 ) -> Result<Item, AllocError>
-    requires plain { roots.is_plain item.now ≡ true }
-    requires few { count_of item.now < 2 ^ 32 }
-    requires faultless { IsFaultlessItem item.now }
-    requires cut { AreCutTo (roots.items_in item.now) from to
-        (length (roots.items_in item.now)) }
-    requires low { pos 0 ≤ℤ from }
-    requires wide { from <ℤ to }
-    requires high { to ≤ℤ pos 1411200000000000000000000 }
+    requires { IsInWindow item.now from to }
     ensures { IfOk result
         (λ track. windowed.window_track rate from to item.now ≡ Some track) }
 {
     let items = track_items(alloc, item, from, to, rate)?;
     let children = Children::of(alloc, Items::of(items))?;
-    let track = copy_around(alloc, item, children)?;
+    let track = copy_item_with(alloc, item, children)?;
     Ok(track)
 }
 

@@ -1,22 +1,21 @@
 -- Characters of a string that are gathered.
-use Rattle.std.proofs.Common.{◌≡◌, ℕ, ◌+◌, ◌-◌, ◌*◌, ◌<◌, ◌≤◌, ◌⊎◌, inl, inr, Bool, true, false, ◌&&◌, List, [], ◌∷◌, ◌++◌, take, drop, length, get_or, refl, sym, ap, ◌∙◌, append_assoc, append-nil, arith, subst, Ok, Option, Some}
+use Rattle.std.proofs.Common.{◌≡◌, ℕ, ◌+◌, ◌-◌, ◌*◌, ◌<◌, ◌≤◌, ◌⊎◌, inl, inr, Bool, true, false, ◌&&◌, List, [], ◌∷◌, ◌++◌, take, drop, length, get_or, refl, sym, ap, ◌∙◌, append_assoc, append-nil, arith, subst, Ok, Option, Some, None}
 use Rattle.std.proofs.lemmas.Bool.Decides.{nat_tests}
-use Rattle.std.proofs.lemmas.List.{length-drop, length-take}
+use Rattle.std.proofs.lemmas.List.{get_or-drop, length-drop, length-take}
 use Rattle.std.proofs.lemmas.Str.{encode_ascii}
-use Rattle.std.specs.Prelude.{◌==◌, nat_lt}
+use Rattle.std.specs.Prelude.{◌==◌, nat_lt, IfSome}
 use Rattle.std.specs.Char.{IsScalar, digit_value, encode_utf8}
 use Rattle.std.specs.Int.{is_in_range}
 use lib.Seq.{take-add}
 use lib.Utf8.{scalar_cases}
-use Rattle.json_text.specs.Grammar.{escaped, of_digits16}
+use Rattle.json_text.specs.Grammar.{escaped, joined, of_digits16}
 use Rattle.json_text.specs.declared.state.Digits.TheVariants.{Zero as NoDigit, One, Two, Three}
 use Rattle.json_text.specs.declared.state.Unclosed.{Unclosed}
 use Rattle.json_text.specs.declared.state.Role.{Role}
-use Rattle.json_text.specs.State.Machine.{state, text, plain, code, coded, escape_goes, run, run_on, step}
-use Rattle.json_text.specs.State.Runs.{AreOpen, IsCode, IsEscape, StandsFor, is_open}
-use Rattle.json_text.proofs.Basics.{both, is_byte, is_below, below_is, least_is}
+use Rattle.json_text.specs.State.Machine.{state, text, plain, code, coded, escape_goes, high, low, paired, run, run_on, step}
+use Rattle.json_text.specs.State.Runs.{AreOpen, IsCode, IsEscape, IsFirstHalf, IsSecondHalf, StandsFor, is_open}
+use Rattle.json_text.proofs.Basics.{is_byte, is_below, below_is, least_is, same_is}
 use Rattle.json_text.proofs.RunLemmas.{plain_step, run_more, run_skim, take_of_take}
-use Rattle.json_text.proofs.Utf8Lemmas.{order}
 
 -- ---- bytes and characters
 
@@ -186,6 +185,141 @@ long_escape bytes n h e f g = record {
         (get_or bytes 5 0) n g;
   };
 }
+
+-- ---- two escapes of four digits for one character
+
+first_half_in_range : (x y z w n : ℕ) → x ≡ 13 → 8 ≤ y → y < 12 → z < 16 → w < 16
+    → n ≡ ((x * 16 + y) * 16 + z) * 16 + w → is_in_range 0xD800 0xDBFF n ≡ true
+first_half_in_range x y z w n e l h k m s =
+    let low : 55296 ≤ n = omega arith in
+    let high : n ≤ 56319 = omega arith in
+    grind (arith, nat_tests)
+
+half_goes : (x y : ℕ) → y < 12 → (x == 13 && nat_lt 11 y) ≡ false
+half_goes x y h = by (x == 13)
+  where
+    by : (p : Bool) → (p && nat_lt 11 y) ≡ false
+    by true = least_is 11 y (omega (arith, h))
+    by false = refl
+
+coded_half : (levels : List Unclosed) (role : Role) (t : List ℕ) (n : ℕ)
+    → is_in_range 0xD800 0xDBFF n ≡ true
+    → coded levels role t n ≡ Ok (state levels (text role t (high n)))
+coded_half levels role t n h = rw h refl
+
+first_half_run : (limit : ℕ) (levels : List Unclosed) (role : Role) (t : List ℕ) (a b c d n : ℕ)
+    → IsFirstHalf a b c d n
+    → run limit (state levels (text role t plain)) (92 ∷ 117 ∷ a ∷ b ∷ c ∷ d ∷ [])
+    ≡ Ok (state levels (text role t (high n)))
+first_half_run limit levels role t a b c d n h =
+    ap (λ x. run_on limit x (b ∷ c ∷ d ∷ []))
+    (first_digit limit levels role t a (below_is (digit_value a) 16 (omega (arith, h.first))))
+    ∙ ap (λ x. run_on limit x (c ∷ d ∷ []))
+    (second_digit limit levels role t a b
+    (below_is (digit_value b) 16 (omega (arith, h.most)))
+    (half_goes (digit_value a) (digit_value b) h.most))
+    ∙ ap (λ x. run_on limit x (d ∷ []))
+    (third_digit limit levels role t a b c (below_is (digit_value c) 16 h.third))
+    ∙ ap (λ x. run_on limit x [])
+    (fourth_digit limit levels role t a b c d (below_is (digit_value d) 16 h.fourth)
+    ∙ ap (coded levels role t) (sym h.code)
+    ∙ coded_half levels role t n
+    (first_half_in_range (digit_value a) (digit_value b) (digit_value c) (digit_value d) n h.first
+    h.least h.most h.third h.fourth h.code))
+
+low_first : (limit : ℕ) (levels : List Unclosed) (role : Role) (t : List ℕ) (n a : ℕ)
+    → nat_lt (digit_value a) 16 ≡ true → (digit_value a == 13) ≡ true
+    → step limit levels (text role t (low n NoDigit)) a
+    ≡ Ok (state levels (text role t (low n (One a))))
+low_first limit levels role t n a h k = rw (h, k) refl
+
+low_second : (limit : ℕ) (levels : List Unclosed) (role : Role) (t : List ℕ) (n a b : ℕ)
+    → nat_lt (digit_value b) 16 ≡ true → nat_lt 11 (digit_value b) ≡ true
+    → step limit levels (text role t (low n (One a))) b
+    ≡ Ok (state levels (text role t (low n (Two a b))))
+low_second limit levels role t n a b h k = rw (h, k) refl
+
+low_third : (limit : ℕ) (levels : List Unclosed) (role : Role) (t : List ℕ) (n a b c : ℕ)
+    → nat_lt (digit_value c) 16 ≡ true
+    → step limit levels (text role t (low n (Two a b))) c
+    ≡ Ok (state levels (text role t (low n (Three a b c))))
+low_third limit levels role t n a b c h = rw h refl
+
+low_fourth : (limit : ℕ) (levels : List Unclosed) (role : Role) (t : List ℕ) (n a b c d : ℕ)
+    → nat_lt (digit_value d) 16 ≡ true
+    → step limit levels (text role t (low n (Three a b c))) d
+    ≡ paired levels role t (joined n (of_digits16 a b c d))
+low_fourth limit levels role t n a b c d h = rw h refl
+
+paired_as : (levels : List Unclosed) (role : Role) (t : List ℕ) (m : ℕ) → IsScalar m
+    → paired levels role t m ≡ Ok (state levels (text role (t ++ encode_utf8 m) plain))
+paired_as levels role t m h = rw h refl
+
+second_half_run : (limit : ℕ) (levels : List Unclosed) (role : Role) (t : List ℕ)
+    (n a b c d l : ℕ) → IsSecondHalf a b c d l → IsScalar (joined n l)
+    → run limit (state levels (text role t (high n))) (92 ∷ 117 ∷ a ∷ b ∷ c ∷ d ∷ [])
+    ≡ Ok (state levels (text role (t ++ encode_utf8 (joined n l)) plain))
+second_half_run limit levels role t n a b c d l h k =
+    ap (λ x. run_on limit x (b ∷ c ∷ d ∷ []))
+    (low_first limit levels role t n a (below_is (digit_value a) 16 (omega (arith, h.first)))
+    (same_is (digit_value a) 13 h.first))
+    ∙ ap (λ x. run_on limit x (c ∷ d ∷ []))
+    (low_second limit levels role t n a b (below_is (digit_value b) 16 h.most)
+    (below_is 11 (digit_value b) (omega (arith, h.least))))
+    ∙ ap (λ x. run_on limit x (d ∷ []))
+    (low_third limit levels role t n a b c (below_is (digit_value c) 16 h.third))
+    ∙ ap (λ x. run_on limit x [])
+    (low_fourth limit levels role t n a b c d (below_is (digit_value d) 16 h.fourth)
+    ∙ ap (λ x. paired levels role t (joined n x)) (sym h.code)
+    ∙ paired_as levels role t (joined n l) k)
+
+-- six bytes from six on
+six_behind : (bytes : List ℕ) → 12 ≤ length bytes
+    → take 6 (drop 6 bytes) ≡ get_or bytes 6 0 ∷ get_or bytes 7 0 ∷ get_or bytes 8 0
+    ∷ get_or bytes 9 0 ∷ get_or bytes 10 0 ∷ get_or bytes 11 0 ∷ []
+six_behind bytes h =
+    six_of (drop 6 bytes) (omega (arith, h, length-drop 6 bytes))
+    ∙ (λ i. get_or-drop 6 bytes 0 0 i ∷ get_or-drop 6 bytes 1 0 i ∷ get_or-drop 6 bytes 2 0 i
+    ∷ get_or-drop 6 bytes 3 0 i ∷ get_or-drop 6 bytes 4 0 i ∷ get_or-drop 6 bytes 5 0 i ∷ [])
+
+pub pair_escape : (bytes : List ℕ) (n l : ℕ) → 12 ≤ length bytes → get_or bytes 0 0 ≡ 92
+    → get_or bytes 1 0 ≡ 117 → get_or bytes 6 0 ≡ 92 → get_or bytes 7 0 ≡ 117
+    → IsFirstHalf (get_or bytes 2 0) (get_or bytes 3 0) (get_or bytes 4 0) (get_or bytes 5 0) n
+    → IsSecondHalf (get_or bytes 8 0) (get_or bytes 9 0) (get_or bytes 10 0) (get_or bytes 11 0) l
+    → IsScalar (joined n l) → IsEscape 12 (joined n l) bytes
+pair_escape bytes n l h e f g k first second scalar = record {
+  within = h;
+  some = omega arith;
+  meant = record {
+    ran = λ limit levels role t.
+        run_skim limit (state levels (text role t plain)) (state levels (text role t (high n)))
+        (state levels (text role (t ++ encode_utf8 (joined n l)) plain)) bytes 6 6
+        (ap (run limit (state levels (text role t plain))) (six_of bytes (omega (arith, h))
+        ∙ (λ i. e i ∷ f i ∷ get_or bytes 2 0 ∷ get_or bytes 3 0 ∷ get_or bytes 4 0
+        ∷ get_or bytes 5 0 ∷ []))
+        ∙ first_half_run limit levels role t (get_or bytes 2 0) (get_or bytes 3 0)
+        (get_or bytes 4 0) (get_or bytes 5 0) n first)
+        (ap (run limit (state levels (text role t (high n)))) (six_behind bytes h
+        ∙ (λ i. g i ∷ k i ∷ get_or bytes 8 0 ∷ get_or bytes 9 0 ∷ get_or bytes 10 0
+        ∷ get_or bytes 11 0 ∷ []))
+        ∙ second_half_run limit levels role t n (get_or bytes 8 0) (get_or bytes 9 0)
+        (get_or bytes 10 0) (get_or bytes 11 0) l second scalar);
+  };
+}
+
+-- the same of a count and a character that were found
+pub pair_found : (bytes : List ℕ) (n l : ℕ) (found : Option (ℕ × ℕ)) → 12 ≤ length bytes
+    → get_or bytes 0 0 ≡ 92 → get_or bytes 1 0 ≡ 117 → get_or bytes 6 0 ≡ 92
+    → get_or bytes 7 0 ≡ 117
+    → IsFirstHalf (get_or bytes 2 0) (get_or bytes 3 0) (get_or bytes 4 0) (get_or bytes 5 0) n
+    → IsSecondHalf (get_or bytes 8 0) (get_or bytes 9 0) (get_or bytes 10 0) (get_or bytes 11 0) l
+    → IfSome found (λ f. f.0 ≡ 12) → IfSome found (λ f. f.1 ≡ joined n l)
+    → IfSome found (λ f. IsScalar f.1) → IfSome found (λ f. IsEscape f.0 f.1 bytes)
+pair_found bytes n l None h e f g k first second count character scalar = tt
+pair_found bytes n l (Some x) h e f g k first second count character scalar =
+    subst (λ (m : ℕ). IsEscape m x.1 bytes) (sym count)
+    (subst (λ (m : ℕ). IsEscape 12 m bytes) (sym character)
+    (pair_escape bytes n l h e f g k first second (subst IsScalar character scalar)))
 
 -- ---- blocks of a string
 

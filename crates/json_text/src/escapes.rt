@@ -3,10 +3,13 @@
 
 ghost use Rattle.std.specs.Prelude.{◌≡◌, ◌≤◌, ◌++◌, ◌+◌, length, take, get_or, IfSome};
 ghost use Rattle.std.specs.Char as chars;
+ghost use Rattle.std.specs.Char.{IsScalar};
 ghost use Rattle.arrayvec.specs.ArrayVec.{array_vec_len};
-ghost use Rattle.json_text.specs.State.Runs.{StandsFor, IsEscape, IsCode};
+ghost use Rattle.json_text.specs.Grammar as grammar;
+ghost use Rattle.json_text.specs.State.Runs.{StandsFor, IsEscape, IsCode, IsFirstHalf, IsSecondHalf};
 
 use crate::bytes::{after, digit_value, escaped, is_open, of_digits16};
+use crate::strings::joined;
 use arrayvec::ArrayVec;
 
 /// How many bytes are gathered at most.
@@ -70,8 +73,90 @@ fn coded(bytes: &[u8]) -> Option<(usize, char)>
     }
     match code(bytes[2], bytes[3], bytes[4], bytes[5]) {
         Some(character) => Some((6, character)),
+        None => pair(bytes),
+    }
+}
+
+// The character of two escapes of four digits that the bytes begin with, each for a half of it,
+// behind the first two bytes.
+fn pair(bytes: &[u8]) -> Option<(usize, char)>
+    requires slash { get_or bytes.now 0 0 ≡ 92 }
+    requires letter { get_or bytes.now 1 0 ≡ 117 }
+    ensures { IfSome result (λ found. IsEscape found.0 found.1 bytes.now) }
+{
+    if bytes.len() < 12 {
+        return None;
+    }
+    if bytes[6] != b'\\' {
+        return None;
+    }
+    if bytes[7] != b'u' {
+        return None;
+    }
+    match first_half(bytes[2], bytes[3], bytes[4], bytes[5]) {
+        Some(high) => match second_half(bytes[8], bytes[9], bytes[10], bytes[11]) {
+            Some(low) => whole(high, low),
+            None => None,
+        },
         None => None,
     }
+}
+
+// The character of two halves, with the bytes of their escapes.
+fn whole(high: u16, low: u32) -> Option<(usize, char)>
+    requires { low ≤ 160000 }
+    ensures count { IfSome result (λ found. found.0 ≡ 12) }
+    ensures character { IfSome result (λ found. found.1 ≡ grammar.joined high low) }
+    ensures scalar { IfSome result (λ found. IsScalar found.1) }
+{
+    match char::from_u32(joined(high, low)) {
+        Some(character) => Some((12, character)),
+        None => None,
+    }
+}
+
+// The first half of a character, of that code.
+fn first_half(a: u8, b: u8, c: u8, d: u8) -> Option<u16>
+    ensures { IfSome result (IsFirstHalf a b c d) }
+{
+    if digit_value(a) != 13 {
+        return None;
+    }
+    if digit_value(b) < 8 {
+        return None;
+    }
+    if digit_value(b) >= 12 {
+        return None;
+    }
+    if digit_value(c) >= 16 {
+        return None;
+    }
+    if digit_value(d) >= 16 {
+        return None;
+    }
+    Some(of_digits16(a, b, c, d) as u16)
+}
+
+// The second half of a character, of that code.
+fn second_half(a: u8, b: u8, c: u8, d: u8) -> Option<u32>
+    ensures { IfSome result (IsSecondHalf a b c d) }
+{
+    if digit_value(a) != 13 {
+        return None;
+    }
+    if digit_value(b) < 12 {
+        return None;
+    }
+    if digit_value(b) >= 16 {
+        return None;
+    }
+    if digit_value(c) >= 16 {
+        return None;
+    }
+    if digit_value(d) >= 16 {
+        return None;
+    }
+    Some(of_digits16(a, b, c, d))
 }
 
 // The character of that code.

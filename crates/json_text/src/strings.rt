@@ -280,8 +280,8 @@ fn refused(byte: u8) -> Stop
     }
 }
 
-// The character that two halves make.
-fn joined(high: u16, low: u32) -> u32
+/// The character that two halves make.
+pub(crate) fn joined(high: u16, low: u32) -> u32
     requires { low ≤ 160000 }
     ensures { result ≡ grammar.joined high low }
 {

@@ -71,8 +71,10 @@ same_numeral : (j k : Json) (a b : List ℕ) → j ≡ k → IsNumeralOf (Some j
 same_numeral j k a b e g h = let same : Json-F.Num a ≡ Json-F.Num b = sym g.0 ∙ ap out-Json e ∙ h.0 in cc same
 
 same_triple : (name : List ℕ) (sop : Json) (a b : Triple) → IsTripleOf name sop a → IsTripleOf name sop b → a ≡ b
-same_triple name sop a b g h =
-    let value = same_some g.value h.value (sym g.member ∙ h.member) in
+same_triple name sop a b first second =
+    let value = same_some first.value second.value (sym first.member ∙ second.member) in
+    let g = first.numerals in
+    let h = second.numerals in
     let list : Json-F.List (g.r ∷ g.g ∷ g.b ∷ []) ≡ Json-F.List (h.r ∷ h.g ∷ h.b ∷ []) = sym g.list ∙ ap out-Json value ∙ h.list in
     let red : g.r ≡ h.r = cc list in
     let green : g.g ≡ h.g = cc list in

@@ -1,6 +1,5 @@
 -- The notes of a timeline for its list are those of its events, and can be written.
 use Rattle.std.proofs.Common.{◌≡◌, ◌<◌, ◌≤◌, ◌+◌, ◌&&◌, ◌⊎◌, inl, inr, ℕ, zero, suc, ℤ, pos, negsuc, ◌+ℤ◌, ◌-ℤ◌, ◌*ℤ◌, ◌≤ℤ◌, ◌<ℤ◌, Bool, true, false, cond, List, [], ◌∷◌, ◌++◌, All, Option, Some, None, Ok, codes, length, map, get_or, option_map, slice_get, unsigned_abs, refl, sym, ap, ap₂, subst, ◌∙◌, arith}
-use Rattle.std.specs.Prelude.{int_le, int_lt}
 use Rattle.std.specs.Int.{int_div_euclid}
 use Rattle.std.specs.Ordering.{int_eq}
 use Rattle.std.proofs.lemmas.Int.{ints}
@@ -193,7 +192,7 @@ markers_fine rate drop e (Kept j ∷ ms) said is h =
     subst (Every (IsFine rate drop e)) (sym h.2) (every_append (IsFine rate drop e) h.0 h.1 (subst (Every (IsFine rate drop e)) (sym h.3) tt) (markers_fine rate drop e ms h.1 is h.4))
 
 numerals_are : (name : List ℕ) (sop : Json) (t : Triple) → IsTripleOf name sop t → AreSpelled t
-numerals_are name sop t h = record { r = h.r_is.1; g = h.g_is.1; b = h.b_is.1 }
+numerals_are name sop t h = record { r = h.numerals.r_is.1; g = h.numerals.g_is.1; b = h.numerals.b_is.1 }
 
 sop_fine : (rate : Rate) (drop : Bool) (e : Event) (metadata : List (List ℕ × Json)) (said : List Said) → SaysSop metadata said → Every (IsFine rate drop e) said
 sop_fine rate drop e metadata [] h = tt

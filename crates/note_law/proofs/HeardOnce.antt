@@ -1,12 +1,10 @@
 -- The notes of bytes are one.
-use Rattle.std.proofs.Common.{◌≡◌, ◌<◌, ◌≤◌, ◌⊎◌, inl, inr, ℕ, ℤ, pos, Bool, true, false, List, [], ◌∷◌, ◌++◌, All, codes, length, refl, sym, ap, ap₂, subst, ◌∙◌, arith}
-use Rattle.std.proofs.lemmas.List.Elements.{All-head}
+use Rattle.std.proofs.Common.{◌≡◌, ◌⊎◌, inl, inr, ℕ, ℤ, pos, Bool, List, [], ◌∷◌, ◌++◌, codes, refl, sym, ap, ap₂, subst, ◌∙◌, arith}
 use Rattle.note_text.proofs.FormLemmas.{colon_no_numeral}
 use Rattle.coord.proofs.Members.{same_some}
 use Rattle.text_lines.specs.Lines.{lines_of, trimmed}
 use Rattle.tick_time.specs.declared.rates.Rate.{Rate}
-use Rattle.tick_time.specs.Numerals.{IsNumeral, minus}
-use Rattle.tick_time.proofs.DigitBytes.{of_digits}
+use Rattle.tick_time.specs.Numerals.{IsNumeral}
 use Rattle.smpte_tc.specs.Frames.{label_frame}
 use Rattle.edl_list.specs.declared.list.EventList.{EventList}
 use Rattle.edl_text.specs.Notes.{IsBehind}

@@ -1,19 +1,19 @@
 -- The lines of notes: a reader of lists ignores each, and each is of bytes from the space on.
 use Rattle.std.proofs.Common.{◌≡◌, ◌≢◌, ◌<◌, ◌≤◌, ◌&&◌, ◌-◌, ◌⊎◌, inl, inr, ℕ, ℤ, Bool, true, false, nat_lt, List, [], ◌∷◌, ◌++◌, All, codes, length, refl, sym, ap, subst, ◌∙◌, append_assoc, arith}
 use Rattle.std.proofs.lemmas.Bool.Decides.{nat_tests}
-use Rattle.std.proofs.lemmas.List.Elements.{All-head, All-tail, All-cons}
+use Rattle.std.proofs.lemmas.List.Elements.{All-head, All-tail}
 use Rattle.tick_time.specs.declared.rates.Rate.{Rate}
 use Rattle.tick_time.specs.Numerals.{IsNumeral, IsExp, frac, minus, absent, plain, raised, lowered}
 use Rattle.std.specs.Str.Parse.{AllDigits}
 use Rattle.edl_law.proofs.LineForms.{one_blank}
 use Rattle.tick_time.proofs.DigitBytes.{of_digits}
-use Rattle.text_lines.specs.First.{is_blank, AreBlanks}
+use Rattle.text_lines.specs.First.{is_blank}
 use Rattle.text_lines.specs.Lines.{fields_of, trimmed}
 use Rattle.text_lines.proofs.Places.{blank_is}
 use Rattle.edl_text.specs.Notes as notes
 use Rattle.edl_text.specs.Statements as said
 use Rattle.edl_text.specs.Saying as saying
-use Rattle.edl_text.specs.Saying.{Says, SaysTight, IsIgnored, IsFree, first_of}
+use Rattle.edl_text.specs.Saying.{Says, SaysTight, IsIgnored, first_of}
 use Rattle.edl_list.specs.Labelled.{IsBelowDay}
 use Rattle.edl_text.specs.Columns.{column, spaces, label_text, cleaned}
 use Rattle.edl_text.proofs.NoteTexts.{behind_unique}

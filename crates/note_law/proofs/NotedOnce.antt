@@ -4,11 +4,9 @@ use Rattle.std.specs.Int.{int_div_euclid}
 use Rattle.std.proofs.lemmas.Int.{ints}
 use Rattle.std.proofs.lemmas.Bool.Decides.{nat_tests}
 use Rattle.std.proofs.lemmas.Option.{get_or_from_slice_get}
-use Rattle.std.proofs.Props.{props}
 use Rattle.tick_time.specs.declared.rates.Rate.{Rate}
 use Rattle.tick_time.specs.declared.spans.Span.{Span}
-use Rattle.tick_time.specs.declared.times.Time.{Time}
-use Rattle.tick_time.specs.Frames.{IsFrames, in_ticks}
+use Rattle.tick_time.specs.Frames.{in_ticks}
 use Rattle.tick_time.specs.Rates.{frame}
 use Rattle.tick_time.proofs.SameValues.{same_frames, span_built}
 use Rattle.tick_time.proofs.Wholes.{count-product}

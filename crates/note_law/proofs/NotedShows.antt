@@ -1,8 +1,7 @@
 -- Markers and color corrections change nothing that is shown.
-use Rattle.std.proofs.Common.{◌≡◌, ℕ, zero, suc, ℤ, pos, Bool, true, false, cond, List, [], ◌∷◌, ◌++◌, Option, Some, None, codes, map, slice_get, refl, sym, ap, ap₂, ◌∙◌, arith}
+use Rattle.std.proofs.Common.{◌≡◌, ℕ, zero, suc, ℤ, pos, Bool, true, false, cond, List, [], ◌∷◌, ◌++◌, Option, Some, None, codes, map, slice_get, refl, sym, ap, ap₂, ◌∙◌}
 use Rattle.std.specs.Prelude.{option_and_then}
-use Rattle.sequences.specs.Pairs.{value_of, put}
-use Rattle.std.proofs.lemmas.Slice.Eq.{bytes_eq-Decides}
+use Rattle.sequences.specs.Pairs.{value_of}
 use Rattle.json_value.specs.declared.Json.{Json, Map, out-Json}
 use Rattle.tick_time.specs.declared.times.Time.{Time}
 use Rattle.otio_model.specs.declared.compositions.Clip.{Clip as ClipRow}
@@ -30,14 +29,10 @@ use Rattle.edl_list.specs.declared.list.EventList.{EventList}
 use Rattle.edl_frames.specs.Carried.{channel_of}
 use Rattle.edl_frames.specs.Channels.{KeySeen, keyed_child_shows, keyed_shown, is_track_of, nth_track, channel_track, on_by}
 use Rattle.tick_time.specs.declared.rates.Rate.{Rate}
+use Rattle.sequences.proofs.LatestLemmas.{value_of-put}
 use Rattle.note_text.specs.Noted.{IsNotedItem, AreNotedChildren, AreNotedBelow, IsNotedRoot, AreNotedRoots, IsNoted, said_of, with_colors, colors_of, end, noted, other}
 use Rattle.note_text.specs.declared.notes.Said.{Said}
 use Rattle.note_text.specs.declared.notes.Note.{Note}
-
--- the value of a name where a value is put
-value_of-put : {X : Type 0} (n m : List ℕ) (x : X) (ps : List (List ℕ × X)) → value_of n (put m x ps) ≡ value_of n ((m, x) ∷ ps)
-value_of-put n m x [] = refl
-value_of-put n m x (p ∷ ps) = grind (arith, bytes_eq-Decides n m, bytes_eq-Decides m p.0, bytes_eq-Decides n p.0, value_of-put n m x ps)
 
 -- the member `cdl` isn't the one that tells of the reel
 reel_member : (colors metadata : List (List ℕ × Json)) → value_of (codes "cmx_3600") (with_colors colors metadata) ≡ value_of (codes "cmx_3600") metadata

@@ -1,12 +1,10 @@
 -- The text of a list with notes is read as the same list.
-use Rattle.std.proofs.Common.{◌≡◌, ◌≤◌, ◌+◌, ◌^◌, ◌==◌, ℕ, Bool, true, false, List, [], ◌∷◌, ◌++◌, None, All, IsUtf8, codes, length, map, unwrap_or, refl, sym, ap, subst, ◌∙◌, append_assoc, append-nil, arith}
+use Rattle.std.proofs.Common.{◌≡◌, ◌≤◌, ◌+◌, ◌^◌, ◌==◌, ℕ, Bool, true, false, List, [], ◌∷◌, ◌++◌, All, length, map, unwrap_or, refl, sym, ap, subst, ◌∙◌, append_assoc, append-nil, arith}
 use Rattle.std.proofs.lemmas.List.Elements.{All-head, All-tail, All-cons}
-use Rattle.std.proofs.lemmas.Str.{is_utf8-from_IsUtf8}
 use Rattle.edl_law.proofs.RoundTrip.{titled, quiet, numbered, list_read}
 use Rattle.tick_time.specs.declared.rates.Rate.{Rate}
 use Rattle.edl_text.specs.Statements as said
 use Rattle.edl_text.specs.Statements.{Statement}
-use Rattle.edl_text.specs.Saying.{Says}
 use Rattle.edl_list.specs.declared.list.Event.{Event}
 use Rattle.edl_list.specs.declared.list.EventList.{EventList}
 use Rattle.edl_list.specs.declared.layout.Layout.{Layout}
@@ -14,27 +12,23 @@ use Rattle.edl_list.specs.Formed.{IsEvent}
 use Rattle.edl_list.specs.Speeds.{day_of}
 use Rattle.edl_list.specs.Alike.{IsSame}
 use Rattle.edl_list.specs.Labelled.{IsLabelled}
-use Rattle.edl_list.specs.Layouts.{layout_of, most_events}
+use Rattle.edl_list.specs.Layouts.{layout_of}
 use Rattle.edl_text.specs.Columns.{AreWidths, cleaned}
-use Rattle.edl_text.specs.Rows.{event_lines, headed}
+use Rattle.edl_text.specs.Rows.{event_lines}
 use Rattle.edl_text.specs.Spelling.{title_lines, mode_line, head_lines}
-use Rattle.edl_text.specs.Past.{Block, blocks_in, mode_in, noted, title_in, first_mode_in}
+use Rattle.edl_text.specs.Past.{blocks_in, mode_in, noted, title_in, first_mode_in}
 use Rattle.edl_text.specs.Events.{events_of}
-use Rattle.edl_text.specs.Lines.{AreSound, title_fault}
-use Rattle.edl_text.specs.Late.{AreFine}
+use Rattle.edl_text.specs.Lines.{AreSound}
 use Rattle.edl_text.specs.Lists.{IsList, events_in}
 use Rattle.edl_text.proofs.Widths.{widths_of}
 use Rattle.edl_text.proofs.OneList.{one_list}
 use Rattle.edl_law.specs.Law.{HasNames}
 use Rattle.edl_law.proofs.LineLemmas.{AreShown, shown_lines, lines_written}
-use Rattle.edl_law.proofs.LineForms.{title_says, mode_says, nothing_says}
-use Rattle.edl_law.proofs.FieldLemmas.{append_some}
-use Rattle.edl_law.proofs.NameLemmas.{cleaned_utf8, cleaned_tight}
+use Rattle.edl_law.proofs.LineForms.{mode_says, nothing_says}
 use Rattle.edl_law.proofs.NoteLemmas.{sound_append}
 use Rattle.edl_law.proofs.EventSteps.{step}
 use Rattle.edl_law.proofs.EventLists.{AreRising, AreMatched, matched_same, rising_from}
 use Rattle.edl_law.proofs.LineReadings.{shown_title, shown_mode, shown_events}
-use Rattle.edl_law.proofs.OrderLemmas.{read_ordered, read_fine}
 use Rattle.note_text.specs.Belonging.{own_notes}
 use Rattle.note_text.specs.NotedSpelling.{note_line, own_lines, noted_lines_from, noted_lines_in, noted_spelling}
 use Rattle.note_text.specs.declared.notes.Note.{Note}

@@ -13,11 +13,11 @@ use Rattle.otio_model.specs.declared.compositions.TrackOf.{TrackOf}
 use Rattle.otio_model.specs.declared.timelines.Timeline.{Timeline}
 use Rattle.otio_model.specs.declared.objects.Object.{Timeline as ObjectOfTimeline, out-Object}
 use Rattle.otio_model.specs.declared.objects.Object.TheOpen.{Object-F}
-use Rattle.otio_model.specs.declared.objects.Object.TheViews.{roll-Object}
 use Rattle.otio_model.specs.Misplaced.{side_by_side}
 use Rattle.otio_model.specs.Trees.{is_transition, items_of, listed}
 use Rattle.otio_model.proofs.Views.{items-listed}
 use Rattle.schema_rows.specs.declared.schemas.Schema.TheVariants as S
+use Rattle.schema_write.proofs.OldLemmas.{timeline_out}
 use Rattle.object_law.specs.Writable as W
 use Rattle.object_law.specs.Writable.{AreMarkers, AreOthers, IsMarker, IsObject}
 use Rattle.edl_list.specs.declared.list.Channel.{Channel}
@@ -191,10 +191,6 @@ stack_writable s ys (W.stack_of _ rest effects markers none_of items) moves f =
     W.stack_of (record s { children = listed ys }) rest effects markers
     (ap (list_any is_transition) (items-listed ys) ∙ any_is ys ∙ ap (list_any (λ b. b)) moves ∙ sym (any_is (items_of s.children)) ∙ none_of)
     (subst W.AreItems (sym (items-listed ys)) (f items))
-
-timeline_out : (t : Timeline) → out-Object (ObjectOfTimeline t) ≡ Object-F.Timeline t
-unfolding roll-Object denote.Hole.Carrier.roll out-Object denote.Hole.Carrier.out
-timeline_out t = refl
 
 same_timeline : (t u : Timeline) → out-Object (ObjectOfTimeline t) ≡ Object-F.Timeline u → t ≡ u
 same_timeline t u e = let f : Object-F.Timeline t ≡ Object-F.Timeline u = sym (timeline_out t) ∙ e in cc f

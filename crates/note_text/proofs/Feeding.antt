@@ -5,12 +5,12 @@ use Rattle.edl_text.proofs.Reading.{ended_here, last_here}
 use Rattle.limits.specs.Limits.{most_bytes}
 use Rattle.text_lines.specs.First.{HasNone}
 use Rattle.text_lines.specs.Lines.{lines_of, ended_lines, last_line, without_return}
-use Rattle.text_lines.proofs.Pieces.{ended_more, last_more, ended_at, last_at, ended_none, last_none}
+use Rattle.text_lines.proofs.Pieces.{ended_more, last_more, ended_none, last_none}
 use Rattle.tick_time.specs.declared.rates.Rate.{Rate}
 use Rattle.edl_text.specs.Statements.{Statement}
 use Rattle.edl_text.specs.Saying.{Says}
 use Rattle.edl_text.specs.Lines.{AreSound}
-use Rattle.edl_text.proofs.Reading.{no_lines, no_last, none_in_none}
+use Rattle.edl_text.proofs.Reading.{none_in_none}
 use Rattle.note_text.specs.Heard.{AreHeard, end}
 use Rattle.note_text.specs.StateHeard.{Hears}
 use Rattle.note_text.specs.Reader.{HasHeard}

@@ -1,5 +1,5 @@
 -- The notes of a list, and those of them that can be written.
-use Rattle.std.proofs.Common.{◌≡◌, ◌<◌, ◌+◌, ◌==◌, ℕ, ℤ, pos, negsuc, zero, suc, Bool, true, false, ◌&&◌, not, cond, int_le, int_lt, List, [], ◌∷◌, ◌++◌, All, Option, Some, None, Ok, filter, length, refl, sym, ap, subst, ◌∙◌, arith}
+use Rattle.std.proofs.Common.{◌≡◌, ◌<◌, ◌+◌, ◌==◌, ℕ, ℤ, pos, negsuc, suc, Bool, true, false, ◌&&◌, not, cond, int_le, int_lt, List, [], ◌∷◌, All, Option, Some, None, Ok, length, refl, sym, ap, subst, arith}
 use Rattle.std.specs.List.{slice_get}
 use Rattle.std.proofs.lemmas.Int.{ints}
 use Rattle.std.proofs.lemmas.Option.{slice_get_within}

@@ -1,11 +1,8 @@
 -- The events that the notes of a line belong to.
-use Rattle.std.proofs.Common.{◌≡◌, ◌<◌, ◌≤◌, ◌+◌, ◌-◌, ◌==◌, ◌&&◌, not, cond, nat_lt, nat_le, ℕ, suc, Bool, true, false, List, [], ◌∷◌, ◌++◌, length, take, drop, slice_index_or, slice_get, filter, option_map, unwrap_or, refl, sym, ap, subst, ◌∙◌, append_assoc, append-nil, arith}
-use Rattle.std.specs.Ordering.{is_lt, nat_cmp}
-use Rattle.std.specs.List.Sorted.{IsStableByKey, IsNonDecreasingBy, IsPartitionPoint, ties}
-use Rattle.std.proofs.lemmas.Bool.Decides.{nat_tests}
-use Rattle.std.proofs.lemmas.List.{get_or-take, get_or-drop, length-take-le, length-drop, take-append-drop, take_more, get_or_default}
-use Rattle.std.proofs.lemmas.List.Elements.{filter-append, filter_agree}
-use Rattle.std.proofs.lemmas.List.Sorted.{IsNonDecreasingBy-drop}
+use Rattle.std.proofs.Common.{◌≡◌, ◌<◌, ◌+◌, ◌-◌, ◌==◌, ◌&&◌, not, cond, ℕ, suc, Bool, true, false, List, [], ◌∷◌, ◌++◌, length, take, slice_index_or, slice_get, filter, option_map, unwrap_or, refl, sym, ap, ◌∙◌, append_assoc, append-nil, arith}
+use Rattle.std.specs.Ordering.{nat_cmp}
+use Rattle.std.specs.List.Sorted.{IsStableByKey, IsNonDecreasingBy}
+use Rattle.std.proofs.lemmas.List.{length-take-le, take_more, get_or_default}
 use Rattle.tick_time.specs.declared.rates.Rate.{Rate}
 use Rattle.edl_list.specs.declared.list.Event.{Event}
 use Rattle.edl_frames.specs.Conformed.{is_black}

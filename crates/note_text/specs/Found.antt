@@ -41,10 +41,8 @@ abbrev pub IsNumeralOf : Option Json → List ℕ → Type 0
 IsNumeralOf None spelled = ⊥
 IsNumeralOf (Some j) spelled = (out-Json j ≡ Json-F.Num spelled) × IsNumeral spelled
 
--- the member is a list of these three numerals
-pub record IsTripleOf (name : List ℕ) (sop : Json) (t : Triple) : Type 0 where
-  pub value : Json
-  pub member : member_in name (out-Json sop) ≡ Some value
+-- the value is a list of these three numerals
+pub record AreNumeralsOf (value : Json) (t : Triple) : Type 0 where
   pub r : Json
   pub g : Json
   pub b : Json
@@ -52,6 +50,12 @@ pub record IsTripleOf (name : List ℕ) (sop : Json) (t : Triple) : Type 0 where
   pub r_is : IsNumeralOf (Some r) t.r
   pub g_is : IsNumeralOf (Some g) t.g
   pub b_is : IsNumeralOf (Some b) t.b
+
+-- the member is a list of these three numerals
+pub record IsTripleOf (name : List ℕ) (sop : Json) (t : Triple) : Type 0 where
+  pub value : Json
+  pub member : member_in name (out-Json sop) ≡ Some value
+  pub numerals : AreNumeralsOf value t
 
 -- metadata have this slope, offset and power
 pub record HasSop (metadata : List (List ℕ × Json)) (slope offset power : Triple)

@@ -1,5 +1,5 @@
 //! Which notes an event has.
-ghost use Rattle.std.specs.Prelude.{ℕ, ◌≡◌, ◌≤◌, ◌<◌, ◌/◌, ◌≤ℤ◌, ◌<ℤ◌, ◌*◌, ◌-ℤ◌, pos, option_map, unsigned_abs};
+ghost use Rattle.std.specs.Prelude.{ℕ, ◌≡◌, ◌≤◌, ◌<◌, ◌/◌, ◌≤ℤ◌, ◌<ℤ◌, ◌*◌, pos, option_map, unsigned_abs};
 ghost use Rattle.edl_list.specs.Speeds as speeds;
 ghost use Rattle.edl_list.specs.Formed.{IsEvent, IsSide};
 ghost use Rattle.edl_list.specs.Speeds.{day_of};
@@ -8,7 +8,7 @@ ghost use Rattle.note_text.specs.Belonging.{counts_at, does_count, first_shown};
 ghost use Rattle.note_text.specs.StateShown.{IsAheadOf};
 
 use crate::notes::Said;
-use edl_list::{Event, Side, count_of, half_even};
+use edl_list::{Event, Side, side_speed};
 use tick_time::{Rate, Time};
 
 /// The rate's own speed, in millionths.
@@ -16,17 +16,6 @@ const OWN_SPEED: u64 = 1_000_000;
 
 /// More source frames than a side passes in a day.
 const MOST_AHEAD: i128 = 10_000_000_000;
-
-/// The speed of a side, in millionths of the rate's own.
-pub(crate) fn speed_of(rate: Rate, side: &Side) -> i64
-    requires timecode { 1 ≤ speeds.count_of rate }
-    ensures { result ≡ pos (speeds.side_speed rate side.now) }
-{
-    match side.speed {
-        Some(tenths) => half_even(u64::from(tenths) * 100_000, u64::from(count_of(rate))) as i64,
-        None => OWN_SPEED as i64,
-    }
-}
 
 /// The source frame that a side shows in the frame k, counted from 0 where the side begins, for k
 /// below the frames of a day.
@@ -37,7 +26,7 @@ pub fn source_frame(rate: Rate, side: &Side, k: i64) -> i64
     requires high { k <ℤ pos (60 * 86400) }
     ensures { result ≡ frame_shown rate side.now k }
 {
-    side.src_in + k * speed_of(rate, side) / OWN_SPEED as i64
+    side.src_in + k * side_speed(rate, side) / OWN_SPEED as i64
 }
 
 // Whether a locator at a record frame counts for an event: the event's record span holds the frame,
@@ -77,7 +66,7 @@ pub fn frames_to(rate: Rate, event: &Event, frame: i128) -> Option<i64>
     let Some(ahead) = ahead_of(&event.to, frame) else {
         return None;
     };
-    let speed = speed_of(rate, &event.to) as u64;
+    let speed = side_speed(rate, &event.to) as u64;
     let k = least_frames(ahead, speed);
     let length = (event.rec_out - event.rec_in) as u64;
     if k < length && shown_after(k, speed) == ahead {

@@ -1,6 +1,5 @@
 //! Notes of a list, read in pieces.
-ghost use Rattle.std.specs.Prelude.{◌≡◌, ◌++◌, ◌∷◌, ◌<◌, ◌≤◌, ◌-◌, ◌^◌, false, [], List, ℕ, IfOk, OnOk, length};
-ghost use Rattle.limits.specs.Limits.{most_bytes};
+ghost use Rattle.std.specs.Prelude.{◌≡◌, ◌++◌, ◌∷◌, ◌<◌, ◌-◌, ◌^◌, false, [], List, ℕ, IfOk, OnOk, length};
 ghost use Rattle.text_lines.specs.First.{HasNone, begins_with_blank};
 
 use crate::copies::said_of;

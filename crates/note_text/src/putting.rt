@@ -2,7 +2,6 @@
 ghost use Rattle.std.specs.Prelude.{◌≡◌, ◌∷◌, ◌++◌, ◌-◌, [], codes};
 ghost use Rattle.edl_text.specs.Columns.{cleaned, spaces};
 ghost use Rattle.dev_io.specs.Buffer.{HandsOver};
-ghost use Rattle.edl_list.specs.Labelled.{IsBelowDay};
 ghost use Rattle.note_text.specs.NotedSpelling.{color_and_name, color_width, note_line, triple_text};
 ghost use Rattle.note_text.specs.Belonging.{IsSaidBelowDay};
 ghost use Rattle.edl_text.specs.Spelling.{text_of};

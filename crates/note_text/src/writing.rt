@@ -1,5 +1,5 @@
 //! The text of a list with notes.
-ghost use Rattle.std.specs.Prelude.{◌≡◌, ◌↔◌, ◌≤◌, ◌<◌, ◌++◌, IfOk, IsTrue, All, AllPairs, ℕ, length};
+ghost use Rattle.std.specs.Prelude.{◌≡◌, ◌≤◌, ◌<◌, IfOk, IsTrue, All, AllPairs, ℕ, length};
 ghost use Rattle.dev_io.specs.Buffer.{HandsOver};
 ghost use Rattle.dev_io.specs.Calls.{Tells, SendsAll};
 ghost use Rattle.dev_io.specs.Causes.{HasCause};

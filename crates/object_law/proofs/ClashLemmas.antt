@@ -112,6 +112,10 @@ media_not k json v members ek ej none h =
     let (other, ys, e, names, g, is) = given_as k R.media json v ek h in
     none _ (subst (λ (m : List (List ℕ × Json)). Gives_all medium (values_of m) (map (λ m. medium_reading m.1) ys)) (map_once json other members e ej) g)
 
+pub reference_not : (k : RowKind) (json : Json) (v : Value) → k ≡ R.medium → ((r : Reading) → Gives_reading medium json r → ⊥) → Gives k json v → ⊥
+reference_not k json v ek none h =
+    let (m, g, is) = given_as k R.medium json v ek h in none (medium_reading m) g
+
 pub stack_not : (k : RowKind) (json : Json) (v : Value) → k ≡ R.stack → ((r : Reading) → Gives_reading (child C.STACKS) json r → ⊥) → Gives k json v → ⊥
 stack_not k json v ek none h =
     let (s, g, is) = given_as k R.stack json v ek h in none (known (stack_fields s)) (as_child (child C.STACKS) json (known (stack_fields s)) C.STACKS (stack_fields s) refl refl g)

@@ -284,6 +284,7 @@ default_content R.items value h = let v : V.Items [] ≡ value = cc h in ([], sy
 default_content R.effects value h = let v : V.Effects [] ≡ value = cc h in ([], sym v, tt)
 default_content R.markers value h = let v : V.Markers [] ≡ value = cc h in ([], sym v, tt)
 default_content R.media value h = let v : V.Media [] ≡ value = cc h in ([], sym v, tt)
+default_content R.medium value h = tt
 default_content R.stack value h = let v : V.Stack empty_tracks ≡ value = cc h in (empty_tracks, sym v, empty_read)
 default_content R.objects value h = let v : V.Objects [] ≡ value = cc h in ([], sym v, Q.no_objects [] refl)
 default_content R.rate value h = tt
@@ -308,6 +309,7 @@ still_content schema R.items value h = (h.0, ap (stilled schema) h.1, h.2)
 still_content schema R.effects value h = (h.0, ap (stilled schema) h.1, h.2)
 still_content schema R.markers value h = (h.0, ap (stilled schema) h.1, h.2)
 still_content schema R.media value h = (h.0, ap (stilled schema) h.1, h.2)
+still_content schema R.medium value h = tt
 still_content schema R.stack value h = (h.0, ap (stilled schema) h.1, h.2)
 still_content schema R.objects value h = (h.0, ap (stilled schema) h.1, h.2)
 still_content schema R.rate value h = tt
@@ -473,6 +475,7 @@ mutual
         media_read xs (all_content medium (map (λ member. member.1) members) (map (λ member. medium_reading member.1) xs) all (media_suit (map (λ member. member.1) members)))
             (all_upgrade medium (map (λ member. member.1) members) (map (λ member. medium_reading member.1) xs) all (media_upgraded json members j (stays_as kind R.media json k u))),
       )
+  value_content kind json value (W.one_medium _ _ _ m k g v) u = content_as kind R.medium value k tt
   value_content kind json value (W.stack _ _ _ s k g v) u =
       content_as kind R.stack value k (s, v, stack_read s (fields_content C.STACKS json (stack_fields s) g (λ _. stays_as kind R.stack json k u)))
 

@@ -24,6 +24,7 @@ mutual
   value_first (W.in_effects place row json f list ek ej r) g h = at.in_effects_first place row json f g list ek ej (any_first r) h
   value_first (W.in_markers place row json f list ek ej r) g h = at.in_markers_first place row json f g list ek ej (any_first r) h
   value_first (W.in_media place row json f members ek ej r) g h = at.in_media_first place row json f g members ek ej (any_first r) h
+  value_first (W.in_reference place row json f ek r) g h = at.in_reference_first place row json f g ek (reading_first r) h
   value_first (W.in_stack place row json f ek r) g h = at.in_stack_first place row json f g ek (reading_first r) h
 
   pub row_first : {place : List ℕ} {row : Row} {members : List (List ℕ × Json)} {f : SchemaFault} → Refuses_row place row members f → (g : SchemaFault) → Refuses_row place row members g → f ≡ g

@@ -1,7 +1,7 @@
 -- The members of an object in the written order, by their names.
-use Rattle.std.proofs.Common.{◌≡◌, ◌≢◌, inr, ℕ, Bool, true, false, ◌||◌, List, [], ◌∷◌, ◌++◌, Some, refl, sym, ap, ◌∙◌}
+use Rattle.std.proofs.Common.{◌≡◌, ◌≢◌, inr, ℕ, Bool, true, false, List, [], ◌∷◌, ◌++◌, Some, refl, sym, ap, ◌∙◌}
 use Rattle.std.specs.Str.{bytes_eq}
-use Rattle.std.proofs.lemmas.Bool.{false≢true}
+use Rattle.std.proofs.lemmas.Bool.{false≢true, or_left, or_right}
 use Rattle.std.proofs.lemmas.Slice.Eq.{bytes_eq-Decides}
 use Rattle.json_value.specs.declared.Json.{Json}
 use Rattle.json_value.specs.declared.Json.TheVariants as J
@@ -14,6 +14,7 @@ use Rattle.schema_rows.specs.Families.{is_row, others}
 use Rattle.schema_rows.specs.Stands as W
 use Rattle.schema_rows.specs.Stands.{Gives, Gives_row, Gives_rows}
 use Rattle.schema_write.specs.Written.{named_values}
+use Rattle.schema_up.proofs.PutLemmas.{self_name, differs}
 use Rattle.schema_rows.proofs.Distinct.{row_names}
 use Rattle.schema_write.proofs.Distinct.{fixed}
 
@@ -26,24 +27,6 @@ abbrev pub HoldsAll : List Row → List Json → List Value → Type 0
 HoldsAll [] [] [] = Unit {0}
 HoldsAll (row ∷ rows) (json ∷ jsons) (value ∷ values) = Holds row json value × HoldsAll rows jsons values
 HoldsAll _ _ _ = ⊥
-
-pub or_right : (a b : Bool) → b ≡ true → (a || b) ≡ true
-or_right true b h = refl
-or_right false b h = h
-
-or_left : (a b : Bool) → a ≡ true → (a || b) ≡ true
-or_left true b h = refl
-or_left false b h = absurd (false≢true h)
-
-pub self_name : (n : List ℕ) → bytes_eq n n ≡ true
-self_name n = (bytes_eq-Decides n n).1 refl
-
-pub differs : (a b : List ℕ) → a ≢ b → bytes_eq a b ≡ false
-differs a b other = by (bytes_eq a b) refl
-  where
-    by : (t : Bool) → bytes_eq a b ≡ t → bytes_eq a b ≡ false
-    by true e = absurd (other ((bytes_eq-Decides a b).0 e))
-    by false e = e
 
 -- a name of a row is not a name that no row has
 apart_name : (n name : List ℕ) (rows : List Row) → IsNew n (row_names rows) → is_row rows name ≡ true → bytes_eq name n ≡ false

@@ -46,6 +46,7 @@ Given R.effects json v = (list : List Json) × (effects : List Effect) × (json 
 Given R.markers json v = (list : List Json) × (markers : List Marker) × (json ≡ J.List list) × Gives_all (member C.MARKERS) list (map marker_reading markers) × (v ≡ V.Markers markers)
 Given R.media json v = (members : List (List ℕ × Json)) × (media : List (List ℕ × Media)) × (json ≡ J.Map members) × (names_of members ≡ names_of media)
     × Gives_all medium (map (λ member. member.1) members) (map (λ member. medium_reading member.1) media) × (v ≡ V.Media media)
+Given R.medium json v = (reference : Media) × Gives_reading medium json (medium_reading reference) × (v ≡ V.Medium reference)
 Given R.stack json v = (stack : StackOf Listed) × Gives_fields C.STACKS json (stack_fields stack) × (v ≡ V.Stack stack)
 Given R.objects json v = (list : List Json) × (objects : List Object) × (json ≡ J.List list) × Gives_all (child C.ROOTS) list (map (λ object. known (object_fields object)) objects)
     × (v ≡ V.Objects objects)
@@ -70,6 +71,7 @@ given (G.objects kind json value list objects ek ej g ev) = as_kind kind R.objec
 given (G.effects kind json value list effects ek ej g ev) = as_kind kind R.effects json value ek (list, effects, ej, g, ev)
 given (G.markers kind json value list markers ek ej g ev) = as_kind kind R.markers json value ek (list, markers, ej, g, ev)
 given (G.media kind json value members media ek ej en g ev) = as_kind kind R.media json value ek (members, media, ej, en, g, ev)
+given (G.one_medium kind json value reference ek g ev) = as_kind kind R.medium json value ek (reference, g, ev)
 given (G.stack kind json value stack ek g ev) = as_kind kind R.stack json value ek (stack, g, ev)
 
 pub given_as : (k l : RowKind) (json : Json) (v : Value) → k ≡ l → Gives k json v → Given l json v

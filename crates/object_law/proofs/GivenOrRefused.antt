@@ -28,6 +28,7 @@ mutual
   value_not (W.in_effects place row json fault list ek ej r) v h = at.effects_not row.kind json v list ek ej (all_not r) h
   value_not (W.in_markers place row json fault list ek ej r) v h = at.markers_not row.kind json v list ek ej (all_not r) h
   value_not (W.in_media place row json fault members ek ej r) v h = at.media_not row.kind json v members ek ej (all_not r) h
+  value_not (W.in_reference place row json fault ek r) v h = at.reference_not row.kind json v ek (reading_not r) h
   value_not (W.in_stack place row json fault ek r) v h = at.stack_not row.kind json v ek (reading_not r) h
 
   pub row_not : {place : List ℕ} {row : Row} {members : List (List ℕ × Json)} {fault : SchemaFault} → Refuses_row place row members fault → (v : Value) → Gives_row row members v → ⊥

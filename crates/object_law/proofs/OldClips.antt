@@ -1,73 +1,55 @@
 -- What is written of a writable marker, gap or clip in the older family, and upgraded, reads back as
 -- that marker, gap or clip.
-use Rattle.std.proofs.Common.{◌≡◌, ◌≢◌, ℕ, suc, zero, Bool, true, false, ◌||◌, ◌&&◌, cond, List, [], ◌∷◌, ◌++◌, map, filter, not, Option, Some, None, refl, sym, ap, ap₂, ◌∙◌, codes, subst, inr, slice_get, append-nil, ◌≤◌, arith}
-use Rattle.std.specs.Prelude.{option_and_then}
+use Rattle.std.proofs.Common.{◌≡◌, ◌≢◌, ℕ, Bool, true, false, ◌||◌, cond, List, [], ◌∷◌, ◌++◌, map, not, Some, None, refl, sym, ap, ap₂, ◌∙◌, codes, subst, append-nil, ◌≤◌, arith}
 use Rattle.std.specs.List.{list_any}
 use Rattle.std.specs.Str.{bytes_eq}
-use Rattle.std.proofs.lemmas.Bool.{false≢true}
+use Rattle.std.proofs.lemmas.Bool.{false≢true, and_parts, or_parts}
 use Rattle.std.proofs.lemmas.List.Elements.{filter-append}
 use Rattle.json_value.specs.declared.Json.{Json, Str, Map, Null, Bool as JsonOfBool, List as JsonOfList, out-Json}
-use Rattle.json_value.specs.declared.Json.TheVariants as J
 use Rattle.json_value.specs.declared.Json.TheOpen.{Json-F}
 use Rattle.json_value.specs.declared.Json.TheViews.{roll-Json, roll-out-Json}
 use Rattle.sequences.proofs.PairLemmas.{bytes_eq-sym}
 use Rattle.sequences.specs.Pairs.{value_of, put}
-use Rattle.otio_model.specs.declared.compositions.Listed.{Listed}
-use Rattle.otio_model.specs.declared.compositions.ItemOf.{ItemOf}
-use Rattle.otio_model.specs.declared.compositions.ItemOf.TheVariants as I
 use Rattle.otio_model.specs.declared.compositions.Clip.{Clip}
 use Rattle.otio_model.specs.declared.compositions.Gap.{Gap}
 use Rattle.otio_model.specs.declared.compositions.Transition.{Transition}
-use Rattle.otio_model.specs.declared.compositions.StackOf.{StackOf}
-use Rattle.otio_model.specs.declared.compositions.TrackOf.{TrackOf}
-use Rattle.otio_model.specs.declared.timelines.Timeline.{Timeline}
-use Rattle.otio_model.specs.declared.objects.Object.{Object, out-Object}
-use Rattle.otio_model.specs.declared.objects.Object.TheOpen.{Object-F}
-use Rattle.otio_model.specs.declared.objects.Object.TheViews.{roll-Object, roll-out-Object}
-use Rattle.otio_model.specs.declared.objects.Object.TheFolds.{fold-roll-Object}
-use Rattle.otio_model.specs.declared.objects.Collection.{Collection, out-Collection}
 use Rattle.otio_model.specs.declared.markers.Marker.{Marker}
 use Rattle.otio_model.specs.declared.markers.Marker.TheVariants as K
 use Rattle.otio_model.specs.declared.markers.Mark.{Mark}
 use Rattle.otio_model.specs.declared.media.Media.{Media}
 use Rattle.otio_model.specs.declared.media.Media.TheVariants as M
-use Rattle.otio_model.specs.Trees.{items_of, children_of, is_transition, below}
 use Rattle.schema_rows.specs.Rows as R
 use Rattle.schema_rows.specs.Rows.{Row}
 use Rattle.schema_rows.specs.declared.schemas.Schema.{Schema}
 use Rattle.schema_rows.specs.declared.schemas.Schema.TheVariants as S
-use Rattle.schema_rows.specs.declared.schemas.TheConstants as C
 use Rattle.schema_up.specs.declared.old_names.Form.{Form}
 use Rattle.schema_up.specs.declared.old_names.Form.TheVariants as F
 use Rattle.schema_up.specs.declared.old_names.Row.TheVariants.{Kept, Object as ObjectRow, Objects}
-use Rattle.schema_up.specs.Names.{schema_in, schema_named}
+use Rattle.schema_up.specs.Names.{schema_named}
 use Rattle.schema_up.specs.UpgradeRows.{row_of}
-use Rattle.schema_up.specs.Upgrades.{Pairs, upgraded, upgraded_at, items_at, pairs_at, renewed, without, named_anew, missing, medium_in, medium_of, media_of, second_marker, second_clip}
+use Rattle.schema_up.specs.Upgrades.{Pairs, upgraded, upgraded_at, items_at, pairs_at, renewed, without, medium_in, media_of, second_marker, second_clip}
 use Rattle.schema_rows.specs.Schemas.{schema_key, rows_of, text_of, name_of, version_of, named}
-use Rattle.schema_rows.specs.Families.{others, child, member, medium}
-use Rattle.schema_up.proofs.Levels.{upgraded_at-Map, upgraded_at-Str, upgraded_at-List, kept_same}
-use Rattle.schema_write.specs.Written.{named_values, written, written_old, old_others}
-use Rattle.schema_write.specs.Objects.{span_json, offset_json, effects_json, mark_json, old_mark_json, marker_by, markers_by, marker_json, markers_json, medium_json, media_json, medium_pair, reference_json, clip_json, old_clip_json, newer, older, gap_in, transition_json, stack_by, track_by, children_in, item_in, timeline_in, collection_in, object_in, object_step, collection_step, old_json_of}
-use Rattle.schema_write.specs.OldForms.{is_default, is_one_default, has_one_key, has_member, has_range, clip_fault, markers_fault, old_fault_of, held_in, HasOldForm}
-use Rattle.schema_write.proofs.Distinct.{fixed, Excludes, excludes_head}
-use Rattle.object_law.specs.Writable.{IsUpgraded, AreOthers, IsMarker, AreMarkers, IsMedium, IsClip, IsGap, IsTransition}
+use Rattle.schema_rows.specs.Families.{is_row, others, member}
+use Rattle.schema_up.proofs.PutLemmas.{Lacks}
+use Rattle.schema_up.proofs.Levels.{upgraded_at-Map, upgraded_at-List, kept_same}
+use Rattle.schema_write.specs.Objects.{span_json, effects_json, mark_json, old_mark_json, marker_by, markers_by, marker_json, markers_json, medium_json, reference_json, old_clip_json, newer, older, gap_in, transition_json}
+use Rattle.schema_write.specs.OldForms.{is_default, is_one_default, has_one_key, has_member, has_range, clip_fault, markers_fault}
+use Rattle.schema_write.proofs.Distinct.{fixed, excludes_head}
+use Rattle.object_law.specs.Writable.{AreOthers, AreMarkers, IsMedium, IsClip, IsGap}
 use Rattle.std.proofs.lemmas.Slice.Eq.{bytes_eq-Decides}
 use Rattle.schema_rows.specs.declared.values.Value.{Value}
 use Rattle.schema_rows.specs.declared.values.Value.TheVariants as V
-use Rattle.schema_rows.specs.Readings.{known, object_layer, object_fields, timeline_fields, collection_fields, clip_fields, gap_fields, transition_fields, stack_fields, track_fields, item_fields}
+use Rattle.schema_rows.specs.Readings.{clip_fields}
 use Rattle.schema_rows.specs.Stands as W
-use Rattle.schema_rows.specs.Stands.{Gives_fields, Gives_rows, Gives_all, Stands}
-use Rattle.schema_write.specs.declared.old_faults.OldFault.TheVariants.{Keys, Member}
-use Rattle.object_law.specs.Writable as Q
-use Rattle.object_law.specs.Writable.{AreMedia, AreEffects, IsItem, IsStack, IsTrack, AreItems, IsTimeline, IsObject, AreObjects}
-use Rattle.otio_model.specs.Misplaced.{side_by_side}
-use Rattle.schema_write.proofs.Trees.{children_are, collection_is}
+use Rattle.schema_rows.specs.Stands.{Gives_fields, Gives_rows}
+use Rattle.schema_write.specs.declared.old_faults.OldFault.TheVariants.{Member}
+use Rattle.object_law.specs.Writable.{AreMedia}
 use Rattle.object_law.proofs.Leaves.{map_not_null}
-use Rattle.object_law.proofs.FoundMembers.{Holds, HoldsAll, row_stands, differs}
-use Rattle.object_law.proofs.HeldValues.{held_as, list_not_null, meta_held, text_held, flag_held}
-use Rattle.object_law.proofs.NamedSchemas.{schema_text, written_stands}
-use Rattle.object_law.proofs.Writables.{span_held, effects_held, markers_held, media_held, or_none, HasItems, among_items, among_roots, offset_held, gap_given, transition_given}
-use Rattle.object_law.proofs.OldMembers.{schema_first, Become, named_become, Stay, stay_same, pairs_append, object_becomes, Lacks, value_lacks, without_lacks, put_lacks, put_end, filter_lacks, lacks_by, others_stay, others_lack, where_not}
+use Rattle.object_law.proofs.FoundMembers.{HoldsAll, row_stands}
+use Rattle.object_law.proofs.HeldValues.{text_held}
+use Rattle.object_law.proofs.NamedSchemas.{schema_text}
+use Rattle.object_law.proofs.Writables.{shared_held, media_held}
+use Rattle.object_law.proofs.OldMembers.{schema_first, Stay, stay_same, object_becomes, value_lacks, without_lacks, put_lacks, put_end, lacks_by, others_stay, others_lack, where_not}
 
 -- an object of a form that has no rows inside stays
 pub other_same : (text : List ℕ) (ms : Pairs) → schema_named text ≡ F.Other
@@ -99,11 +81,32 @@ mark_lacks rest o = subst (Lacks (codes "marked_range")) (sym o)
     (others_lack (codes "marked_range") (rows_of S.Marker) rest
     (excludes_head (rows_of S.Marker)).1.1.1.0)
 
-old_rest : (name : List ℕ) (schema : Schema) (rest : Pairs) → AreOthers schema rest
-    → has_member name rest ≡ false → old_others name schema rest ≡ rest
-old_rest name schema rest o none =
-    ap (λ (l : Pairs). filter (λ (m : List ℕ × Json). not (bytes_eq name m.0)) l) (sym o)
-    ∙ filter_lacks name rest (lacks_by name rest none)
+-- a table with one other row at its end: names that no row of the first has, and not that row
+own_row : (front last : List Row) (own : Row) (name : List ℕ) → is_row (front ++ last) name ≡ false
+    → bytes_eq own.name name ≡ false → is_row (front ++ own ∷ []) name ≡ false
+own_row [] last own name h k = rw (bytes_eq-sym name own.name, k) refl
+own_row (row ∷ front) last own name h k =
+    let parts = or_parts (bytes_eq name row.name) (is_row (front ++ last) name) h in
+    rw parts.0 (own_row front last own name parts.1 k)
+
+own_fixed : (front last : List Row) (own : Row) (name : List ℕ) → fixed (front ++ last) name ≡ false
+    → bytes_eq own.name name ≡ false → fixed (front ++ own ∷ []) name ≡ false
+own_fixed front last own name h k =
+    let parts = or_parts (bytes_eq name schema_key) (is_row (front ++ last) name) h in
+    rw parts.0 (own_row front last own name parts.1 k)
+
+-- other members that lack the name of that row stay in it
+old_rest : (front last : List Row) (own : Row) (rest : Pairs) → Lacks own.name rest
+    → others (front ++ own ∷ []) (others (front ++ last) rest) ≡ others (front ++ last) rest
+old_rest front last own [] h = refl
+old_rest front last own (m ∷ ms) h =
+    by (fixed (front ++ last) m.0) refl (old_rest front last own ms h.1)
+  where
+    by : (t : Bool) → fixed (front ++ last) m.0 ≡ t
+        → others (front ++ own ∷ []) (others (front ++ last) ms) ≡ others (front ++ last) ms
+        → others (front ++ own ∷ []) (others (front ++ last) (m ∷ ms)) ≡ others (front ++ last) (m ∷ ms)
+    by true e below = rw e below
+    by false e below = rw (e, own_fixed front last own m.0 e h.0) (ap (λ (l : Pairs). m ∷ l) below)
 
 first_stays : (ms : Pairs) → Stay F.FirstMarker ms
 first_stays [] = tt
@@ -122,7 +125,8 @@ marker_renewed m n span rest lacks = ap (λ (l : Pairs). (schema_key, Str (codes
 mark_upgraded : (m : Mark) → AreOthers S.Marker m.rest
     → has_member (codes "range") m.rest ≡ false → upgraded (old_mark_json m) ≡ mark_json m
 mark_upgraded m o none =
-    let same = old_rest (codes "range") S.Marker m.rest o none in
+    let same = old_rest (R.named_rows []) (R.optional (codes "marked_range") R.span ∷ [])
+    (R.optional (codes "range") R.span) m.rest (lacks_by (codes "range") m.rest none) ∙ sym o in
     let behind = (codes "metadata", Map m.metadata) ∷ (codes "name", Str m.name)
     ∷ (codes "range", span_json m.marked_range) ∷ m.rest in
     let all = (schema_key, Str (codes "Marker.1")) ∷ behind in
@@ -139,15 +143,11 @@ mark_upgraded m o none =
     ∷ (codes "metadata", Map m.metadata) ∷ (codes "name", Str m.name)
     ∷ (codes "marked_range", span_json m.marked_range) ∷ l)) o
 
-or_false : (a b : Bool) → (a || b) ≡ false → (a ≡ false) × (b ≡ false)
-or_false true b h = absurd (false≢true (sym h))
-or_false false b h = (refl, h)
-
 markers_upgraded : (ms : List Marker) → AreMarkers ms → list_any has_range ms ≡ false
     → items_at ObjectRow (map (marker_by old_mark_json) ms) ≡ map marker_json ms
 markers_upgraded [] h none = refl
 markers_upgraded ((K.Known m) ∷ ms) h none =
-    let parts = or_false (has_range (K.Known m)) (list_any has_range ms) none in
+    let parts = or_parts (has_range (K.Known m)) (list_any has_range ms) none in
     ap₂ (λ (v : Json) (l : List Json). v ∷ l) (mark_upgraded m h.0 parts.0)
     (markers_upgraded ms h.1 parts.1)
 markers_upgraded ((K.Kept json) ∷ ms) h none =
@@ -212,10 +212,6 @@ medium_layer (Json-F.Str t) value e some = refl
 medium_layer (Json-F.List l) value e some = refl
 medium_layer (Json-F.Map ms) value e some = refl
 
--- the first six rows of a clip, and its one reference
-abbrev old_rows : List Row
-old_rows = R.item_rows (R.optional (codes "media_reference") R.media ∷ [])
-
 -- the members of a clip of the first version, renewed
 abbrev clip_front : (text m n s e k b : Json) → Pairs → Pairs
 clip_front text m n s e k b rest = (schema_key, text) ∷ (codes "metadata", m) ∷ (codes "name", n)
@@ -255,10 +251,6 @@ pub record OneReference (c : Clip) : Type 0 where
   pub alone : c.media_references ≡ (codes "DEFAULT_MEDIA", reference) ∷ []
   pub key : c.active_media_reference_key ≡ codes "DEFAULT_MEDIA"
 
-both_true : (a b : Bool) → (a && b) ≡ true → (a ≡ true) × (b ≡ true)
-both_true true b h = (refl, h)
-both_true false b h = absurd (false≢true h)
-
 default_is : (key : List ℕ) → is_default key ≡ true → key ≡ codes "DEFAULT_MEDIA"
 default_is key h = (bytes_eq-Decides key (codes "DEFAULT_MEDIA")).0 h
 
@@ -286,8 +278,8 @@ clip_free c h = by (has_one_key c) refl h
         → cond t (Some Member) None ≡ None → IsFree c
     inside true e one h = absurd (cc h)
     inside false e one h =
-        let parts = or_false (has_member (codes "media_reference") c.rest) (list_any has_range c.markers) e in
-        let keys = both_true (is_one_default c.media_references) (is_default c.active_media_reference_key) one in
+        let parts = or_parts (has_member (codes "media_reference") c.rest) (list_any has_range c.markers) e in
+        let keys = and_parts (is_one_default c.media_references) (is_default c.active_media_reference_key) one in
         record {
           one = one_reference c c.media_references refl keys.0 keys.1;
           member = parts.0;
@@ -339,8 +331,10 @@ clip_upgraded c free h w =
     (Map c.metadata) (Str c.name) (span_json c.source_range) (effects_json c.effects)
     (markers_by old_mark_json c.markers) (JsonOfBool c.enabled)
     ((codes "media_reference", j) ∷ l)))) reference
-    (old_rest (codes "media_reference") S.Clip c.rest h.0 free.member)
-    ∙ object_becomes F.FirstClip (codes "Clip.1") old_rows (six (markers_by old_mark_json c.markers))
+    (old_rest (R.item_rows []) (R.optional (codes "media_references") R.media
+    ∷ R.optional (codes "active_media_reference_key") (R.text (codes "DEFAULT_MEDIA")) ∷ [])
+    (R.optional (codes "media_reference") R.medium) c.rest lacks.reference ∙ sym h.0)
+    ∙ object_becomes F.FirstClip (codes "Clip.1") (rows_of S.FirstClip) (six (markers_by old_mark_json c.markers))
     (six (markers_json c.markers)) c.rest refl refl (
       kept_same _,
       (
@@ -428,28 +422,12 @@ clip_old family found c h none =
           ),
         ),
       ),
-    ) (
-      meta_held _ c.metadata refl,
-      (
-        text_held _ [] c.name refl,
-        (
-          span_held _ c.source_range refl refl,
-          (
-            effects_held _ c.effects refl h.1,
-            (
-              markers_held _ c.markers refl h.2,
-              (
-                flag_held _ c.enabled refl,
-                (
-                  media_held _ one refl media,
-                  (text_held _ (codes "DEFAULT_MEDIA") (codes "DEFAULT_MEDIA") refl, tt),
-                ),
-              ),
-            ),
-          ),
-        ),
-      ),
-    ) in
+    ) (shared_held c.metadata c.name c.source_range c.effects c.markers c.enabled
+    (R.optional (codes "media_references") R.media
+    ∷ R.optional (codes "active_media_reference_key") (R.text (codes "DEFAULT_MEDIA")) ∷ [])
+    (media_of r ∷ Str (codes "DEFAULT_MEDIA") ∷ [])
+    (V.Media one ∷ V.Text (codes "DEFAULT_MEDIA") ∷ []) h.1 h.2
+    (media_held _ one refl media, (text_held _ (codes "DEFAULT_MEDIA") (codes "DEFAULT_MEDIA") refl, tt))) in
     let given : Gives_fields family (Map ms) (record {
       schema = S.Clip;
       values = values one (codes "DEFAULT_MEDIA");

@@ -1,27 +1,25 @@
 -- Members of objects of older schemas, upgraded.
-use Rattle.std.proofs.Common.{◌≡◌, ◌≢◌, ℕ, Bool, true, false, ◌||◌, not, filter, List, [], ◌∷◌, ◌++◌, map, Option, Some, None, refl, sym, ap, ap₂, ◌∙◌, codes, subst}
+use Rattle.std.proofs.Common.{◌≡◌, ◌≢◌, ℕ, Bool, true, false, List, [], ◌∷◌, ◌++◌, refl, sym, ap, ap₂, ◌∙◌}
 use Rattle.std.specs.List.{list_any}
 use Rattle.std.specs.Str.{bytes_eq}
 use Rattle.std.proofs.lemmas.Bool.{false≢true}
-use Rattle.std.proofs.lemmas.List.Elements.{filter-append}
-use Rattle.json_value.specs.declared.Json.{Json, Str, Map, List as JsonOfList, out-Json}
+use Rattle.json_value.specs.declared.Json.{Json, Str, Map}
 use Rattle.json_value.specs.declared.Json.TheVariants as J
 use Rattle.json_value.specs.declared.Json.TheOpen.{Json-F}
 use Rattle.sequences.specs.Pairs.{value_of, put}
 use Rattle.schema_rows.specs.Rows.{Row as TableRow}
 use Rattle.schema_up.specs.declared.old_names.Form.{Form}
-use Rattle.schema_up.specs.declared.old_names.Form.TheVariants as F
 use Rattle.schema_up.specs.declared.old_names.Row.{Row}
-use Rattle.schema_up.specs.declared.old_names.Row.TheVariants.{Kept, Object, Objects, Media}
+use Rattle.schema_up.specs.declared.old_names.Row.TheVariants.{Kept, Object}
 use Rattle.schema_up.specs.Names.{schema_in, schema_or_other, schema_named, string_in}
 use Rattle.schema_up.specs.UpgradeRows.{row_of, where_holds}
-use Rattle.schema_up.specs.Upgrades.{Pairs, upgraded, upgraded_at, pair_at, pairs_at, map_at, renewed, renewed_at, without, named_anew}
+use Rattle.schema_up.specs.Upgrades.{Pairs, upgraded, upgraded_at, pair_at, pairs_at, renewed, without}
 use Rattle.schema_rows.specs.Schemas.{schema_key}
 use Rattle.schema_rows.specs.Families.{others}
+use Rattle.schema_up.proofs.PutLemmas.{differs, Lacks}
 use Rattle.schema_up.proofs.Levels.{upgraded_at-Map, upgraded_at-Str, kept_same}
 use Rattle.schema_write.specs.Written.{named_values}
 use Rattle.schema_write.proofs.Distinct.{fixed, Excludes}
-use Rattle.object_law.proofs.FoundMembers.{differs}
 
 -- the schema of members that begin with its text
 pub schema_first : (text : List ℕ) (ms : Pairs) → schema_in ((schema_key, Str text) ∷ ms)
@@ -80,11 +78,6 @@ object_becomes form text rows xs ys rest is key h stay =
     ∙ ap (λ (f : Form). Map (renewed f (pairs_at Object f ms))) same
     ∙ ap₂ (λ (v : Json) (l : Pairs). Map (renewed form ((schema_key, v) ∷ l))) head tail
 
--- none of the members has the name
-abbrev pub Lacks : List ℕ → Pairs → Type 0
-Lacks name [] = Unit {0}
-Lacks name (m ∷ ms) = (bytes_eq name m.0 ≡ false) × Lacks name ms
-
 pub value_lacks : (name : List ℕ) (ms more : Pairs) → Lacks name ms
     → value_of name (ms ++ more) ≡ value_of name more
 value_lacks name [] more h = refl
@@ -103,11 +96,6 @@ pub put_end : (name : List ℕ) (x : Json) (ms : Pairs) → Lacks name ms
     → put name x ms ≡ ms ++ (name, x) ∷ []
 put_end name x [] h = refl
 put_end name x (m ∷ ms) h = rw h.0 (ap (λ (l : Pairs). m ∷ l) (put_end name x ms h.1))
-
-pub filter_lacks : (name : List ℕ) (ms : Pairs) → Lacks name ms
-    → filter (λ (m : List ℕ × Json). not (bytes_eq name m.0)) ms ≡ ms
-filter_lacks name [] h = refl
-filter_lacks name (m ∷ ms) h = rw h.0 (ap (λ (l : Pairs). m ∷ l) (filter_lacks name ms h.1))
 
 -- no member of that name was found
 pub lacks_by : (name : List ℕ) (ms : Pairs)

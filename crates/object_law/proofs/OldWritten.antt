@@ -1,16 +1,8 @@
 -- What is written of a writable object in the older family, and upgraded, reads back as that object.
-use Rattle.std.proofs.Common.{◌≡◌, ◌≢◌, ℕ, suc, zero, Bool, true, false, ◌||◌, ◌&&◌, cond, List, [], ◌∷◌, ◌++◌, map, filter, not, Option, Some, None, refl, sym, ap, ap₂, ◌∙◌, codes, subst, inr, slice_get, append-nil, ◌≤◌, arith}
+use Rattle.std.proofs.Common.{◌≡◌, ◌≢◌, ℕ, suc, zero, false, List, [], ◌∷◌, map, Some, None, refl, sym, ap, ◌∙◌, codes, subst, slice_get}
 use Rattle.std.specs.Prelude.{option_and_then}
 use Rattle.std.specs.List.{list_any}
-use Rattle.std.specs.Str.{bytes_eq}
-use Rattle.std.proofs.lemmas.Bool.{false≢true}
-use Rattle.std.proofs.lemmas.List.Elements.{filter-append}
-use Rattle.json_value.specs.declared.Json.{Json, Str, Map, Null, Bool as JsonOfBool, List as JsonOfList, out-Json}
-use Rattle.json_value.specs.declared.Json.TheVariants as J
-use Rattle.json_value.specs.declared.Json.TheOpen.{Json-F}
-use Rattle.json_value.specs.declared.Json.TheViews.{roll-Json, roll-out-Json}
-use Rattle.sequences.proofs.PairLemmas.{bytes_eq-sym}
-use Rattle.sequences.specs.Pairs.{value_of, put}
+use Rattle.json_value.specs.declared.Json.{Json, Str, Map, Null, Bool as JsonOfBool, List as JsonOfList}
 use Rattle.otio_model.specs.declared.compositions.Listed.{Listed}
 use Rattle.otio_model.specs.declared.compositions.ItemOf.{ItemOf}
 use Rattle.otio_model.specs.declared.compositions.ItemOf.TheVariants as I
@@ -25,60 +17,46 @@ use Rattle.otio_model.specs.declared.objects.Object.TheOpen.{Object-F}
 use Rattle.otio_model.specs.declared.objects.Object.TheViews.{roll-Object, roll-out-Object}
 use Rattle.otio_model.specs.declared.objects.Object.TheFolds.{fold-roll-Object}
 use Rattle.otio_model.specs.declared.objects.Collection.{Collection, out-Collection}
-use Rattle.otio_model.specs.declared.markers.Marker.{Marker}
-use Rattle.otio_model.specs.declared.markers.Marker.TheVariants as K
-use Rattle.otio_model.specs.declared.markers.Mark.{Mark}
-use Rattle.otio_model.specs.declared.media.Media.{Media}
-use Rattle.otio_model.specs.declared.media.Media.TheVariants as M
 use Rattle.otio_model.specs.Trees.{items_of, children_of, is_transition, below}
 use Rattle.schema_rows.specs.Rows as R
 use Rattle.schema_rows.specs.Rows.{Row}
 use Rattle.schema_rows.specs.declared.schemas.Schema.{Schema}
 use Rattle.schema_rows.specs.declared.schemas.Schema.TheVariants as S
 use Rattle.schema_rows.specs.declared.schemas.TheConstants as C
-use Rattle.schema_up.specs.declared.old_names.Form.{Form}
 use Rattle.schema_up.specs.declared.old_names.Form.TheVariants as F
 use Rattle.schema_up.specs.declared.old_names.Row.TheVariants.{Kept, Object as ObjectRow, Objects}
-use Rattle.schema_up.specs.Names.{schema_in, schema_named}
 use Rattle.schema_up.specs.UpgradeRows.{row_of}
-use Rattle.schema_up.specs.Upgrades.{Pairs, upgraded, upgraded_at, items_at, pairs_at, renewed, without, named_anew, missing, medium_in, medium_of, media_of, second_marker, second_clip}
-use Rattle.schema_rows.specs.Schemas.{schema_key, rows_of, text_of, name_of, version_of, named}
-use Rattle.schema_rows.specs.Families.{others, child, member, medium}
-use Rattle.schema_up.proofs.Levels.{upgraded_at-Map, upgraded_at-Str, upgraded_at-List, kept_same}
-use Rattle.schema_write.specs.Written.{named_values, written, written_old, old_others}
-use Rattle.schema_write.specs.Objects.{span_json, offset_json, effects_json, mark_json, old_mark_json, marker_by, markers_by, marker_json, markers_json, medium_json, media_json, medium_pair, reference_json, clip_json, old_clip_json, newer, older, gap_in, transition_json, stack_by, track_by, children_in, item_in, timeline_in, collection_in, object_in, object_step, collection_step, old_json_of}
-use Rattle.schema_write.specs.OldForms.{is_default, is_one_default, has_one_key, has_member, has_range, clip_fault, markers_fault, old_fault_of, held_in, HasOldForm}
-use Rattle.schema_write.proofs.Distinct.{fixed, Excludes, excludes_head}
-use Rattle.object_law.specs.Writable.{IsUpgraded, AreOthers, IsMarker, AreMarkers, IsMedium, IsClip, IsGap, IsTransition}
-use Rattle.std.proofs.lemmas.Slice.Eq.{bytes_eq-Decides}
-use Rattle.schema_rows.specs.declared.values.Value.{Value}
+use Rattle.schema_up.specs.Upgrades.{Pairs, upgraded, upgraded_at, items_at}
+use Rattle.schema_rows.specs.Schemas.{rows_of, text_of, name_of, named}
+use Rattle.schema_rows.specs.Families.{others, child}
+use Rattle.schema_up.proofs.PutLemmas.{differs}
+use Rattle.schema_up.proofs.Levels.{upgraded_at-Map, upgraded_at-List, kept_same}
+use Rattle.schema_write.specs.Objects.{span_json, offset_json, effects_json, old_mark_json, markers_by, markers_json, older, gap_in, transition_json, stack_by, track_by, children_in, item_in, timeline_in, collection_in, object_in, object_step, collection_step, old_json_of}
+use Rattle.schema_write.specs.OldForms.{markers_fault, old_fault_of, held_in, HasOldForm}
+use Rattle.schema_write.proofs.Distinct.{fixed, excludes_head}
+use Rattle.object_law.specs.Writable.{AreOthers, AreMarkers, IsGap, IsTransition}
 use Rattle.schema_rows.specs.declared.values.Value.TheVariants as V
-use Rattle.schema_rows.specs.Readings.{known, object_layer, object_fields, timeline_fields, collection_fields, clip_fields, gap_fields, transition_fields, stack_fields, track_fields, item_fields}
+use Rattle.schema_rows.specs.Readings.{known, object_layer, object_fields, timeline_fields, collection_fields, gap_fields, transition_fields, stack_fields, track_fields, item_fields}
 use Rattle.schema_rows.specs.Stands as W
-use Rattle.schema_rows.specs.Stands.{Gives_fields, Gives_rows, Gives_all, Stands}
-use Rattle.schema_write.specs.declared.old_faults.OldFault.TheVariants.{Keys, Member}
+use Rattle.schema_rows.specs.Stands.{Gives_fields, Gives_all, Stands}
 use Rattle.object_law.specs.Writable as Q
-use Rattle.object_law.specs.Writable.{AreMedia, AreEffects, IsItem, IsStack, IsTrack, AreItems, IsTimeline, IsObject, AreObjects}
+use Rattle.object_law.specs.Writable.{AreEffects, IsItem, IsStack, IsTrack, AreItems, IsTimeline, IsObject, AreObjects}
 use Rattle.otio_model.specs.Misplaced.{side_by_side}
 use Rattle.schema_write.specs.OldWalk.{AreOld, into_item}
 use Rattle.schema_write.proofs.Trees.{children_are, collection_is}
 use Rattle.object_law.proofs.Leaves.{map_not_null}
-use Rattle.object_law.proofs.FoundMembers.{Holds, HoldsAll, row_stands, differs}
-use Rattle.object_law.proofs.HeldValues.{held_as, list_not_null, meta_held, text_held, flag_held}
-use Rattle.object_law.proofs.NamedSchemas.{schema_text, written_stands}
-use Rattle.object_law.proofs.Writables.{span_held, effects_held, markers_held, media_held, or_none, HasItems, among_items, among_roots, offset_held, gap_given, transition_given}
-use Rattle.object_law.proofs.OldMembers.{schema_first, Become, named_become, Stay, stay_same, pairs_append, object_becomes, Lacks, value_lacks, without_lacks, put_lacks, put_end, filter_lacks, lacks_by, others_stay, others_lack, where_not}
+use Rattle.object_law.proofs.FoundMembers.{Holds}
+use Rattle.object_law.proofs.HeldValues.{held_as, list_not_null, meta_held, text_held}
+use Rattle.object_law.proofs.NamedSchemas.{written_stands}
+use Rattle.object_law.proofs.Writables.{shared_held, or_none, HasItems, among_items, among_roots, offset_held, gap_given, transition_given}
+use Rattle.object_law.proofs.OldMembers.{object_becomes, others_stay, where_not}
 use Rattle.object_law.proofs.OldClips.{transition_same, list_become, markers_free, gap_upgraded, clip_old}
-
--- the item and all below it have a form in the older family
-abbrev HasOldItem : ItemOf Listed → Type 0
-HasOldItem x = AreOld (into_item x)
 
 -- items by places: nothing stands in the way of one of them
 abbrev AllOld : List (ItemOf Listed) → Type 0
-AllOld items = (i : ℕ) (x : ItemOf Listed) → slice_get items i ≡ Some x → HasOldItem x
+AllOld items = (i : ℕ) (x : ItemOf Listed) → slice_get items i ≡ Some x → AreOld (into_item x)
 
-children_old : (x : ItemOf Listed) (l : Listed) → children_of x ≡ Some l → HasOldItem x
+children_old : (x : ItemOf Listed) (l : Listed) → children_of x ≡ Some l → AreOld (into_item x)
     → AllOld (items_of l)
 children_old x l e h i y at place z b = h (i ∷ place) z
     (ap (option_and_then (λ m. option_and_then (below place) (slice_get (items_of m) i))) e
@@ -156,22 +134,11 @@ stack_old family found s o effects markers none free items =
     subst (λ (json : Json). Gives_fields family json (stack_fields s)) (sym same)
     (written_stands family S.Stack (jsons (markers_json s.markers) inside)
     (V.Meta s.metadata ∷ V.Text s.name ∷ V.Span s.source_range ∷ V.Effects s.effects
-    ∷ V.Markers s.markers ∷ V.Flag s.enabled ∷ V.Items (items_of s.children) ∷ []) s.rest found (
-      meta_held _ s.metadata refl,
-      (
-        text_held _ [] s.name refl,
-        (
-          span_held _ s.source_range refl refl,
-          (
-            effects_held _ s.effects refl effects,
-            (
-              markers_held _ s.markers refl markers,
-              (flag_held _ s.enabled refl, (old_items_held _ (items_of s.children) refl items, tt)),
-            ),
-          ),
-        ),
-      ),
-    )
+    ∷ V.Markers s.markers ∷ V.Flag s.enabled ∷ V.Items (items_of s.children) ∷ []) s.rest found
+    (shared_held s.metadata s.name s.source_range s.effects s.markers s.enabled
+    (R.optional (codes "children") R.items ∷ []) (inside ∷ []) (V.Items (items_of s.children) ∷ [])
+    effects markers
+    (old_items_held _ (items_of s.children) refl items, tt))
     (or_none (list_any is_transition (items_of s.children)) none) refl o)
 
 track_old : (family : List Schema) → named (name_of S.Track) family ≡ Some S.Track
@@ -205,28 +172,12 @@ track_old family found t o effects markers none free items =
     subst (λ (json : Json). Gives_fields family json (track_fields t)) (sym same)
     (written_stands family S.Track (jsons (markers_json t.markers) inside)
     (V.Meta t.metadata ∷ V.Text t.name ∷ V.Span t.source_range ∷ V.Effects t.effects
-    ∷ V.Markers t.markers ∷ V.Flag t.enabled ∷ V.Items (items_of t.children) ∷ V.Text t.kind ∷ []) t.rest found (
-      meta_held _ t.metadata refl,
-      (
-        text_held _ [] t.name refl,
-        (
-          span_held _ t.source_range refl refl,
-          (
-            effects_held _ t.effects refl effects,
-            (
-              markers_held _ t.markers refl markers,
-              (
-                flag_held _ t.enabled refl,
-                (
-                  old_items_held _ (items_of t.children) refl items,
-                  (text_held _ (codes "Video") t.kind refl, tt),
-                ),
-              ),
-            ),
-          ),
-        ),
-      ),
-    )
+    ∷ V.Markers t.markers ∷ V.Flag t.enabled ∷ V.Items (items_of t.children) ∷ V.Text t.kind ∷ []) t.rest found
+    (shared_held t.metadata t.name t.source_range t.effects t.markers t.enabled
+    (R.optional (codes "children") R.items
+    ∷ R.optional (codes "kind") (R.text (codes "Video")) ∷ []) (inside ∷ Str t.kind ∷ [])
+    (V.Items (items_of t.children) ∷ V.Text t.kind ∷ []) effects markers
+    (old_items_held _ (items_of t.children) refl items, (text_held _ (codes "Video") t.kind refl, tt)))
     (or_none (side_by_side (items_of t.children)) none) refl o)
 
 -- an item
@@ -236,7 +187,7 @@ old_as : (family : List Schema) (item i : ItemOf Listed) → item ≡ i
 old_as family item i e h = subst (λ (x : ItemOf Listed).
     Gives_fields family (upgraded (item_in older x)) (item_fields x)) (sym e) h
 
-free_of : (item i : ItemOf Listed) → item ≡ i → HasOldItem item → old_fault_of i ≡ None
+free_of : (item i : ItemOf Listed) → item ≡ i → AreOld (into_item item) → old_fault_of i ≡ None
 free_of item i e h = subst (λ (x : ItemOf Listed). old_fault_of x ≡ None) e (h [] item refl)
 
 none_old : (items : List (ItemOf Listed)) → items ≡ [] → AreGivenOld items
@@ -267,7 +218,7 @@ transition_old family found t h =
     (sym (transition_same t)) (transition_given family found t h)
 
 head_old : (items : List (ItemOf Listed)) (item : ItemOf Listed) (behind : List (ItemOf Listed))
-    → items ≡ item ∷ behind → AllOld items → HasOldItem item
+    → items ≡ item ∷ behind → AllOld items → AreOld (into_item item)
 head_old items item behind e h = h zero item (ap (λ (l : List (ItemOf Listed)). slice_get l zero) e)
 
 tail_old : (items : List (ItemOf Listed)) (item : ItemOf Listed) (behind : List (ItemOf Listed))
@@ -276,7 +227,7 @@ tail_old items item behind e h i x at =
     h (suc i) x (ap (λ (l : List (ItemOf Listed)). slice_get l (suc i)) e ∙ at)
 
 shown_old : (item i : ItemOf Listed) (l : Listed) → item ≡ i → children_of i ≡ Some l
-    → HasOldItem item → AllOld (items_of l)
+    → AreOld (into_item item) → AllOld (items_of l)
 shown_old item i l e c h = children_old item l (ap children_of e ∙ c) h
 
 as_given : (family : List Schema) (item : ItemOf Listed)
@@ -286,7 +237,7 @@ unfolding old_item_json
 as_given family item h = h
 
 mutual
-  item_old : (item : ItemOf Listed) → IsItem item → HasOldItem item → (family : List Schema)
+  item_old : (item : ItemOf Listed) → IsItem item → AreOld (into_item item) → (family : List Schema)
       → HasItems family → Gives_fields family (upgraded (item_in older item)) (item_fields item)
   item_old item (Q.clip _ c e h) free family has =
       old_as family item (I.Clip c) e (clip_old family has.clip c h (free_of item (I.Clip c) e free))
@@ -331,7 +282,7 @@ upgraded_some : (ms : Pairs) → upgraded (Map ms) ≢ Null
 upgraded_some ms = subst (λ (json : Json). json ≢ Null) (sym (upgraded_at-Map ms ObjectRow))
     (map_not_null _)
 
-timeline_old : (t : Timeline) → IsTimeline t → HasOldItem (I.Stack t.tracks)
+timeline_old : (t : Timeline) → IsTimeline t → AreOld (into_item (I.Stack t.tracks))
     → Gives_fields C.ROOTS (upgraded (timeline_in older t)) (timeline_fields t)
 timeline_old t h free =
     let tracks = stack_by older (children_in older) t.tracks in
@@ -453,11 +404,11 @@ item_layer i h = h
 
 -- what places lead to in an object, by what it is
 timeline_places : (object : Object) (t : Timeline) → out-Object object ≡ Object-F.Timeline t
-    → HasOldForm object → HasOldItem (I.Stack t.tracks)
+    → HasOldForm object → AreOld (into_item (I.Stack t.tracks))
 timeline_places object t e h place x at = h place x (ap (λ (l : Object-F Object Collection). held_in l place) e ∙ at)
 
 item_places : (object : Object) (i : ItemOf Listed) → out-Object object ≡ Object-F.Item i
-    → HasOldForm object → HasOldItem i
+    → HasOldForm object → AreOld (into_item i)
 item_places object i e h place x at = h place x (ap (λ (l : Object-F Object Collection). held_in l place) e ∙ at)
 
 collection_places : (object : Object) (c : Collection) → out-Object object ≡ Object-F.Collection c

@@ -118,6 +118,9 @@ in_media_first place row json f g members ek ej first h =
     let (other, e, r) = own_of R.media place row json g ek (λ wrong. wrong members ej) h in
     first g (subst (λ (m : List (List ℕ × Json)). Refuses_any medium place 0 (values_of m) g) (map_once json other members e ej) r)
 
+pub in_reference_first : (place : List ℕ) (row : Row) (json : Json) (f g : SchemaFault) → row.kind ≡ R.medium → ((x : SchemaFault) → Refuses_reading medium place json x → f ≡ x) → Refuses place row json g → f ≡ g
+in_reference_first place row json f g ek first h = first g (own_of R.medium place row json g ek (λ wrong. wrong) h)
+
 pub in_stack_first : (place : List ℕ) (row : Row) (json : Json) (f g : SchemaFault) → row.kind ≡ R.stack → ((x : SchemaFault) → Refuses_reading (child C.STACKS) place json x → f ≡ x) → Refuses place row json g → f ≡ g
 in_stack_first place row json f g ek first h = first g (own_of R.stack place row json g ek (λ wrong. wrong) h)
 

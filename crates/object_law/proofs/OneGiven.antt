@@ -26,8 +26,9 @@ use Rattle.schema_rows.specs.declared.values.Value.TheVariants as V
 use Rattle.schema_rows.specs.Numerals.{IsSpelled, value_of_decimal}
 use Rattle.schema_rows.specs.Readings.{Reading, known, stack_fields, item_fields, object_fields, effect_reading, marker_reading, medium_reading}
 use Rattle.schema_rows.specs.Families.{Want, child, member, medium}
-use Rattle.schema_rows.specs.Stands.{Gives, Gives_fields, Gives_all}
-use Rattle.object_law.proofs.Values.{rate_once, speed_once, time_once, same_span}
+use Rattle.schema_rows.specs.Stands.{Gives, Gives_fields, Gives_reading, Gives_all}
+use Rattle.tick_time.proofs.SameValues.{same_span}
+use Rattle.object_law.proofs.Values.{rate_once, speed_once, time_once}
 use Rattle.object_law.proofs.Decimals.{decimal_once}
 use Rattle.object_law.proofs.SeenValues.{Folded, View, these, Sight, seen, seen_fields, seen_reading, at, time_in, rate_in, numeral_in, stack_from, stack_is, item_back, item_is, effect_back, effect_is, marker_back, marker_is, medium_back, medium_is, object_back, object_is, of_object}
 use Rattle.object_law.proofs.GivenCases.{given_as}
@@ -168,6 +169,13 @@ media_once φ k json v w members xs ek ej en ev once h =
     = ap (map (seen_reading φ)) (sym (split_readings xs)) ∙ glances ∙ ap (map (seen_reading φ)) (split_readings ys) in
     let values = read_once φ medium_reading medium_back (medium_is φ) (map (λ (m : List ℕ × Media). m.1) xs) (map (λ (m : List ℕ × Media). m.1) ys) split in
     ap (seen φ) (ev ∙ ap V.Media (pairs_once xs ys names values) ∙ sym is)
+
+pub reference_once : (φ : Folded) (k : RowKind) (json : Json) (v w : Value) (m : Media) → k ≡ R.medium → v ≡ V.Medium m
+    → ((r : Reading) → Gives_reading medium json r → seen_reading φ (medium_reading m) ≡ seen_reading φ r) → Gives k json w → seen φ v ≡ seen φ w
+reference_once φ k json v w m ek ev once h =
+    let (n, g, is) = given_as k R.medium json w ek h in
+    let same : m ≡ n = sym (medium_is φ m) ∙ ap medium_back (once (medium_reading n) g) ∙ medium_is φ n in
+    ap (seen φ) (ev ∙ ap V.Medium same ∙ sym is)
 
 pub stack_once : (φ : Folded) (k : RowKind) (json : Json) (v w : Value) (s : StackOf Listed) → k ≡ R.stack → v ≡ V.Stack s
     → ((g : Fields) → Gives_fields C.STACKS json g → seen_fields φ (stack_fields s) ≡ seen_fields φ g) → Gives k json w → seen φ v ≡ seen φ w

@@ -1,5 +1,5 @@
 -- An object has at most one first fault of the older family, and none where it has a form there.
-use Rattle.std.proofs.Common.{◌≡◌, ◌≢◌, refl, sym, ap, ap₂, ◌∙◌, ℕ, zero, suc, List, [], ◌∷◌, map, Option, Some, None, slice_get, subst}
+use Rattle.std.proofs.Common.{◌≡◌, ◌≢◌, refl, sym, ap, ◌∙◌, ℕ, zero, suc, List, [], ◌∷◌, map, Option, Some, None, slice_get}
 use Rattle.std.specs.Prelude.{option_and_then}
 use Rattle.json_value.specs.declared.Json.{Json}
 use Rattle.otio_model.specs.declared.compositions.ItemOf.{ItemOf}
@@ -12,15 +12,15 @@ use Rattle.otio_model.specs.declared.objects.Object.{Object, out-Object, Timelin
 use Rattle.otio_model.specs.declared.objects.Object.TheOpen.{Object-F}
 use Rattle.otio_model.specs.declared.objects.Object.TheFolds.{fold-roll-Object, fold-roll-Collection}
 use Rattle.otio_model.specs.declared.objects.Object.TheViews.{roll-Object, roll-out-Object, roll-out-Collection}
-use Rattle.otio_model.specs.declared.objects.Collection.{Collection, Collection-F, fold-Collection, out-Collection}
-use Rattle.coord.specs.Soundness.{Precedes}
-use Rattle.coord.proofs.Order.{Compared, same, before, behind, compared}
+use Rattle.otio_model.specs.declared.objects.Collection.{Collection, fold-Collection, out-Collection}
+use Rattle.coord.proofs.Order.{same, before, behind, compared}
 use Rattle.schema_rows.specs.Stands.{Stands}
 use Rattle.schema_write.specs.declared.old_faults.OldFault.{OldFault}
 use Rattle.schema_write.specs.declared.old_faults.OldFault.TheVariants.{Keys, Member}
 use Rattle.schema_write.specs.declared.old_faults.FamilyFault.{FamilyFault}
 use Rattle.schema_write.specs.declared.old_faults.FamilyFault.TheVariants as F
 use Rattle.schema_write.specs.OldForms.{old_fault_of, held_in, held_at, HasOldForm, IsFirstOld, IsOldFault, fault_at}
+use Rattle.schema_write.specs.OldWalk.{Way}
 use Rattle.object_law.proofs.SeenValues.{Folded, of_object}
 use Rattle.object_law.proofs.Verdicts.{folded_once}
 
@@ -54,7 +54,7 @@ both a b p q f g places u v =
     let e = one_first a b p q f g places u v in
     ap (λ (r : List ℕ). fault_at r f) e.0 ∙ ap (fault_at q) e.1
 
--- two first faults that aren't want of memory are one
+-- two first faults other than out of memory are one
 pub one_old_fault : (a b : Object) (f g : FamilyFault) → SamePlaces a b → f ≢ F.Memory
     → g ≢ F.Memory → IsOldFault a f → IsOldFault b g → f ≡ g
 one_old_fault a b (F.Keys p) (F.Keys q) places m n u v = both a b p q Keys Keys places u v
@@ -75,9 +75,6 @@ no_old_fault a b (F.Member p) places n h v =
 no_old_fault a b F.Memory places n h v = n refl
 
 -- what places lead to, as a fold that sets spare memory aside
-abbrev Way : Type 0
-Way = List ℕ → Option (ItemOf Listed)
-
 abbrev ways : List Way → Way
 ways fs [] = None
 ways fs (i ∷ place) = option_and_then (λ (f : Way). f place) (slice_get fs i)
@@ -127,7 +124,7 @@ way_is : (place : List ℕ) (o : Object) → of_object in_ways o place ≡ held_
 way_is place o = ap (λ (x : Object). of_object in_ways x place) (sym (roll-out-Object o))
     ∙ way_layer place (out-Object o)
 
--- two objects that a value stands for lead to the same items
+-- two objects that a value represents lead to the same items
 pub same_places : (value : Json) (a b : Object) → Stands value a → Stands value b → SamePlaces a b
 same_places value a b p q place = sym (way_is place a)
     ∙ ap (λ (f : Way). f place) (folded_once in_ways value a b p q) ∙ way_is place b

@@ -28,6 +28,7 @@ mutual
   gives_one φ (G.effects k json v list xs ek ej g ev) w h = of.effects_once φ k json v w list xs ek ej ev (all_one φ g) h
   gives_one φ (G.markers k json v list xs ek ej g ev) w h = of.markers_once φ k json v w list xs ek ej ev (all_one φ g) h
   gives_one φ (G.media k json v members xs ek ej en g ev) w h = of.media_once φ k json v w members xs ek ej en ev (all_one φ g) h
+  gives_one φ (G.one_medium k json v m ek g ev) w h = of.reference_once φ k json v w m ek ev (reading_one φ g) h
   gives_one φ (G.stack k json v s ek g ev) w h = of.stack_once φ k json v w s ek ev (fields_one φ g) h
 
   pub row_one : (φ : Folded) {row : Row} {members : List (List ℕ × Json)} {v : Value} → Gives_row row members v → (w : Value) → Gives_row row members w → seen φ v ≡ seen φ w

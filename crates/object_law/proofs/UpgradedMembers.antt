@@ -1,8 +1,8 @@
 -- Members of an object that an upgrade leaves as it is: what stands in its rows stays too.
-use Rattle.std.proofs.Common.{◌≡◌, ◌≢◌, ℕ, Bool, true, false, ◌&&◌, List, [], ◌∷◌, Option, Some, None, refl, sym, ap, ap₂, subst, ◌∙◌, codes}
+use Rattle.std.proofs.Common.{◌≡◌, ◌≢◌, ℕ, Bool, true, false, ◌&&◌, List, [], ◌∷◌, Option, Some, refl, sym, ap, ap₂, subst, ◌∙◌, codes}
 use Rattle.std.specs.Prelude.{◌==◌}
 use Rattle.std.specs.Str.{bytes_eq}
-use Rattle.std.proofs.lemmas.Bool.{false≢true}
+use Rattle.std.proofs.lemmas.Bool.{false≢true, and_parts}
 use Rattle.std.proofs.lemmas.Slice.Eq.{bytes_eq-Decides}
 use Rattle.json_value.specs.declared.Json.{Json, Str, Map, Null}
 use Rattle.json_value.specs.declared.Json.TheVariants as J
@@ -16,15 +16,15 @@ use Rattle.schema_up.specs.declared.old_names.Form.{Form}
 use Rattle.schema_up.specs.declared.old_names.Form.TheVariants as F
 use Rattle.schema_up.specs.declared.old_names.Row.{Row as Place}
 use Rattle.schema_up.specs.declared.old_names.Row.TheVariants.{Kept, Object, Objects, Media}
-use Rattle.schema_up.specs.Names.{schema_in, schema_or_other, schema_named, string_in, text_at, named as form_named}
+use Rattle.schema_up.specs.Names.{schema_in, schema_or_other, string_in, text_at, named as form_named}
 use Rattle.schema_up.specs.UpgradeRows.{row_of}
 use Rattle.schema_up.specs.Upgrades.{Pairs, upgraded, upgraded_at, pairs_at, map_at, renewed, second_clip, clip_kept, media_of, medium_of}
 use Rattle.schema_rows.specs.Schemas.{schema_key, rows_of, name_of, named, IsObjectOf}
+use Rattle.schema_up.proofs.PutLemmas.{put_same, put_other}
 use Rattle.schema_up.proofs.Levels.{upgraded_at-Map, kept_same}
-use Rattle.schema_rows.proofs.JsonParts.{map_once, str_once}
+use Rattle.schema_rows.proofs.JsonParts.{map_once}
 use Rattle.object_law.specs.Writable.{IsUpgraded}
 use Rattle.object_law.proofs.SchemaForms.{form_is}
-use Rattle.object_law.proofs.FoundMembers.{self_name}
 
 -- what stands in a row of a kind
 abbrev pub place_of : RowKind → Place
@@ -36,6 +36,7 @@ place_of R.stack = Object
 place_of (R.text default) = Kept
 place_of R.flag = Kept
 place_of R.meta = Kept
+place_of R.medium = Kept
 place_of R.span = Kept
 place_of R.time = Kept
 place_of (R.number default) = Kept
@@ -75,6 +76,7 @@ flat_kind R.stack h = absurd (false≢true h)
 flat_kind (R.text default) h = refl
 flat_kind R.flag h = refl
 flat_kind R.meta h = refl
+flat_kind R.medium h = refl
 flat_kind R.span h = refl
 flat_kind R.time h = refl
 flat_kind (R.number default) h = refl
@@ -82,14 +84,10 @@ flat_kind R.effects h = refl
 flat_kind R.rate h = refl
 flat_kind R.numeral h = refl
 
-both_true : (a b : Bool) → (a && b) ≡ true → (a ≡ true) × (b ≡ true)
-both_true true b h = (refl, h)
-both_true false b h = absurd (false≢true h)
-
 pub flat_stay : (rows : List Row) (ms : Pairs) → are_flat rows ≡ true → RowsStay rows ms
 flat_stay [] ms h = tt
 flat_stay (row ∷ rows) ms h =
-    let parts = both_true (is_flat_kind row.kind) (are_flat rows) h in (
+    let parts = and_parts (is_flat_kind row.kind) (are_flat rows) h in (
       λ json at. ap (upgraded_at json) (flat_kind row.kind parts.0) ∙ kept_same json,
       flat_stay rows ms parts.1,
     )
@@ -151,29 +149,6 @@ members_stay json ms is stays form named =
     ∙ map_once (Map (map_at Object ms)) (map_at Object ms) ms refl all
 
 -- a clip of the first version doesn't stay
-put_same : (name : List ℕ) (x : Json) (ms : Pairs) → value_of name (put name x ms) ≡ Some x
-put_same name x [] = rw (self_name name) refl
-put_same name x (m ∷ ms) = by (bytes_eq name m.0) refl (put_same name x ms)
-  where
-    by : (t : Bool) → bytes_eq name m.0 ≡ t → value_of name (put name x ms) ≡ Some x
-        → value_of name (put name x (m ∷ ms)) ≡ Some x
-    by true e below = rw (e, self_name name) refl
-    by false e below = rw (e, e) below
-
-put_other : (name other : List ℕ) (x : Json) (ms : Pairs) → bytes_eq name other ≡ false
-    → value_of name (put other x ms) ≡ value_of name ms
-put_other name other x [] h = rw h refl
-put_other name other x (m ∷ ms) h = by (bytes_eq other m.0) refl (put_other name other x ms h)
-  where
-    by : (t : Bool) → bytes_eq other m.0 ≡ t
-        → value_of name (put other x ms) ≡ value_of name ms
-        → value_of name (put other x (m ∷ ms)) ≡ value_of name (m ∷ ms)
-    by true e below =
-        let same : other ≡ m.0 = (bytes_eq-Decides other m.0).0 e in
-        let apart : bytes_eq name m.0 ≡ false = ap (bytes_eq name) (sym same) ∙ h in
-        rw (e, h, apart) refl
-    by false e below = rw (e, below) refl
-
 clip_schema : (ms : Pairs) → schema_in (second_clip ms) ≡ F.Clip
 clip_schema ms =
     let media = media_of (medium_of (value_of (codes "media_reference") ms)) in
@@ -216,16 +191,16 @@ in_form json ms name version rows form is named new agree stays =
     (sym (new (pairs_at Object form ms))
     ∙ members_stay json ms is.object stays form (object_form json ms name version is ∙ named))
 
-in_clip : (json : Json) (ms : Pairs) (name : List ℕ) (version : ℕ)
-    → (is : IsObjectOf json ms name version) → name ≡ name_of S.Clip → IsUpgraded json
-    → RowsStay (rows_of S.Clip) ms
-in_clip json ms name version is same stays = by (version == 1) refl
+in_clip : (json : Json) (ms : Pairs) (name : List ℕ) (version : ℕ) (rows : List Row)
+    → (is : IsObjectOf json ms name version) → name ≡ name_of S.Clip → Agree F.Clip rows
+    → IsUpgraded json → RowsStay rows ms
+in_clip json ms name version rows is same agree stays = by (version == 1) refl
   where
-    by : (t : Bool) → (version == 1) ≡ t → RowsStay (rows_of S.Clip) ms
+    by : (t : Bool) → (version == 1) ≡ t → RowsStay rows ms
     by true e = absurd (no_first_clip json ms is.object stays
         (object_form json ms name version is ∙ ap₂ form_named same e))
-    by false e = in_form json ms name version (rows_of S.Clip) F.Clip is (ap₂ form_named same e)
-        (λ xs. refl) (refl, (refl, (refl, (refl, (refl, (refl, (refl, (refl, tt)))))))) stays
+    by false e = in_form json ms name version rows F.Clip is (ap₂ form_named same e)
+        (λ xs. refl) agree stays
 
 at_name : (name : List ℕ) (version : ℕ) (schema : Schema) → name ≡ name_of schema
     → form_named name (version == 1) ≡ form_named (name_of schema) (version == 1)
@@ -246,7 +221,12 @@ rows_stay json ms name version S.Stack is same up = in_form json ms name version
 rows_stay json ms name version S.Track is same up = in_form json ms name version
     (rows_of S.Track) F.Track is (at_name name version S.Track same) (λ xs. refl)
     (refl, (refl, (refl, (refl, (refl, (refl, (refl, (refl, tt)))))))) (up refl)
-rows_stay json ms name version S.Clip is same up = in_clip json ms name version is same (up refl)
+rows_stay json ms name version S.Clip is same up = in_clip json ms name version
+    (rows_of S.Clip) is same
+    (refl, (refl, (refl, (refl, (refl, (refl, (refl, (refl, tt)))))))) (up refl)
+rows_stay json ms name version S.FirstClip is same up = in_clip json ms name version
+    (rows_of S.FirstClip) is same
+    (refl, (refl, (refl, (refl, (refl, (refl, (refl, tt))))))) (up refl)
 rows_stay json ms name version S.Gap is same up = in_form json ms name version
     (rows_of S.Gap) F.Gap is (at_name name version S.Gap same) (λ xs. refl)
     (refl, (refl, (refl, (refl, (refl, (refl, tt)))))) (up refl)
@@ -256,6 +236,7 @@ rows_stay json ms name version S.Freeze is same up = flat_stay (rows_of S.Freeze
 rows_stay json ms name version S.TimeEffect is same up = flat_stay (rows_of S.TimeEffect) ms refl
 rows_stay json ms name version S.Effect is same up = flat_stay (rows_of S.Effect) ms refl
 rows_stay json ms name version S.Marker is same up = flat_stay (rows_of S.Marker) ms refl
+rows_stay json ms name version S.FirstMarker is same up = flat_stay (rows_of S.FirstMarker) ms refl
 rows_stay json ms name version S.External is same up = flat_stay (rows_of S.External) ms refl
 rows_stay json ms name version S.Missing is same up = flat_stay (rows_of S.Missing) ms refl
 rows_stay json ms name version S.Generator is same up = flat_stay (rows_of S.Generator) ms refl
@@ -275,7 +256,7 @@ flat_among name (first ∷ family) schema all h =
     by (bytes_eq name (name_of first)) refl h (flat_among name family schema parts.1)
   where
     parts : (are_flat (rows_of first) ≡ true) × (all_flat family ≡ true)
-    parts = both_true (are_flat (rows_of first)) (all_flat family) all
+    parts = and_parts (are_flat (rows_of first)) (all_flat family) all
 
     by : (t : Bool) → bytes_eq name (name_of first) ≡ t → named name (first ∷ family) ≡ Some schema
         → (named name family ≡ Some schema → are_flat (rows_of schema) ≡ true)

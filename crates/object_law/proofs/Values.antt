@@ -1,8 +1,7 @@
 -- A decimal, a rate, a number of millionths, a time and a span are determined by what they stand for.
-use Rattle.std.proofs.Common.{◌≡◌, ◌≤◌, ◌⊎◌, inl, inr, ℕ, zero, suc, ◌+◌, ◌*◌, ◌%◌, ℤ, pos, ◌*ℤ◌, ◌-ℤ◌, ◌≤ℤ◌, unsigned_abs, refl, sym, ap, subst, ◌∙◌, arith}
+use Rattle.std.proofs.Common.{◌≡◌, ◌≤◌, ◌⊎◌, inl, inr, ℕ, zero, suc, ◌+◌, ◌*◌, ◌%◌, ℤ, pos, ◌*ℤ◌, ◌-ℤ◌, unsigned_abs, refl, sym, ap, subst, ◌∙◌, arith}
 use Rattle.std.proofs.lemmas.Int.{ints, unsigned_abs-mul}
 use Rattle.std.proofs.Math.Nat.{one-le-pow}
-use Rattle.std.proofs.Props.{props}
 use borrow.Author.Differences.{up, down}
 use Rattle.tick_time.specs.Numerals.{Fraction}
 use Rattle.tick_time.specs.Decimals.{lowered, millionths, IsHalfEven, IsTooFast}
@@ -12,7 +11,6 @@ use Rattle.tick_time.specs.Times.{IsInRange, IsSpeed}
 use Rattle.tick_time.specs.declared.decimals.Decimal.{Decimal}
 use Rattle.tick_time.specs.declared.rates.Rate.{Rate}
 use Rattle.tick_time.specs.declared.times.Time.{Time}
-use Rattle.tick_time.specs.declared.spans.Span.{Span}
 use Rattle.tick_time.proofs.OneValue.{gives_once, same_positive}
 use Rattle.tick_time.proofs.SameValues.{at_least_one, same_rate, same_time}
 use Rattle.schema_rows.specs.Numerals.{value_of_decimal}
@@ -68,18 +66,3 @@ not_beyond d r t p q =
     let units = speed_once d p.units q.units p.nearest q.nearest in
     let inside : IsInRange t.ticks = record { low = t.low; high = t.high } in
     q.beyond (subst IsInRange (p.ticks ∙ ap (λ (n : ℤ). n *ℤ pos (unit r.num r.den)) units) inside)
-
--- spans
-abbrev built_span : (start len : Time) → (pos 0 ≤ℤ len.ticks) → Span
-built_span start len f = record { start = start; len = len; forward = f }
-
-Forward-prop : (len : Time) → IsProp (pos 0 ≤ℤ len.ticks)
-Forward-prop len = hlevel props
-
-span_built : (a b c d : Time) (p : pos 0 ≤ℤ b.ticks) (q : pos 0 ≤ℤ d.ticks) → a ≡ c → b ≡ d → built_span a b p ≡ built_span c d q
-span_built a b c d p q h k =
-    subst (λ (x : Time). built_span a b p ≡ built_span x d q) h
-    (subst (λ (y : Time). (f : pos 0 ≤ℤ y.ticks) → built_span a b p ≡ built_span a y f) k (λ f. ap (built_span a b) (Forward-prop b p f)) q)
-
-pub same_span : (s t : Span) → s.start ≡ t.start → s.len ≡ t.len → s ≡ t
-same_span s t h k = span_built s.start s.len t.start t.len s.forward t.forward h k

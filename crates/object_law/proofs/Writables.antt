@@ -28,10 +28,11 @@ use Rattle.otio_model.specs.declared.media.Media.{Media}
 use Rattle.otio_model.specs.declared.media.Media.TheVariants as M
 use Rattle.otio_model.specs.Trees.{items_of, is_transition}
 use Rattle.schema_rows.specs.Rows as R
-use Rattle.schema_rows.specs.Rows.{Row}
+use Rattle.schema_rows.specs.Rows.{Row, item_rows}
 use Rattle.schema_rows.specs.declared.schemas.Schema.{Schema}
 use Rattle.schema_rows.specs.declared.schemas.Schema.TheVariants as S
 use Rattle.schema_rows.specs.declared.schemas.TheConstants as C
+use Rattle.schema_rows.specs.declared.values.Value.{Value}
 use Rattle.schema_rows.specs.declared.values.Value.TheVariants as V
 use Rattle.schema_rows.specs.Schemas.{named, name_of}
 use Rattle.schema_rows.specs.Readings.{known, kept, plain_schema, clip_fields, gap_fields, transition_fields, stack_fields, track_fields, item_fields, timeline_fields, collection_fields, object_layer, object_fields, warp_fields, freeze_fields, plain_fields, effect_reading, mark_fields, marker_reading, external_fields, missing_fields, generator_fields, images_fields, medium_reading}
@@ -47,7 +48,7 @@ use Rattle.schema_write.proofs.Values.{media_names}
 use Rattle.schema_write.proofs.TableForms.{zero_text, stack_tabled, track_tabled, item_tabled, object_tabled}
 use Rattle.object_law.specs.Writable as Q
 use Rattle.object_law.specs.Writable.{AreOthers, IsEffect, AreEffects, IsMarker, AreMarkers, IsMedium, AreMedia, IsClip, IsGap, IsTransition, IsItem, IsStack, IsTrack, AreItems, IsTimeline, IsObject, AreObjects}
-use Rattle.object_law.proofs.FoundMembers.{Holds, left_out}
+use Rattle.object_law.proofs.FoundMembers.{Holds, HoldsAll, left_out}
 use Rattle.object_law.proofs.NamedSchemas.{written_stands}
 use Rattle.object_law.proofs.Leaves.{map_not_null, num_not_null, number_gives, time_gives, span_gives}
 use Rattle.object_law.proofs.HeldValues.{list_not_null, held_as, meta_held, text_held, flag_held}
@@ -150,6 +151,14 @@ pub items_held : (row : Row) (items : List (ItemOf Listed)) → row.kind ≡ R.i
 items_held row items k h = held_as row R.items (J.List (map item_json items)) (V.Items items) k (list_not_null _)
     (W.items R.items (J.List (map item_json items)) (V.Items items) (map item_json items) items refl refl h refl)
 
+-- the rows that items with a range begin with, and the rows after them
+pub shared_held : (metadata : List (List ℕ × Json)) (name : List ℕ) (range : Option Span) (effects : List Effect) (markers : List Marker) (enabled : Bool)
+    (rows : List Row) (jsons : List Json) (values : List Value) → AreEffects effects → AreMarkers markers → HoldsAll rows jsons values
+    → HoldsAll (item_rows rows) (J.Map metadata ∷ J.Str name ∷ span_json range ∷ effects_json effects ∷ markers_json markers ∷ J.Bool enabled ∷ jsons)
+    (V.Meta metadata ∷ V.Text name ∷ V.Span range ∷ V.Effects effects ∷ V.Markers markers ∷ V.Flag enabled ∷ values)
+shared_held metadata name range effects markers enabled rows jsons values e m more =
+    (meta_held _ metadata refl, (text_held _ [] name refl, (span_held _ range refl refl, (effects_held _ effects refl e, (markers_held _ markers refl m, (flag_held _ enabled refl, more))))))
+
 pub or_none : (a : Bool) → a ≡ false → (a || false) ≡ false
 or_none a e = rw e refl
 
@@ -161,31 +170,16 @@ clip_given family found c h =
     written_stands family S.Clip
     (J.Map c.metadata ∷ J.Str c.name ∷ span_json c.source_range ∷ effects_json c.effects ∷ markers_json c.markers ∷ J.Bool c.enabled ∷ media_json c.media_references ∷ J.Str c.active_media_reference_key ∷ [])
     (V.Meta c.metadata ∷ V.Text c.name ∷ V.Span c.source_range ∷ V.Effects c.effects ∷ V.Markers c.markers ∷ V.Flag c.enabled ∷ V.Media c.media_references ∷ V.Text c.active_media_reference_key ∷ []) c.rest found (
-      meta_held _ c.metadata refl,
-      (
-        text_held _ [] c.name refl,
-        (
-          span_held _ c.source_range refl refl,
-          (
-            effects_held _ c.effects refl h.1,
-            (
-              markers_held _ c.markers refl h.2,
-              (
-                flag_held _ c.enabled refl,
-                (media_held _ c.media_references refl h.3, (text_held _ (codes "DEFAULT_MEDIA") c.active_media_reference_key refl, tt)),
-              ),
-            ),
-          ),
-        ),
-      ),
-    ) refl refl h.0
+    shared_held c.metadata c.name c.source_range c.effects c.markers c.enabled
+    (R.optional (codes "media_references") R.media ∷ R.optional (codes "active_media_reference_key") (R.text (codes "DEFAULT_MEDIA")) ∷ [])
+    (media_json c.media_references ∷ J.Str c.active_media_reference_key ∷ []) (V.Media c.media_references ∷ V.Text c.active_media_reference_key ∷ []) h.1 h.2 (media_held _ c.media_references refl h.3, (text_held _ (codes "DEFAULT_MEDIA") c.active_media_reference_key refl, tt))) refl refl h.0
 
 pub gap_given : (family : List Schema) → named (name_of S.Gap) family ≡ Some S.Gap → (g : Gap) → IsGap g → Gives_fields family (gap_in newer g) (gap_fields g)
 gap_given family found g h =
     written_stands family S.Gap
     (J.Map g.metadata ∷ J.Str g.name ∷ span_json g.source_range ∷ effects_json g.effects ∷ markers_json g.markers ∷ J.Bool g.enabled ∷ [])
     (V.Meta g.metadata ∷ V.Text g.name ∷ V.Span g.source_range ∷ V.Effects g.effects ∷ V.Markers g.markers ∷ V.Flag g.enabled ∷ []) g.rest found
-    (meta_held _ g.metadata refl, (text_held _ [] g.name refl, (span_held _ g.source_range refl refl, (effects_held _ g.effects refl h.1, (markers_held _ g.markers refl h.2, (flag_held _ g.enabled refl, tt)))))) refl refl h.0
+    (shared_held g.metadata g.name g.source_range g.effects g.markers g.enabled [] [] [] h.1 h.2 tt) refl refl h.0
 
 pub transition_given : (family : List Schema) → named (name_of S.Transition) family ≡ Some S.Transition → (t : Transition) → IsTransition t → Gives_fields family (transition_json t) (transition_fields t)
 transition_given family found t h =
@@ -202,24 +196,9 @@ stack_given family found s o effects markers none items =
     written_stands family S.Stack
     (J.Map s.metadata ∷ J.Str s.name ∷ span_json s.source_range ∷ effects_json s.effects ∷ markers_json s.markers ∷ J.Bool s.enabled ∷ J.List (map item_json (items_of s.children)) ∷ [])
     (V.Meta s.metadata ∷ V.Text s.name ∷ V.Span s.source_range ∷ V.Effects s.effects ∷ V.Markers s.markers ∷ V.Flag s.enabled ∷ V.Items (items_of s.children) ∷ []) s.rest found (
-      meta_held _ s.metadata refl,
-      (
-        text_held _ [] s.name refl,
-        (
-          span_held _ s.source_range refl refl,
-          (
-            effects_held _ s.effects refl effects,
-            (
-              markers_held _ s.markers refl markers,
-              (
-                flag_held _ s.enabled refl,
-                (items_held _ (items_of s.children) refl items, tt),
-              ),
-            ),
-          ),
-        ),
-      ),
-    ) (or_none (list_any is_transition (items_of s.children)) none) refl o in
+    shared_held s.metadata s.name s.source_range s.effects s.markers s.enabled
+    (R.optional (codes "children") R.items ∷ [])
+    (J.List (map item_json (items_of s.children)) ∷ []) (V.Items (items_of s.children) ∷ []) effects markers (items_held _ (items_of s.children) refl items, tt)) (or_none (list_any is_transition (items_of s.children)) none) refl o in
     subst (λ (json : Json). Gives_fields family json (stack_fields s)) (sym (stack_tabled s)) stands
 
 track_given : (family : List Schema) → named (name_of S.Track) family ≡ Some S.Track → (t : TrackOf Listed) → AreOthers S.Track t.rest → AreEffects t.effects → AreMarkers t.markers
@@ -229,24 +208,9 @@ track_given family found t o effects markers none items =
     written_stands family S.Track
     (J.Map t.metadata ∷ J.Str t.name ∷ span_json t.source_range ∷ effects_json t.effects ∷ markers_json t.markers ∷ J.Bool t.enabled ∷ J.List (map item_json (items_of t.children)) ∷ J.Str t.kind ∷ [])
     (V.Meta t.metadata ∷ V.Text t.name ∷ V.Span t.source_range ∷ V.Effects t.effects ∷ V.Markers t.markers ∷ V.Flag t.enabled ∷ V.Items (items_of t.children) ∷ V.Text t.kind ∷ []) t.rest found (
-      meta_held _ t.metadata refl,
-      (
-        text_held _ [] t.name refl,
-        (
-          span_held _ t.source_range refl refl,
-          (
-            effects_held _ t.effects refl effects,
-            (
-              markers_held _ t.markers refl markers,
-              (
-                flag_held _ t.enabled refl,
-                (items_held _ (items_of t.children) refl items, (text_held _ (codes "Video") t.kind refl, tt)),
-              ),
-            ),
-          ),
-        ),
-      ),
-    ) (or_none (side_by_side (items_of t.children)) none) refl o in
+    shared_held t.metadata t.name t.source_range t.effects t.markers t.enabled
+    (R.optional (codes "children") R.items ∷ R.optional (codes "kind") (R.text (codes "Video")) ∷ [])
+    (J.List (map item_json (items_of t.children)) ∷ J.Str t.kind ∷ []) (V.Items (items_of t.children) ∷ V.Text t.kind ∷ []) effects markers (items_held _ (items_of t.children) refl items, (text_held _ (codes "Video") t.kind refl, tt))) (or_none (side_by_side (items_of t.children)) none) refl o in
     subst (λ (json : Json). Gives_fields family json (track_fields t)) (sym (track_tabled t)) stands
 
 -- a family that has the schemas of items

@@ -1,4 +1,4 @@
--- A JSON value stands for at most one object, or has one first fault, and never both.
+-- A JSON value represents at most one object, or has one first fault, and never both.
 use Rattle.std.specs.Prelude.{◌≡◌, ◌≤◌}
 use Rattle.json_value.specs.declared.Json.{Json}
 use Rattle.limits.specs.Limits.{most_items}
@@ -26,7 +26,7 @@ spared_collection c = roll-Collection c
 abbrev pub spared : Object → Object
 spared = fold-Object Object Collection spared_object spared_collection
 
--- two objects that a value stands for are equal
+-- two objects that a value represents are equal
 abbrev pub StandsForOne : Type 0
 StandsForOne = (json : Json) (a b : Object) → Stands json a → Stands json b → spared a ≡ spared b
 
@@ -38,7 +38,7 @@ HasOneCount = (json : Json) (a b : Object) → Stands json a → Stands json b �
 abbrev pub HasOneFault : Type 0
 HasOneFault = (json : Json) (f g : SchemaFault) → IsFirstFault json f → IsFirstFault json g → f ≡ g
 
--- a value that stands for an object of at most 100 000 items has no first fault
+-- a value that represents an object of at most 100 000 items has no first fault
 abbrev pub IsNeverBoth : Type 0
 IsNeverBoth = (json : Json) (object : Object) (fault : SchemaFault) → Stands json object
     → count_of object ≤ most_items → IsFirstFault json fault → ⊥

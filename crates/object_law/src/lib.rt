@@ -1,4 +1,4 @@
-//! A JSON value stands for at most one object, or has one first fault, and never both; and what is
+//! A JSON value represents at most one object, or has one first fault, and never both; and what is
 //! written of an object that was read reads back as that object.
 //!
 //! `specs/Writable.antt` says which objects are written so that they are read again. Each object
@@ -8,9 +8,9 @@
 ghost use Rattle.object_law.specs.One.{HasOneCount, HasOneFault, IsNeverBoth, StandsForOne};
 ghost use Rattle.object_law.specs.Law.{OldIsRead, PatchedIsWritable, ReadIsWritable, WritableIsRead, WrittenIsRead};
 
-/// Law: a JSON value stands for at most one object by the tables of the schemas, the memory that
-/// timelines keep to spare being set aside; it has at most one first fault; and it has none where
-/// it stands for an object of at most 100 000 items. It does nothing.
+/// Law: a JSON value represents at most one object by the tables of the schemas, the memory that
+/// timelines reserve being ignored; it has at most one first fault; and it has none where it
+/// represents an object of at most 100 000 items. It does nothing.
 pub fn one_answer()
     ensures object { StandsForOne }
     ensures count { HasOneCount }

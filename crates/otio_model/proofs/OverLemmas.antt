@@ -20,13 +20,14 @@ use Rattle.otio_model.specs.Trees.{items_of}
 use Rattle.otio_model.specs.Lengths.{length_of, or_zero}
 use Rattle.otio_model.specs.Overlaps.{overlaps, offset_of, within}
 use Rattle.otio_model.specs.Kept.{capped_count, offset_reach, one_transition, reach_in}
-use Rattle.otio_model.specs.Kept.{reach_of, transitions_in}
+use Rattle.otio_model.specs.Kept.{after_in, after_of, before_in, before_of, reach_of}
+use Rattle.otio_model.specs.Kept.{transitions_in}
 use Rattle.otio_model.specs.Pieces.{all_items, IsPiece}
 use Rattle.otio_model.specs.Seats.{HasNoOverlap, IsFirstOverlap, overlap_holds}
 use Rattle.otio_model.specs.Seeks.{IsOver, IsRead, NoneOver, lens, total}
 use Rattle.otio_model.proofs.Cuts.{all_items-append, all_items-last}
 use Rattle.otio_model.proofs.KeptLemmas.{reach-append}
-use Rattle.otio_model.proofs.SeekLemmas.{lens-append, length-lens, split-at}
+use Rattle.otio_model.proofs.SeekLemmas.{added-total, lens-append, length-lens, split-at}
 use Rattle.otio_model.proofs.SeekLemmas.{start-total, total-append, total-take_le}
 use Rattle.otio_model.proofs.Spots.{get_front, get_past}
 use Rattle.otio_model.proofs.Ways.{get_at}
@@ -47,7 +48,7 @@ int_reach : (z : ℤ) → z ≤ℤ pos (unsigned_abs z)
 int_reach (pos n) = omega (arith, ints)
 int_reach (negsuc n) = omega (arith, ints)
 
-offset_near : (o : Option Time) → offset_of o ≤ℤ pos (offset_reach o)
+pub offset_near : (o : Option Time) → offset_of o ≤ℤ pos (offset_reach o)
 offset_near None = omega (arith, ints)
 offset_near (Some t) = int_reach t.ticks
 
@@ -87,6 +88,44 @@ none_ahead (x ∷ xs) w h = (
   none_ahead xs (w -ℤ pos (or_zero (length_of x))) (omega (arith, ints, h)),
 )
 
+-- an overlap holds no instant at or after its end, and none before its start
+ends_by : (x : ItemOf Listed) (w : ℤ) → pos (after_of x) ≤ℤ w → overlaps x w ≡ false
+ends_by (Clip c) w h = refl
+ends_by (Gap g) w h = refl
+ends_by (Transition t) w h =
+    let n = offset_near t.out_offset in
+    within_above (pos 0 -ℤ offset_of t.in_offset) (offset_of t.out_offset) w
+    (omega (arith, ints, h, n))
+ends_by (Stack s) w h = refl
+ends_by (Track t) w h = refl
+
+begins_past : (x : ItemOf Listed) (w : ℤ) → w <ℤ (pos 0 -ℤ pos (before_of x))
+    → overlaps x w ≡ false
+begins_past (Clip c) w h = refl
+begins_past (Gap g) w h = refl
+begins_past (Transition t) w h =
+    let n = offset_near t.in_offset in
+    within_below (pos 0 -ℤ offset_of t.in_offset) (offset_of t.out_offset) w
+    (omega (arith, ints, h, n))
+begins_past (Stack s) w h = refl
+begins_past (Track t) w h = refl
+
+none_after : (xs : List (ItemOf Listed)) (w : ℤ) → pos (total (lens xs) + after_in xs) ≤ℤ w
+    → NoneOver xs w
+none_after [] w h = tt
+none_after (x ∷ xs) w h = (
+  ends_by x w (omega (arith, ints, h, added-total (x ∷ xs))),
+  none_after xs (w -ℤ pos (or_zero (length_of x))) (omega (arith, ints, h)),
+)
+
+none_before : (xs : List (ItemOf Listed)) (w : ℤ) → w <ℤ (pos 0 -ℤ pos (before_in xs))
+    → NoneOver xs w
+none_before [] w h = tt
+none_before (x ∷ xs) w h = (
+  begins_past x w (omega (arith, ints, h)),
+  none_before xs (w -ℤ pos (or_zero (length_of x))) (omega (arith, ints, h)),
+)
+
 no_overlap : (x : ItemOf Listed) (w : ℤ) → one_transition x ≡ 0 → overlaps x w ≡ false
 no_overlap (Clip c) w e = refl
 no_overlap (Gap g) w e = refl
@@ -116,19 +155,24 @@ pub abs_pos : (z : ℤ) → pos 0 ≤ℤ z → pos (unsigned_abs z) ≡ z
 abs_pos (pos n) h = refl
 abs_pos (negsuc n) h = absurd (omega (arith, ints, h))
 
--- a piece that ends too early, or begins too late
-pub piece_behind : (p : Piece) (first at : ℕ) → IsPiece p
-    → first + total (lens p.items.items) + p.kept.reach < at
-    → NoneOver p.items.items (pos at -ℤ pos first)
-piece_behind p first at k h =
-    none_behind p.items.items _ (omega (arith, ints, h, ap (λ (x : Kept). x.reach) k.keeps))
+-- a piece without overlaps, one whose overlaps end too early, and one whose overlaps begin too late
+pub piece_without : (p : Piece) (w : ℤ) → IsPiece p → p.kept.transitions ≡ 0
+    → NoneOver p.items.items w
+piece_without p w k e =
+    none_without p.items.items w (omega (arith, e, ap (λ (x : Kept). x.transitions) k.keeps))
 
-pub piece_ahead : (p : Piece) (first at : ℕ) → IsPiece p → at + p.kept.reach < first
+pub piece_after : (p : Piece) (first at : ℕ) → IsPiece p
+    → first + total (lens p.items.items) + p.kept.after ≤ at
     → NoneOver p.items.items (pos at -ℤ pos first)
-piece_ahead p first at k h =
-    none_ahead p.items.items _ (omega (arith, ints, h, ap (λ (x : Kept). x.reach) k.keeps))
+piece_after p first at k h =
+    none_after p.items.items _ (omega (arith, ints, h, ap (λ (x : Kept). x.after) k.keeps))
 
-lens-take : (xs : List (ItemOf Listed)) (i : ℕ) → lens (take i xs) ≡ take i (lens xs)
+pub piece_before : (p : Piece) (first at : ℕ) → IsPiece p → at + p.kept.before < first
+    → NoneOver p.items.items (pos at -ℤ pos first)
+piece_before p first at k h =
+    none_before p.items.items _ (omega (arith, ints, h, ap (λ (x : Kept). x.before) k.keeps))
+
+pub lens-take : (xs : List (ItemOf Listed)) (i : ℕ) → lens (take i xs) ≡ take i (lens xs)
 lens-take [] zero = refl
 lens-take [] (suc i) = refl
 lens-take (x ∷ xs) zero = refl

@@ -1,5 +1,6 @@
 -- What is kept of a list of items, so that later calls needn't look at each of them.
-use Rattle.std.specs.Prelude.{ℕ, ◌+◌, ◌-◌, ◌^◌, IsTrue, cond, min, max, ◌&&◌, List, [], ◌∷◌, Option}
+use Rattle.std.specs.Prelude.{ℕ, ◌+◌, ◌-◌, ◌^◌, IsTrue, cond, min, max, ◌&&◌, ◌||◌, List, [], ◌∷◌}
+use Rattle.std.specs.Prelude.{Option}
 use Rattle.std.specs.Prelude.{Some, None, map, unsigned_abs}
 use Rattle.tick_time.specs.declared.times.Time.{Time}
 use Rattle.otio_model.specs.declared.compositions.ItemOf.{ItemOf}
@@ -10,7 +11,8 @@ use Rattle.otio_model.specs.declared.length_sums.Totals.{Totals}
 use Rattle.otio_model.specs.declared.piece_summary.Kept.{Kept}
 use Rattle.otio_model.specs.Counts.{count, count_of, counts_by}
 use Rattle.otio_model.specs.Trees.{is_transition}
-use Rattle.otio_model.specs.Lengths.{length_of}
+use Rattle.otio_model.specs.Lengths.{added, length_of, or_zero}
+use Rattle.otio_model.specs.Clips.{any_clip, any_clip_by, any_lit, any_lit_by, has_clip, is_lit}
 use Rattle.otio_model.specs.Sums.{capped, totals}
 
 -- a number, or the greatest of 64 bits where it is greater
@@ -48,6 +50,32 @@ abbrev pub reach_in : List (ItemOf Listed) → ℕ
 reach_in [] = 0
 reach_in (x ∷ xs) = max (reach_of x) (reach_in xs)
 
+-- how far before its cut a transition's overlap begins
+abbrev pub before_of : ItemOf Listed → ℕ
+before_of (Clip c) = 0
+before_of (Gap g) = 0
+before_of (Transition t) = offset_reach t.in_offset
+before_of (Stack s) = 0
+before_of (Track t) = 0
+
+-- how far after its cut it ends
+abbrev pub after_of : ItemOf Listed → ℕ
+after_of (Clip c) = 0
+after_of (Gap g) = 0
+after_of (Transition t) = offset_reach t.out_offset
+after_of (Stack s) = 0
+after_of (Track t) = 0
+
+-- how far before a list's start the overlaps of its transitions begin, at most
+abbrev pub before_in : List (ItemOf Listed) → ℕ
+before_in [] = 0
+before_in (x ∷ xs) = max (before_of x) (before_in xs - or_zero (length_of x))
+
+-- how far after its end they end, at most
+abbrev pub after_in : List (ItemOf Listed) → ℕ
+after_in [] = 0
+after_in (x ∷ xs) = max (after_of x - added (map length_of (x ∷ xs))) (after_in xs)
+
 -- what is kept of a list
 abbrev pub kept_of : List (ItemOf Listed) → Kept
 kept_of xs = record {
@@ -55,8 +83,11 @@ kept_of xs = record {
   transitions =
       capped_count (transitions_in xs);
   reach = reach_in xs;
-  items =
-      capped_count (counts_by count xs);
+  before = before_in xs;
+  after = after_in xs;
+  items = capped_count (counts_by count xs);
+  clips = any_clip_by any_clip xs;
+  lit = any_lit_by any_lit xs;
 }
 
 -- what is kept of one item
@@ -64,9 +95,12 @@ abbrev pub kept_one : ItemOf Listed → Kept
 kept_one x = record {
   lengths = totals (length_of x ∷ []);
   transitions = one_transition x;
-  reach =
-      reach_of x;
+  reach = reach_of x;
+  before = before_of x;
+  after = after_of x;
   items = capped_count (count_of x);
+  clips = has_clip x;
+  lit = is_lit x;
 }
 
 -- the lengths of two lists together
@@ -83,5 +117,9 @@ joined a b = record {
   lengths = joined_totals a.lengths b.lengths;
   transitions = capped_count (a.transitions + b.transitions);
   reach = max a.reach b.reach;
+  before = max a.before (b.before - a.lengths.ticks);
+  after = max b.after (a.after - b.lengths.ticks);
   items = capped_count (a.items + b.items);
+  clips = a.clips || b.clips;
+  lit = a.lit || b.lit;
 }

@@ -109,6 +109,16 @@ pub record IsSpot (ps : List Piece) (index number offset : ℕ) : Type 0 where
   pub before : length (all_items (take number ps)) + offset ≡ index
   pub inside : (d : Piece) → offset < length (get_or ps number d).items.items
 
+-- what is known of a piece among others by their numbers
+pub record IsPlaced (ps : List Piece) (i : ℕ) (p : Piece) : Type 0 where
+  pub is : IsPiece p
+  pub there : i < length ps
+  pub read : p ≡ get_or ps i p
+  pub before : p.start.items ≡ length (all_items (take i ps))
+  pub next : length (all_items (take (i + 1) ps))
+      ≡ length (all_items (take i ps)) + length p.items.items
+  pub fits : length (all_items (take i ps)) + length p.items.items ≤ length (all_items ps)
+
 -- the pieces from one up to another
 abbrev pub part : ℕ → ℕ → List Piece → List Piece
 part first end ps = take (end - first) (drop first ps)

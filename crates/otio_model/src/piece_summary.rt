@@ -15,8 +15,16 @@ pub(crate) struct Kept {
     pub(crate) transitions: usize,
     /// How far from their cuts the overlaps of its transitions reach, at most, in ticks.
     pub(crate) reach: u128,
+    /// How far before its start one of the overlaps begins, at most, in ticks.
+    pub(crate) before: u128,
+    /// How far after its end one of them ends, at most, in ticks.
+    pub(crate) after: u128,
     /// How many items it has at all levels.
     pub(crate) items: usize,
+    /// Whether one of them is a clip, or has one below it.
+    pub(crate) clips: bool,
+    /// Whether one of them may show something.
+    pub(crate) lit: bool,
 }
 
 /// What is kept of no items.
@@ -24,7 +32,11 @@ pub(crate) const NO_ITEMS: Kept = Kept {
     lengths: NOTHING,
     transitions: 0,
     reach: 0,
+    before: 0,
+    after: 0,
     items: 0,
+    clips: false,
+    lit: false,
 };
 
 // The lengths of two lists together.
@@ -46,12 +58,20 @@ pub(crate) fn join(one: Kept, other: Kept) -> Kept
         lengths: join_totals(one.lengths, other.lengths),
         transitions: one.transitions.saturating_add(other.transitions),
         reach: one.reach.max(other.reach),
+        before: one
+            .before
+            .max(other.before.saturating_sub(one.lengths.ticks)),
+        after: other
+            .after
+            .max(one.after.saturating_sub(other.lengths.ticks)),
         items: one.items.saturating_add(other.items),
+        clips: one.clips || other.clips,
+        lit: one.lit || other.lit,
     }
 }
 
-// How far from its cut an offset lies; one that isn't given is 0.
-fn offset_ticks(offset: Option<Time>) -> u128
+/// How far from its cut an offset lies; one that isn't given is 0.
+pub(crate) fn offset_ticks(offset: Option<Time>) -> u128
     ensures { result ≡ offset_reach offset }
 {
     match offset {

@@ -47,7 +47,7 @@ fn replace(children: &mut Children, stretch: Stretch, list: &mut Vec<Item>, spar
     replace_pieces(&mut children.pieces, stretch, list, spare);
     number(&mut children.pieces);
     children.len = children.len - stretch.count + put;
-    children.kept = kept_pieces(children.pieces.as_slice());
+    *children.kept = kept_pieces(children.pieces.as_slice());
 }
 
 /// Puts the items of a list in place of some of the children that the place leads to, which the
@@ -78,5 +78,5 @@ pub(crate) fn replace_at(
     replace_at(item.children_mut(), rest, stretch, list, spare);
     piece.mend();
     piece_numbers::number(&mut children.pieces);
-    children.kept = kept_pieces(children.pieces.as_slice());
+    *children.kept = kept_pieces(children.pieces.as_slice());
 }

@@ -161,11 +161,14 @@ fn over_in_piece(piece: &Piece, first: u128, at: u128) -> Option<(usize, u128)>
         (λ s. IsOver piece.now.items.items (pos at -ℤ pos first) s.0 s.1) }
     ensures none { IfNone result (NoneOver piece.now.items.items (pos at -ℤ pos first)) }
 {
-    if at.saturating_add(piece.kept.reach) < first {
+    if piece.kept.transitions == 0 {
+        return None;
+    }
+    if at.saturating_add(piece.kept.before) < first {
         return None;
     }
     let end = first + piece.kept.lengths.ticks;
-    if end.saturating_add(piece.kept.reach) < at {
+    if end.saturating_add(piece.kept.after) <= at {
         return None;
     }
     over_in(&piece.items, first, at)
@@ -228,7 +231,7 @@ impl Children {
         ensures found { IfSome result (λ seat. IsNextTransition self.now index seat) }
         ensures none { IfNone result (HasNoMore self.now index) }
     {
-        if self.kept.transitions == 0 {
+        if self.transitions() == 0 {
             return None;
         }
         match next_in_pieces(self.pieces.as_slice(), self.len, index) {
@@ -249,11 +252,11 @@ impl Children {
         ensures found { IfSome result (λ seat. IsFirstOverlap self.now ticks seat) }
         ensures none { IfNone result (HasNoOverlap self.now ticks) }
     {
-        if self.kept.transitions == 0 {
+        if self.transitions() == 0 {
             return None;
         }
         let at = ticks.unsigned_abs();
-        match over_in_pieces(self.pieces.as_slice(), at, self.kept.reach) {
+        match over_in_pieces(self.pieces.as_slice(), at, self.overlap_reach()) {
             Some((number, start)) => Some(starting_at(number, start)),
             None => None,
         }

@@ -8,7 +8,7 @@ use Rattle.otio_model.specs.declared.timelines.Timeline.{Timeline}
 use Rattle.otio_model.specs.Timelines.{bare}
 use Rattle.coord.specs.Soundness.{IsFaultless}
 use Rattle.undo_log.specs.States.{state_of}
-use Rattle.edit_script.specs.declared.commands.Command as script
+use Rattle.edit_script.specs.declared.commands.ScriptCommand as script
 use Rattle.edl_list.specs.declared.list.EventList.{EventList}
 use Rattle.media_rows.specs.Rows.{MediaRows}
 use Rattle.source_files.specs.Order.{EachIs}
@@ -37,7 +37,7 @@ use Rattle.otio_tools.proofs.PlanLemmas.{film_editable, media_is, media_suits}
 
 -- what is read as a script is one
 script_suits : (held : Content) → Suits kinds.Script held
-    → (commands : Vec script.Command) × (held ≡ content.Commands commands)
+    → (commands : Vec script.ScriptCommand) × (held ≡ content.Commands commands)
 script_suits (content.Commands commands) s = (commands, refl)
 script_suits (content.Noted noted said) s = absurd s
 script_suits (content.Rows rows) s = absurd s
@@ -107,7 +107,7 @@ edit_first command name called media (first ∷ rest) more held e h =
     let same : first ≡ held = cc in subst (λ c. Suits (kind_of command) c) same h.0
 
 pub edit_parts_are : (command : Command) (name called : List ℕ) (media : Option (List ℕ))
-    (contents : List Content) (held : Content) (commands : Vec script.Command) (rows : MediaRows)
+    (contents : List Content) (held : Content) (commands : Vec script.ScriptCommand) (rows : MediaRows)
     → EditsTimeline command → contents ≡ held ∷ content.Commands commands ∷ media_content rows
     → EachIs (λ source held. Suits source.kind held) (edit_files command name called media) contents
     → AreEditParts command held commands rows contents
@@ -142,7 +142,7 @@ text_bare t = ap layout (same_json _ _ (bare_json t (bare t) refl))
 -- ---- the answers, whatever stands after the script
 
 done_with : (command : Command) (file called : Source) (files : List Source) (held : Content)
-    (commands : Vec script.Command) (more : List Content) (timeline : Timeline) (desk : Desk)
+    (commands : Vec script.ScriptCommand) (more : List Content) (timeline : Timeline) (desk : Desk)
     (target : Option (List ℕ)) → EditsTimeline command → Suits (kind_of command) held
     → IsOpened held (media_in more) timeline → IsFaultless timeline
     → IsWorkOn timeline commands.items (media_in more) desk
@@ -214,7 +214,7 @@ done_with (ListTool rate asked) file called files held commands more t desk targ
     absurd e
 
 halted_with : (command : Command) (file called : Source) (files : List Source) (held : Content)
-    (commands : Vec script.Command) (more : List Content) (timeline : Timeline) (why : List ℕ)
+    (commands : Vec script.ScriptCommand) (more : List Content) (timeline : Timeline) (why : List ℕ)
     (target : Option (List ℕ)) → EditsTimeline command → Suits (kind_of command) held
     → IsOpened held (media_in more) timeline → IsFaultless timeline
     → IsHaltOf timeline commands.items (media_in more) why
@@ -284,7 +284,7 @@ halted_with (ListTool rate asked) file called files held commands more t why tar
     absurd e
 
 unopened_with : (command : Command) (file called : Source) (files : List Source) (held : Content)
-    (commands : Vec script.Command) (more : List Content) (why : List ℕ)
+    (commands : Vec script.ScriptCommand) (more : List Content) (why : List ℕ)
     (target : Option (List ℕ)) → EditsTimeline command → Suits (kind_of command) held
     → IsUnopened held (media_in more) why
     → AnswersHeld command (file ∷ called ∷ files) target (held ∷ content.Commands commands ∷ more)
@@ -349,7 +349,7 @@ unopened_with (Tool asked) file called files held commands more why target e s u
 unopened_with (ListTool rate asked) file called files held commands more why target e s u =
     absurd e
 
-work_with : (command : Command) (held : Content) (commands : Vec script.Command)
+work_with : (command : Command) (held : Content) (commands : Vec script.ScriptCommand)
     (more : List Content) (timeline : Timeline) (desk : Desk) → EditsTimeline command
     → Suits (kind_of command) held → IsOpened held (media_in more) timeline → IsFaultless timeline
     → IsWorkOn timeline commands.items (media_in more) desk
@@ -389,7 +389,7 @@ work_with (ListTool rate asked) held commands more t desk e s o f w = absurd e
 -- ---- the same of what was read, taken apart
 
 pub edit_done : (command : Command) (name called : List ℕ) (media : Option (List ℕ))
-    (contents : List Content) (held : Content) (commands : Vec script.Command) (rows : MediaRows)
+    (contents : List Content) (held : Content) (commands : Vec script.ScriptCommand) (rows : MediaRows)
     (timeline : Timeline) (desk : Desk) → AreEditParts command held commands rows contents
     → IsOpened held rows timeline → IsFaultless timeline
     → IsWorkOn timeline commands.items rows desk
@@ -404,7 +404,7 @@ edit_done command name called media contents held commands rows timeline desk p 
     (subst (λ m. IsWorkOn timeline commands.items m desk) (sym (media_is rows)) w))
 
 pub edit_work : (command : Command) (contents : List Content) (held : Content)
-    (commands : Vec script.Command) (rows : MediaRows) (timeline : Timeline) (desk : Desk)
+    (commands : Vec script.ScriptCommand) (rows : MediaRows) (timeline : Timeline) (desk : Desk)
     → AreEditParts command held commands rows contents
     → IsOpened held rows timeline → IsFaultless timeline
     → IsWorkOn timeline commands.items rows desk
@@ -416,7 +416,7 @@ edit_work command contents held commands rows timeline desk p o f w =
     (subst (λ m. IsWorkOn timeline commands.items m desk) (sym (media_is rows)) w))
 
 pub edit_halted : (command : Command) (name called : List ℕ) (media : Option (List ℕ))
-    (contents : List Content) (held : Content) (commands : Vec script.Command) (rows : MediaRows)
+    (contents : List Content) (held : Content) (commands : Vec script.ScriptCommand) (rows : MediaRows)
     (timeline : Timeline) (refusal : Refusal) → AreEditParts command held commands rows contents
     → IsOpened held rows timeline → IsFaultless timeline
     → IsRefused (IsHaltOf timeline commands.items rows) refusal
@@ -432,7 +432,7 @@ edit_halted command name called media contents held commands rows timeline refus
     (subst (λ m. IsHaltOf timeline commands.items m why) (sym (media_is rows)) h))) w
 
 pub edit_unopened : (command : Command) (name called : List ℕ) (media : Option (List ℕ))
-    (contents : List Content) (held : Content) (commands : Vec script.Command) (rows : MediaRows)
+    (contents : List Content) (held : Content) (commands : Vec script.ScriptCommand) (rows : MediaRows)
     (refusal : Refusal) → AreEditParts command held commands rows contents
     → IsRefused (IsUnopened held rows) refusal
     → (target : Option (List ℕ)) → IsRefused (λ why. AnswersHeld command

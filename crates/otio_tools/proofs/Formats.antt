@@ -25,7 +25,7 @@ use Rattle.ale_text.proofs.OneOutcome.{fault_once as ale_fault_once, log_or_faul
 use Rattle.media_rows.specs.declared.row.MediaRow.{MediaRow}
 use Rattle.source_files.specs.Faults.{ale_fault_text, json_fault_text, list_fault_text, media_fault_text, fault_text, script_fault_text}
 use Rattle.edit_script.specs.Scripts.{IsScript}
-use Rattle.edit_script.specs.declared.commands.Command.{Command}
+use Rattle.edit_script.specs.declared.commands.ScriptCommand.{ScriptCommand}
 use Rattle.edit_script.proofs.Once.{fault_once as script_fault_once, never_both as script_or_fault}
 use Rattle.source_files.specs.Formats.{IsJson, IsObject, IsTimeline, IsNoTimeline, Holds, Refuses, RefusesJson, RefusesObject, RefusesTimeline, RefusesList, RefusesMedia, RefusesLog, RefusesScript}
 use Rattle.source_files.specs.declared.file_kinds.Kind.{Kind}
@@ -204,7 +204,7 @@ script_reason_once : (bytes v w : List ℕ) → RefusesScript bytes v → Refuse
 script_reason_once bytes v w p q =
     p.2 ∙ ap script_fault_text (script_fault_once bytes p.0 q.0 p.1 q.1) ∙ sym q.2
 
-script_or_reason : (bytes why : List ℕ) (commands : List Command) → IsScript bytes commands
+script_or_reason : (bytes why : List ℕ) (commands : List ScriptCommand) → IsScript bytes commands
     → RefusesScript bytes why → ⊥
 script_or_reason bytes why commands is p = script_or_fault bytes commands p.0 is p.1
 

@@ -16,7 +16,7 @@ use Rattle.media_list.proofs.OneOutcome.{list_once}
 use Rattle.ale_text.specs.Logs.{IsLog}
 use Rattle.ale_text.proofs.OneOutcome.{log_once}
 use Rattle.ale_text.proofs.PlainRows.{log_plain}
-use Rattle.edit_script.specs.declared.commands.Command as script
+use Rattle.edit_script.specs.declared.commands.ScriptCommand as script
 use Rattle.edit_script.specs.Scripts.{IsScript}
 use Rattle.source_files.specs.Formats.{IsJson, IsObject, IsTimeline, IsNotedList, Holds}
 use Rattle.source_files.specs.declared.file_kinds.Kind.TheVariants as kinds
@@ -124,7 +124,7 @@ rows_apart_as true bytes rows h = (log_plain bytes rows h).0
 rows_apart_as false bytes rows h = h.apart
 
 pub script_held : (bytes : List ℕ) (content : Content) → Holds kinds.Script bytes content
-    → (commands : Vec script.Command) × (content ≡ Commands commands)
+    → (commands : Vec script.ScriptCommand) × (content ≡ Commands commands)
     × IsScript bytes commands.items
 script_held bytes (Commands commands) h = (commands, refl, h)
 script_held bytes (Noted noted said) h = absurd h

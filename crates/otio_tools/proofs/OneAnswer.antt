@@ -43,7 +43,7 @@ use Rattle.drill.proofs.OneTally.{one_tally}
 use Rattle.drill.specs.Lines.{tally_text}
 use Rattle.drill.specs.declared.tally.Tally.{Tally}
 use Rattle.undo_log.specs.States.{State}
-use Rattle.edit_script.specs.declared.commands.Command as script
+use Rattle.edit_script.specs.declared.commands.ScriptCommand as script
 use Rattle.edit_script.proofs.Once.{script_once}
 use Rattle.edit_script.specs.Runs.{Runs, Halts}
 use Rattle.edit_script.proofs.Outcomes.{one_state, one_halt, never_both}
@@ -177,7 +177,7 @@ media_once held (Some name) (c ∷ []) (d ∷ []) p q =
 -- a script that is read is one
 commands_once : (held : Held) (name : List ℕ) (c d : Content)
     → IsRead held (read_as name kinds.Script) c → IsRead held (read_as name kinds.Script) d
-    → (v : Vec script.Command) × (w : Vec script.Command) × (c ≡ Commands v) × (d ≡ Commands w)
+    → (v : Vec script.ScriptCommand) × (w : Vec script.ScriptCommand) × (c ≡ Commands v) × (d ≡ Commands w)
     × (w.items ≡ v.items)
 commands_once held name c d p q =
     let same = there_once q.bytes p.bytes (held name) q.there p.there in
@@ -204,7 +204,7 @@ unfolding state_at
 same_opened t u e = ap state_at e
 
 -- a timeline that a script is run on has at most one answer, whatever memory it has to spare
-edited_once : (name called : List ℕ) (commands : List script.Command) (media : MediaRows)
+edited_once : (name called : List ℕ) (commands : List script.ScriptCommand) (media : MediaRows)
     (target : Option (List ℕ)) (t u : Timeline) (a b : Answer) → bare t ≡ bare u
     → AnswersEdited name called commands media target t a
     → AnswersEdited name called commands media target u b → a ≡ b

@@ -2,7 +2,7 @@
 use Rattle.std.proofs.Common.{◌≡◌, ◌≢◌, List, [], ◌∷◌, ◌++◌, Some, None, length, refl, sym, ap, ◌∙◌, arith}
 use Rattle.std.specs.Global.{Vec}
 use Rattle.media_rows.specs.declared.row.MediaRow.{MediaRow}
-use Rattle.edit_script.specs.declared.commands.Command as script
+use Rattle.edit_script.specs.declared.commands.ScriptCommand as script
 use Rattle.media_rows.specs.Rows.{MediaRows}
 use Rattle.source_files.specs.declared.file_kinds.Content.{Content}
 use Rattle.source_files.specs.declared.file_kinds.Content.TheVariants as content
@@ -10,10 +10,10 @@ use Rattle.otio_tools.specs.Plan.{AreEditContents, media_content}
 
 -- something to edit and a script
 abbrev pub AreTwo : List Content → Type 0
-AreTwo contents = (first : Content) × (commands : Vec script.Command)
+AreTwo contents = (first : Content) × (commands : Vec script.ScriptCommand)
     × (contents ≡ first ∷ content.Commands commands ∷ [])
 
-two_by : (first : Content) (commands : Vec script.Command) (media : MediaRows)
+two_by : (first : Content) (commands : Vec script.ScriptCommand) (media : MediaRows)
     (contents : List Content) → contents ≡ first ∷ content.Commands commands ∷ media_content media
     → length contents ≡ 2 → AreTwo contents
 two_by first commands None contents e l = (first, commands, e)
@@ -25,7 +25,7 @@ pub only_two : (contents : List Content) → AreEditContents contents → length
 only_two contents h l = two_by h.0 h.1 h.2 contents h.3 l
 
 front_by : (p q : Content) (rows : List MediaRow) (first : Content)
-    (commands : Vec script.Command) (media : MediaRows)
+    (commands : Vec script.ScriptCommand) (media : MediaRows)
     → p ∷ q ∷ content.Rows rows ∷ [] ≡ first ∷ content.Commands commands ∷ media_content media
     → AreTwo (p ∷ q ∷ [])
 front_by p q rows first commands media e =
@@ -40,19 +40,19 @@ front_two (p ∷ q ∷ []) all rows h e l = front_by p q rows h.0 h.1 h.2 (sym e
 front_two (p ∷ q ∷ r ∷ rest) all rows h e l = absurd (omega (arith, l))
 
 -- what is read, by its parts
-pub all_two : (contents : List Content) (first : Content) (commands : Vec script.Command)
+pub all_two : (contents : List Content) (first : Content) (commands : Vec script.ScriptCommand)
     → contents ≡ first ∷ content.Commands commands ∷ []
     → contents ≡ first ∷ content.Commands commands ∷ media_content None
 all_two contents first commands e = e
 
-pub all_three : (contents all : List Content) (first : Content) (commands : Vec script.Command)
+pub all_three : (contents all : List Content) (first : Content) (commands : Vec script.ScriptCommand)
     (rows : List MediaRow) → all ≡ contents ++ content.Rows rows ∷ []
     → contents ≡ first ∷ content.Commands commands ∷ []
     → all ≡ first ∷ content.Commands commands ∷ media_content (Some rows)
 all_three contents all first commands rows e f = e ∙ ap (λ l. l ++ content.Rows rows ∷ []) f
 
 end_by : (front : List Content) (last : Content) (first : Content)
-    (commands : Vec script.Command) (media : MediaRows)
+    (commands : Vec script.ScriptCommand) (media : MediaRows)
     → front ++ last ∷ [] ≡ first ∷ content.Commands commands ∷ media_content media
     → length (front ++ last ∷ []) ≢ 2
     → (rows : List MediaRow) × (last ≡ content.Rows rows) × (length front ≡ 2)

@@ -9,6 +9,8 @@ use Rattle.dev_io.specs.Calls.{Tells}
 use Rattle.otio_model.specs.declared.timelines.Timeline.{Timeline}
 use Rattle.media_rows.specs.Rows.{MediaRows}
 use Rattle.source_files.specs.Reasons.{reason_text}
+use Rattle.dev_io.specs.Handed.{Handed}
+use Rattle.source_files.specs.HandedFiles.{HandsOver, GivesAll, GivesStop}
 use Rattle.source_files.specs.Order.{EachIs, FirstIsNot}
 use Rattle.source_files.specs.Formats.{Suits}
 use Rattle.source_files.specs.Reading.{Source, HasStopped, HaveRead, IsRefused, RaisedBy, source_of}
@@ -43,7 +45,9 @@ use Rattle.flat_stack.specs.declared.step_faults.ToolFault.{ToolFault}
 use Rattle.flat_stack.specs.declared.step_faults.ToolFault.TheVariants as tool
 use Rattle.otio_model.specs.declared.objects.Object.{Timeline as ObjectOfTimeline}
 use Rattle.command_words.specs.declared.tools.ToolAsked.{ToolAsked}
+use Rattle.otio_tools.specs.Served.{PlansGiven}
 use Rattle.otio_tools.proofs.PlanLemmas.{film_editable, held_planned, media_suits, stop_planned}
+use Rattle.otio_tools.proofs.Serving.{given_planned, given_stopped}
 use Rattle.otio_tools.specs.declared.planning.Planned.{Planned}
 use Rattle.otio_tools.specs.declared.planning.Planned.TheVariants.{Events, Noted, Value, Root, OldRoot, Rows, Edited, Listed, Text, Media}
 
@@ -732,4 +736,35 @@ several_stopped command name others target sources names stop old new several sc
     stopped =
     stop_planned (asked_for command name others target) stop old new
     (subst (λ l. Tells (HasStopped l stop) old new)
+    (sources_are command name others sources names several scripted e f) stopped)
+
+-- ---- the same by what the calls gave
+
+pub several_given : (command : Command) (name : List ℕ) (others : OtherNames)
+    (target : Option (List ℕ)) (sources : List Source) (names : List (List ℕ))
+    (contents : List Content) (result : Result Planned SourceFault) (old new : List Handed)
+    → takes_several command ≡ true → IsScripted command others.script
+    → sources ≡ map (input_named command) names ++ media_source others.media
+    → names ≡ name ∷ others.more → HandsOver (GivesAll sources contents) old new
+    → PlansHeld command (map (input_named command) names ++ media_source others.media) contents
+    result → HandsOver (PlansGiven (asked_for command name others target) result) old new
+several_given command name others target sources names contents result old new several scripted
+    e f read told =
+    let are = sources_are command name others sources names several scripted e f in
+    given_planned (asked_for command name others target) contents result old new
+    (subst (λ (l : List Source). HandsOver (GivesAll l contents) old new) are read)
+    (subst (λ (l : List Source). PlansHeld command l contents result) (sym e ∙ are) told)
+
+pub several_unread_given : (command : Command) (name : List ℕ) (others : OtherNames)
+    (target : Option (List ℕ)) (sources : List Source) (names : List (List ℕ))
+    (stop : SourceFault) (old new : List Handed)
+    → takes_several command ≡ true → IsScripted command others.script
+    → sources ≡ map (input_named command) names ++ media_source others.media
+    → names ≡ name ∷ others.more
+    → HandsOver (GivesStop sources stop.name.now stop.fault) old new
+    → HandsOver (PlansGiven (asked_for command name others target) (Err stop)) old new
+several_unread_given command name others target sources names stop old new several scripted e f
+    stopped =
+    given_stopped (asked_for command name others target) stop old new
+    (subst (λ (l : List Source). HandsOver (GivesStop l stop.name.now stop.fault) old new)
     (sources_are command name others sources names several scripted e f) stopped)

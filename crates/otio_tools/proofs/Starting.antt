@@ -4,7 +4,7 @@ use Rattle.otio_model.specs.declared.timelines.Timeline.{Timeline}
 use Rattle.coord.specs.Soundness.{IsSound}
 use Rattle.undo_log.specs.Histories.{History}
 use Rattle.undo_log.specs.States.{IsKept, State, state_of}
-use Rattle.edit_script.specs.declared.commands.Command as script
+use Rattle.edit_script.specs.declared.commands.ScriptCommand as script
 use Rattle.edit_script.specs.Keeping.{HoldsEdits}
 use Rattle.edit_script.specs.Runs.{Halts, Runs}
 use Rattle.edit_script.specs.declared.faults.CommandFault.{CommandFault}
@@ -21,7 +21,7 @@ use Rattle.otio_tools.specs.Plan.{IsHaltOf}
 use Rattle.otio_tools.specs.declared.Desk.{Desk}
 
 -- what the commands of a script leave
-pub works_on : (media : MediaRows) (commands : List script.Command) (h : History) (t : Timeline)
+pub works_on : (media : MediaRows) (commands : List script.ScriptCommand) (h : History) (t : Timeline)
     (desk : Desk) → h.past ≡ [] → h.future ≡ [] → IsSound t
     → Runs media commands (length commands) (state_of h t) (state_of desk.log desk.timeline)
     → IsKept desk.log desk.timeline → (HoldsEdits h t → HoldsEdits desk.log desk.timeline)
@@ -37,14 +37,14 @@ works_on media commands h t desk e f sound runs kept holds =
     }
 
 -- where a script was refused
-pub halts_on : (media : MediaRows) (commands : List script.Command) (h : History) (t : Timeline)
+pub halts_on : (media : MediaRows) (commands : List script.ScriptCommand) (h : History) (t : Timeline)
     (r : State) (fault : CommandFault) → h.past ≡ [] → h.future ≡ []
     → Halts media commands (state_of h t) r fault → Halts media commands (opened t) r fault
 halts_on media commands h t r fault e f halts =
     subst (λ s. Halts media commands s r fault) (start_state h t e f) halts
 
 -- how a script is refused at a command
-pub halted_as : (media : MediaRows) (commands : List script.Command) (h : History) (t : Timeline)
+pub halted_as : (media : MediaRows) (commands : List script.ScriptCommand) (h : History) (t : Timeline)
     (r : State) (fault : CommandFault) (refusal : Refusal) → h.past ≡ [] → h.future ≡ []
     → (fault ≢ command.Memory → Halts media commands (state_of h t) r fault)
     → IsRefused (λ why. (fault ≢ command.Memory) × (why ≡ command_fault_text fault)) refusal

@@ -6,7 +6,7 @@ use Rattle.coord.specs.Soundness.{IsFaultless, IsFaultOf}
 use Rattle.coord.specs.declared.faults.CoordFault.{CoordFault}
 use Rattle.coord.specs.declared.faults.CoordFault.TheVariants as coord
 use Rattle.undo_log.specs.States.{State, IsKept, state_of}
-use Rattle.edit_script.specs.declared.commands.Command.{Command}
+use Rattle.edit_script.specs.declared.commands.ScriptCommand.{ScriptCommand}
 use Rattle.edit_script.specs.Runs.{Runs, Halts}
 use Rattle.edit_script.specs.Keeping.{HoldsEdits}
 use Rattle.script_law.specs.Shown.{IsEditedFrom, opened}
@@ -28,7 +28,7 @@ command_fault_text command.Memory = []
 
 -- The first fault of a timeline that isn't sound, told of the file of that name; then the first
 -- command that is refused, told of the script; else the timeline that the commands lead to.
-pub data AnswersEdited (name script : List ℕ) (commands : List Command) (media : MediaRows)
+pub data AnswersEdited (name script : List ℕ) (commands : List ScriptCommand) (media : MediaRows)
     (target : Option (List ℕ)) (timeline : Timeline) (answer : Answer) : Type 0 where
   Faulted : (fault : CoordFault) → fault ≢ coord.Memory → IsFaultOf timeline fault
       → answer ≡ refused name (coord_fault_text fault)
@@ -46,7 +46,7 @@ pub data AnswersEdited (name script : List ℕ) (commands : List Command) (media
 -- of it stands for an edit of the one before, after which every frame shows what the edit's law
 -- says, and undoing all edits gives the first one. Each patch of the log is that of an edit, and
 -- holds few children more than the edit touches.
-pub record IsWorkOn (timeline : Timeline) (commands : List Command) (media : MediaRows)
+pub record IsWorkOn (timeline : Timeline) (commands : List ScriptCommand) (media : MediaRows)
     (desk : Desk) : Type 0 where
   pub runs : Runs media commands (length commands) (opened timeline)
       (state_of desk.log desk.timeline)

@@ -14,6 +14,7 @@ pub mod Answer
 pub mod Run
 pub mod Reported
 pub mod Plan
+pub mod Served
 pub mod Several
 pub mod Texts
 pub mod Carried

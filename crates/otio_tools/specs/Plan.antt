@@ -16,7 +16,7 @@ use Rattle.coord.specs.Soundness.{IsFaultless}
 use Rattle.undo_log.specs.States.{State}
 use Rattle.edit_script.specs.Runs.{Halts}
 use Rattle.edit_script.specs.declared.faults.CommandFault.{CommandFault}
-use Rattle.edit_script.specs.declared.commands.Command as script
+use Rattle.edit_script.specs.declared.commands.ScriptCommand as script
 use Rattle.source_files.specs.Formats.{IsOfTables, Suits, SuitsNotes}
 use Rattle.show_prog.specs.Rows.{listing_text}
 use Rattle.dev_io.specs.declared.output_faults.OutputFault.{OutputFault}
@@ -172,7 +172,7 @@ desk_after (Ok planned) before = desk_planned planned before
 desk_after (Err stop) before = before
 
 -- a command of the script is refused, as it is told
-abbrev pub IsHaltOf : Timeline → List script.Command → MediaRows → List ℕ → Type 0
+abbrev pub IsHaltOf : Timeline → List script.ScriptCommand → MediaRows → List ℕ → Type 0
 IsHaltOf timeline commands media why = (state : State) × (fault : CommandFault)
     × Halts media commands (opened timeline) state fault × (why ≡ command_fault_text fault)
 
@@ -188,11 +188,11 @@ IsEditable (content.Commands commands) = ⊥
 
 -- what an edit reads: what is edited, the script, and the media list after it where one is read
 abbrev pub AreEditContents : List Content → Type 0
-AreEditContents contents = (first : Content) × (commands : Vec script.Command) × (media : MediaRows)
-    × (contents ≡ first ∷ content.Commands commands ∷ media_content media)
+AreEditContents contents = (first : Content) × (commands : Vec script.ScriptCommand)
+    × (media : MediaRows) × (contents ≡ first ∷ content.Commands commands ∷ media_content media)
 
 -- these are the parts of what an edit reads
-pub record AreEditParts (command : Command) (first : Content) (commands : Vec script.Command)
+pub record AreEditParts (command : Command) (first : Content) (commands : Vec script.ScriptCommand)
     (rows : MediaRows) (contents : List Content) : Type 0 where
   pub edits : EditsTimeline command
   pub suits : Suits (kind_of command) first

@@ -6,6 +6,7 @@ ghost use Rattle.flat_stack.specs.Ready.{IsReady};
 ghost use Rattle.std.specs.Option.{option_copied};
 ghost use Rattle.dev_io.specs.Calls.{Tells};
 ghost use Rattle.source_files.specs.Reasons.{reason_text};
+ghost use Rattle.source_files.specs.HandedFiles.{HandsOver};
 ghost use Rattle.source_files.specs.Order.{EachIs, FirstIsNot, IsAmong};
 ghost use Rattle.source_files.specs.Formats.{Suits};
 ghost use Rattle.source_files.specs.Reading.{RaisedAt, names_of, source_of};
@@ -17,6 +18,7 @@ ghost use Rattle.otio_tools.specs.Tools.{AnswersJoined, AnswersTool, name_told, 
 ghost use Rattle.otio_tools.specs.Tools as tools;
 ghost use Rattle.otio_tools.specs.Several.{AnswersTimelines, AreInputs, FitsJoining, HasJoining, IsRefusedAt, StopsOpening, named_inputs, names_now};
 ghost use Rattle.otio_tools.specs.Plan.{AreRows, Fits, IsDesk, IsEditable, Plans, PlansAs, PlansHeld, media_content, text_planned};
+ghost use Rattle.otio_tools.specs.Served.{PlansGiven};
 ghost use Rattle.otio_tools.specs.Texts.{text_at};
 
 use crate::edit_command::opened_timeline;
@@ -37,6 +39,7 @@ use std::vec::IntoIter;
 
 /// What a command on several files is to send for the file of that name and the others: the files
 /// are read, and then the command is judged over what they hold.
+#[tactic(auto, using(crate::proofs::Serving::given_unopened))]
 pub fn plan_several<'a, F: Files>(
     alloc: Global,
     command: Command,
@@ -55,6 +58,9 @@ pub fn plan_several<'a, F: Files>(
     ensures desk { IfOk result (λ planned. IsDesk planned → ⊥) }
     ensures named { IfErr result (λ stop.
         IsAmong (names_of (files_of command name.now (other_names others.entry))) stop.name.now) }
+    ensures given { (target : Option (List ℕ)) → HandsOver
+        (PlansGiven (asked_for command name.now (other_names others.entry) target) result)
+        (F.handed files.old) (F.handed files.new) }
     ensures cause { RaisedAt result (F.faults files.old) (F.faults files.new) }
 {
     let media = others.media;

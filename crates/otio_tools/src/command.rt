@@ -19,8 +19,10 @@ ghost use Rattle.otio_tools.specs.Drilled.{EndsDrills};
 ghost use Rattle.otio_tools.specs.Texts.{text_at};
 ghost use Rattle.otio_tools.specs.Kept.{KeepsShown};
 ghost use Rattle.otio_tools.specs.Reported.{Reports};
+ghost use Rattle.otio_tools.specs.Served.{Serves};
 ghost use Rattle.otio_tools.specs.Run.{Completes, Ends, Says, KeepsStill, no_memory, streams};
 ghost use Rattle.otio_tools.specs.Plan.{AreRows, CanBeShown, Carries, Fits, CanBeNoted, IsWritableIn, desk_after, desk_planned, Writes, WritesTo, text_planned, message_about, message_unsent, status_of, status_unsent};
+ghost use Rattle.source_files.specs.HandedFiles.{HandsOver};
 ghost use Rattle.source_files.specs.declared.read_faults.ReadFault.TheVariants.{Refused as RefusedFor};
 
 use crate::drill_command::serve_drill;
@@ -181,6 +183,14 @@ pub fn run<F: Files, W: Out, E: Out>(
         let sent = streams W.faults W.known E.faults E.known out.old out.new err.old err.new in
         Reports said (F.faults files.old) (F.faults files.new) sent result }
 
+    // Over all files: the status, the output and the message are those of the answer to the words
+    // and to the bytes that the calls of the files gave. Each file is opened once, in its order,
+    // and read in pieces of at most 4096 bytes, each after bytes that show no fault; nothing is
+    // read after its end, after its first fault, or after a call that failed.
+    ensures handed { let said = map (λ w. string_bytes w) words.now.items in
+        let sent = streams W.faults W.known E.faults E.known out.old out.new err.old err.new in
+        HandsOver (Serves said sent result) (F.handed files.old) (F.handed files.new) }
+
     // Over all files: usage for other words alone, which get usage or no memory; nothing sent but
     // under Done, under Output, which has its cause, and where memory runs out over frames; under
     // every status but Input no call of the files failed.
@@ -240,6 +250,11 @@ fn serve<F: Files, W: Out, E: Out>(
         (text_at request.entry.target) →
         let sent = streams W.faults W.known E.faults E.known out.old out.new err.old err.new in
         Reports words (F.faults files.old) (F.faults files.new) sent result }
+    ensures given { (words : List (List ℕ)) →
+        Ask words request.entry.command request.entry.name.now (other_names request.entry.others)
+        (text_at request.entry.target) →
+        let sent = streams W.faults W.known E.faults E.known out.old out.new err.old err.new in
+        HandsOver (Serves words sent result) (F.handed files.old) (F.handed files.new) }
     ensures asked { result ≢ Status.Usage }
     ensures calm { result ≢ Status.Input → F.faults files.new ≡ F.faults files.old }
 {

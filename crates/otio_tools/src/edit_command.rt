@@ -15,7 +15,7 @@ use crate::Desk;
 use crate::frames_command::unsound;
 use crate::list_to_timeline::not_conformed;
 use coord::sound;
-use edit_script::{Command, CommandFault, apply_script};
+use edit_script::{CommandFault, ScriptCommand, apply_script};
 use edl_conform::conform;
 use edl_list::EventList;
 use media_list::MediaList;
@@ -102,7 +102,7 @@ fn timeline_of_list(
 pub fn run_script(
     alloc: Global,
     timeline: Timeline,
-    script: Vec<Command>,
+    script: Vec<ScriptCommand>,
     media: Option<&MediaList>,
 ) -> Result<Desk, Refusal>
     requires sound { IsSound timeline }

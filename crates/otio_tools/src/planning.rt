@@ -6,10 +6,11 @@ ghost use Rattle.command_words.specs.declared.requests.Command.{Command as AnyCo
 ghost use Rattle.command_words.specs.declared.requests.Command.TheVariants.{ListToList as ListAgain, ListToObjects as ListAsObjects};
 ghost use Rattle.tick_time.specs.declared.rates.Rate.{Rate as AnyRate};
 ghost use Rattle.dev_io.specs.Calls.{Tells};
+ghost use Rattle.source_files.specs.HandedFiles.{GivesFiles, HandsOver};
 ghost use Rattle.source_files.specs.Order.{EachIs, IsAmong};
 ghost use Rattle.source_files.specs.Formats.{Suits};
 ghost use Rattle.source_files.specs.Reading.{RaisedAt, HaveRead, HasStopped, names_of, Source as Input};
-ghost use Rattle.edit_script.specs.declared.commands.Command.{Command as Line};
+ghost use Rattle.edit_script.specs.declared.commands.ScriptCommand.{ScriptCommand as Line};
 ghost use Rattle.source_files.specs.declared.file_kinds.Content.{Content as AnyContent};
 ghost use Rattle.source_files.specs.declared.file_kinds.Content.TheVariants.{Value, Root, Film, Events as ListOf, Noted as NotedOf, Rows, Commands};
 ghost use Rattle.source_files.specs.declared.file_kinds.Kind.TheVariants.{Json as AsJson, Object as AsObject, Timeline as AsTimeline, Log as AsLog};
@@ -21,6 +22,7 @@ ghost use Rattle.otio_tools.specs.Pulled.{HasFewHandles};
 ghost use Rattle.otio_tools.specs.Answer.{AnswersHeld};
 ghost use Rattle.otio_tools.specs.Plan.{Plans, PlansHeld, Suffices, AreContents, AreEditContents, AreEditParts, AreRows, Fits, HasFormedList, HasNotedList, IsDesk, IsDeskFor, IsEditable, IsFor, LeavesWork, media_content};
 ghost use Rattle.otio_tools.specs.Reported.{IsToldOf};
+ghost use Rattle.otio_tools.specs.Served.{PlansGiven};
 ghost use Rattle.otio_tools.specs.Texts.{text_at};
 
 use crate::Desk;
@@ -36,7 +38,7 @@ use crate::timeline_to_list::{ListWays, timeline_to_list};
 use crate::written_objects::object_to_write;
 use command_words::{Command, Others, is_log_name};
 use dev_io::Files;
-use edit_script::Command as ScriptCommand;
+use edit_script::ScriptCommand;
 use edl_list::EventList;
 use json_value::Json;
 use media_list::MediaList;
@@ -109,6 +111,9 @@ pub fn plan<'a, F: Files>(
     ensures desk { IfOk result (λ planned. IsDeskFor command planned) }
     ensures named { IfErr result (λ stop.
         IsAmong (names_of (files_of command name.now (other_names others.entry))) stop.name.now) }
+    ensures given { (target : Option (List ℕ)) → HandsOver
+        (PlansGiven (asked_for command name.now (other_names others.entry) target) result)
+        (F.handed files.old) (F.handed files.new) }
     ensures cause { RaisedAt result (F.faults files.old) (F.faults files.new) }
 {
     if takes_several(command) {
@@ -148,6 +153,9 @@ fn plan_alone<'a, F: Files>(
     ensures desk { IfOk result (λ planned. IsDeskFor command planned) }
     ensures named { let rest = other_names others.entry in IfErr result (λ stop.
         IsAmong (names_of (files_alone command name.now rest.script rest.media)) stop.name.now) }
+    ensures given { (target : Option (List ℕ)) → HandsOver
+        (PlansGiven (asked_alone command name.now (other_names others.entry) target) result)
+        (F.handed files.old) (F.handed files.new) }
     ensures cause { RaisedAt result (F.faults files.old) (F.faults files.new) }
 {
     let Others { script, media, .. } = others;
@@ -178,6 +186,9 @@ fn contents_of<'a, F: Files>(
     ensures named { IfErr result (λ stop. IsAmong (names_of
         (files_alone command name.now (text_at script.entry) (text_at media.entry)))
         stop.name.now) }
+    ensures given { HandsOver (GivesFiles
+        (files_alone command name.now (text_at script.entry) (text_at media.entry)) result)
+        (F.handed files.old) (F.handed files.new) }
     ensures cause { RaisedAt result (F.faults files.old) (F.faults files.new) }
 {
     let file = Source {

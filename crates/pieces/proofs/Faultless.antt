@@ -76,8 +76,8 @@ pub faultless_is_short : (x : ItemOf Listed) → IsCuttable x → IsShort x
 faultless_is_short x h = record { few = h.few; short = faultless_short x h.sound }
 
 -- the right piece is the one of the numbers that were computed
-pub right_is : (x : ItemOf Listed) (s m p t n k : ℤ) → m ≡ media_at s p t → s ≡ trimmed_start x → p ≡ speed_of x → n ≡ ticks x → k ≡ n -ℤ t → Ranged x m k ≡ right_piece x t
-right_is x s m p t n k e f g h i =
-    let a : m ≡ media_at (trimmed_start x) (speed_of x) t = e ∙ ap (λ z. media_at z p t) f ∙ ap (λ z. media_at (trimmed_start x) z t) g in
-    let b : k ≡ ticks x -ℤ t = i ∙ ap (λ z. z -ℤ t) h in
-    ap (λ z. Ranged x z k) a ∙ ap (λ z. Ranged x (media_at (trimmed_start x) (speed_of x) t) z) b
+pub right_is : (x : ItemOf Listed) (m t n k : ℤ) → m ≡ media_at (trimmed_start x) (speed_of x) t
+    → n ≡ ticks x → k ≡ n -ℤ t → Ranged x m k ≡ right_piece x t
+right_is x m t n k e h i =
+    ap (λ z. Ranged x z k) e
+    ∙ ap (Ranged x (media_at (trimmed_start x) (speed_of x) t)) (i ∙ ap (λ z. z -ℤ t) h)

@@ -6,6 +6,7 @@ use Rattle.std.specs.Int.{int_div_euclid, int_rem_euclid}
 use Rattle.std.proofs.lemmas.Int.{by_lt_z, ints}
 use Rattle.std.proofs.lemmas.Bool.{both_ways}
 use Rattle.limits.specs.Limits.{most_ticks}
+use Rattle.tick_time.specs.Times.{IsInRange}
 use Rattle.otio_model.specs.declared.compositions.ItemOf.{ItemOf}
 use Rattle.otio_model.specs.declared.compositions.Listed.{Listed}
 use Rattle.otio_model.specs.Lengths.{length_of, or_zero, trimmed_start}
@@ -13,23 +14,21 @@ use Rattle.coord.specs.Soundness.{fault_of}
 use Rattle.coord.specs.Speeds.{media_at, speed_of}
 use Rattle.edits.specs.Children.{Ranged, has_far, is_far, new_gap, plain_gap, ticks}
 use Rattle.edits.specs.Cuts.{front, left_piece}
-use Rattle.edits.specs.Finest.{in_range}
 use Rattle.coord.proofs.ShortItems.{trimmed_near}
+use Rattle.pieces.specs.Short.{IsRightStart}
 use Rattle.pieces.proofs.Faultless.{faultless}
 use Rattle.pieces.proofs.Grown.{ticks_are}
+use Rattle.pieces.proofs.SameTimes.{range_yes}
 use Rattle.pieces.proofs.Tests.{le_no, le_yes, lt_no, lt_yes}
 
 abbrev most : ℤ
 most = pos most_ticks
 
-in_yes : (z : ℤ) → (pos 0 -ℤ most) ≤ℤ z → z ≤ℤ most → in_range z ≡ true
-in_yes z l h = grind (arith, ints)
-
 near_item : (x : ItemOf Listed) (s n : ℤ) → (pos 0 -ℤ most) ≤ℤ s → s ≤ℤ most → pos 0 ≤ℤ n
     → n ≤ℤ most → is_far (Ranged x s n) ≡ false
 near_item x s n a b c d =
-    let e = in_yes s a b in
-    let f = in_yes n (omega (arith, ints)) d in
+    let e = range_yes s a b in
+    let f = range_yes n (omega (arith, ints)) d in
     rw (e, f) refl
 
 -- ---- the media of a right piece
@@ -67,13 +66,9 @@ less_far t n (negsuc k) h =
     let m = mul-le-mul_right (suc k) h in inr (omega (arith, ints, m), omega (arith, ints))
 
 -- what is between a start in range and an end in range is in range
-pub record IsInside (z : ℤ) : Type 0 where
-  pub low : (pos 0 -ℤ most) ≤ℤ z
-  pub high : z ≤ℤ most
-
-inside : (s z w q : ℤ) → IsInside s → IsFloor z q → IsBetween z w
+inside : (s z w q : ℤ) → IsInRange s → IsFloor z q → IsBetween z w
     → (pos 0 -ℤ (most *ℤ pos 1000000)) ≤ℤ ((s *ℤ pos 1000000) +ℤ w)
-    → ((s *ℤ pos 1000000) +ℤ w) ≤ℤ (most *ℤ pos 1000000) → IsInside (s +ℤ q)
+    → ((s *ℤ pos 1000000) +ℤ w) ≤ℤ (most *ℤ pos 1000000) → IsInRange (s +ℤ q)
 inside s z w q i f (inl b) l h =
     let a = f.sum in let c = f.low in let d = f.high in let e = i.low in let g = b.0 in
     let j = b.1 in
@@ -83,11 +78,11 @@ inside s z w q i f (inr b) l h =
     let j = b.1 in
     record { low = omega (arith, ints, a, d, l, g); high = omega (arith, ints, a, c, e, j) }
 
-start_inside : (x : ItemOf Listed) → IsInside (trimmed_start x)
+start_inside : (x : ItemOf Listed) → IsInRange (trimmed_start x)
 start_inside x = record { low = (trimmed_near x).low; high = (trimmed_near x).high }
 
 pub media_inside : (x : ItemOf Listed) (t : ℤ) → fault_of x ≡ None → pos 0 ≤ℤ t → t ≤ℤ ticks x
-    → IsInside (media_at (trimmed_start x) (speed_of x) t)
+    → IsInRange (media_at (trimmed_start x) (speed_of x) t)
 media_inside x (pos t) e a b =
     let s = faultless x e in
     let n = ticks_are x in
@@ -97,10 +92,12 @@ media_inside x (pos t) e a b =
     s.ends_low s.ends_high
 media_inside x (negsuc t) e a b = absurd (omega (arith, ints, a))
 
-pub media_near : (x : ItemOf Listed) (t m s p : ℤ) → fault_of x ≡ None → pos 0 ≤ℤ t
-    → t ≤ℤ ticks x → m ≡ media_at s p t → s ≡ trimmed_start x → p ≡ speed_of x → IsInside m
-media_near x t m s p e a b f g h =
-    subst IsInside (sym (f ∙ ap₂ (λ u v. media_at u v t) g h)) (media_inside x t e a b)
+pub right_start-is : (x : ItemOf Listed) (t m s p : ℤ) → fault_of x ≡ None → pos 0 ≤ℤ t
+    → t ≤ℤ ticks x → m ≡ media_at s p t → s ≡ trimmed_start x → p ≡ speed_of x
+    → IsRightStart x t m
+right_start-is x t m s p e a b f g h =
+    let is : m ≡ media_at (trimmed_start x) (speed_of x) t = f ∙ ap₂ (λ u v. media_at u v t) g h in
+    record { is = is; near = subst IsInRange (sym is) (media_inside x t e a b) }
 
 -- ---- pieces
 

@@ -3,7 +3,6 @@ use Rattle.std.proofs.Common.{◌≡◌, refl, ◌≤ℤ◌, ◌-ℤ◌, ◌%◌
 use Rattle.std.specs.Prelude.{int_le, not, option_map}
 use Rattle.std.proofs.lemmas.Int.{ints}
 use Rattle.std.proofs.lemmas.Bool.{eqb-true}
-use Rattle.std.proofs.Props.{props}
 pub use Rattle.std.proofs.lemmas.Bool.{or_left, or_right}
 pub use Rattle.tick_time.proofs.SameValues.{same_span}
 use Rattle.tick_time.specs.Rates.{unit}
@@ -20,18 +19,6 @@ use Rattle.edits.specs.Finest.{finest, in_range}
 use Rattle.edits.specs.Nears.{is_whole, near_by, near, span_by, span_of}
 use Rattle.edits.specs.Children.{Ranged, with_range, made, start_rate, length_rate}
 use Rattle.edits.specs.Children.{is_far}
-
--- spans
-abbrev built_span : (start len : Time) → (pos 0 ≤ℤ len.ticks) → Span
-built_span start len f = record { start = start; len = len; forward = f }
-
-Forward-prop : (len : Time) → IsProp (pos 0 ≤ℤ len.ticks)
-Forward-prop len = hlevel props
-
-span_built : (a b c d : Time) (p : pos 0 ≤ℤ b.ticks) (q : pos 0 ≤ℤ d.ticks) → a ≡ c → b ≡ d → built_span a b p ≡ built_span c d q
-span_built a b c d p q h k =
-    subst (λ (x : Time). built_span a b p ≡ built_span x d q) h
-    (subst (λ (y : Time). (f : pos 0 ≤ℤ y.ticks) → built_span a b p ≡ built_span a y f) k (λ f. ap (built_span a b) (Forward-prop b p f)) q)
 
 -- ---- times that are near
 

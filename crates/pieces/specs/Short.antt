@@ -1,10 +1,13 @@
 -- Items that can be measured, and items that can be cut.
-use Rattle.std.specs.Prelude.{◌≡◌, ℕ, ◌<◌, ◌^◌, pos, ◌≤ℤ◌, List, Some, None, slice_get}
+use Rattle.std.specs.Prelude.{◌≡◌, ℕ, ◌<◌, ◌^◌, ℤ, pos, ◌≤ℤ◌, List, Some, None, slice_get}
 use Rattle.limits.specs.Limits.{most_ticks}
+use Rattle.tick_time.specs.Times.{IsInRange}
 use Rattle.otio_model.specs.declared.compositions.ItemOf.{ItemOf}
 use Rattle.otio_model.specs.declared.compositions.Listed.{Listed}
 use Rattle.otio_model.specs.Counts.{count_of}
+use Rattle.otio_model.specs.Lengths.{trimmed_start}
 use Rattle.coord.specs.Soundness.{fault_of}
+use Rattle.coord.specs.Speeds.{media_at, speed_of}
 use Rattle.edits.specs.Children.{ticks}
 
 -- each item of a list has fewer than 2^32 items
@@ -27,3 +30,8 @@ pub record IsCuttable (x : ItemOf Listed) : Type 0 where
 
 abbrev pub AreCuttable : List (ItemOf Listed) → Type 0
 AreCuttable l = (i : ℕ) (x : ItemOf Listed) → slice_get l i ≡ Some x → IsCuttable x
+
+-- the right piece of an item that is cut at so many ticks starts here in the media, in range
+pub record IsRightStart (x : ItemOf Listed) (t m : ℤ) : Type 0 where
+  pub is : m ≡ media_at (trimmed_start x) (speed_of x) t
+  pub near : IsInRange m

@@ -3,10 +3,11 @@
 ghost use Rattle.limits.specs.Limits.{most_ticks};
 ghost use Rattle.std.specs.Prelude.{◌≡◌, ◌≢◌, ◌<◌, ◌≤◌, ◌%◌, ◌==◌, IfErr, IfOk, Some};
 ghost use Rattle.std.specs.Prelude.{true, false, pos, unsigned_abs, ◌≤ℤ◌, ◌<ℤ◌, ◌-ℤ◌, ◌*ℤ◌};
+ghost use Rattle.tick_time.specs.Times.{IsSpeed};
 ghost use Rattle.coord.specs.Speeds as speeds;
 ghost use Rattle.edits.specs.Children as children;
 ghost use Rattle.edits.specs.Cuts as cuts;
-ghost use Rattle.pieces.specs.Short.{IsCuttable};
+ghost use Rattle.pieces.specs.Short.{IsCuttable, IsRightStart};
 
 use crate::item_lengths::{start_ticks, ticks_of};
 use crate::new_ranges::ranged_within;
@@ -52,8 +53,7 @@ fn media_at(start: i128, speed: i64, ticks: i128) -> i128
     requires start_high { start ≤ℤ pos most_ticks }
     requires low { pos 0 ≤ℤ ticks }
     requires high { ticks ≤ℤ pos most_ticks }
-    requires speed_low { (pos 0 -ℤ pos 1000000000) ≤ℤ speed }
-    requires speed_high { speed ≤ℤ pos 1000000000 }
+    requires speed { IsSpeed speed }
     ensures { result ≡ speeds.media_at start speed ticks }
 {
     start + media_offset(ticks, speed)
@@ -75,6 +75,16 @@ pub(crate) fn left_piece(
     ranged_within(alloc, item, start_ticks(item), ticks, rate)
 }
 
+// Where in the media of an item its right piece starts, after a cut at so many ticks.
+fn right_start(item: &Item, ticks: i128) -> i128
+    requires faultless { IsCuttable item.now }
+    requires low { pos 0 ≤ℤ ticks }
+    requires high { ticks ≤ℤ children.ticks item.now }
+    ensures { IsRightStart item.now ticks result }
+{
+    media_at(start_ticks(item), speed(item), ticks)
+}
+
 /// What stands of an item after a cut at so many ticks from its start. An error comes where memory
 /// runs out.
 pub(crate) fn right_piece(
@@ -90,13 +100,7 @@ pub(crate) fn right_piece(
         (λ piece. children.made rate (cuts.right_piece item.now ticks) ≡ Some piece) }
 {
     let length = ticks_of(item);
-    ranged_within(
-        alloc,
-        item,
-        media_at(start_ticks(item), speed(item), ticks),
-        length - ticks,
-        rate,
-    )
+    ranged_within(alloc, item, right_start(item, ticks), length - ticks, rate)
 }
 
 /// The two pieces of an item that is cut at so many ticks from its start: copies with a range of

@@ -73,8 +73,9 @@ pub fn add_copy(alloc: Global, list: &mut Vec<Item>, item: &Item) -> Result<(), 
     Ok(())
 }
 
-// One item more at the end of a list, which ends there.
-fn with_last(list: Vec<Item>, item: Item) -> Result<Vec<Item>, RangedFault>
+/// A list with one item more at its end. [`RangedFault::Memory`] comes where memory runs out, and
+/// no other error.
+pub fn with_last(list: Vec<Item>, item: Item) -> Result<Vec<Item>, RangedFault>
     ensures added { IfOk result (λ all. all.items ≡ list.items ++ item ∷ []) }
     ensures fault { IfErr result (λ fault. fault ≡ RangedFault.Memory) }
 {

@@ -3,6 +3,7 @@ use Rattle.std.specs.Prelude.{true, cond, [], Option, Some, None, codes}
 use Rattle.tick_time.specs.Times.{is_speed}
 use Rattle.otio_model.specs.declared.compositions.Listed.{Listed}
 use Rattle.otio_model.specs.declared.compositions.StackOf.{StackOf}
+use Rattle.otio_model.specs.declared.media.Media.TheVariants as M
 use Rattle.otio_model.specs.declared.media.Missing.{Missing}
 use Rattle.otio_model.specs.Trees.{listed}
 use Rattle.schema_rows.specs.Rows as R
@@ -38,6 +39,7 @@ default_of R.items = Some (V.Items [])
 default_of R.effects = Some (V.Effects [])
 default_of R.markers = Some (V.Markers [])
 default_of R.media = Some (V.Media [])
+default_of R.medium = Some (V.Medium (M.Missing empty_missing))
 default_of R.stack = Some (V.Stack empty_tracks)
 default_of R.objects = Some (V.Objects [])
 default_of R.rate = None

@@ -45,6 +45,7 @@ IsWrong R.rate json = (numeral : List ℕ) → json ≡ J.Num numeral → ⊥
 IsWrong R.numeral json = (numeral : List ℕ) → json ≡ J.Num numeral → ⊥
 IsWrong R.span json = IsForeign C.RANGES json
 IsWrong R.time json = IsForeign C.TIMES json
+IsWrong R.medium json = ⊥
 IsWrong R.stack json = ⊥
 
 -- the text spells no speed: it is too long, or beyond 1000 times either way
@@ -109,6 +110,9 @@ mutual
     in_media : (place : List ℕ) (row : Row) (json : Json) (fault : SchemaFault)
         (members : List (List ℕ × Json)) → row.kind ≡ R.media → json ≡ J.Map members
         → Refuses_any medium place 0 (map (λ member. member.1) members) fault
+        → Refuses place row json fault
+    in_reference : (place : List ℕ) (row : Row) (json : Json) (fault : SchemaFault)
+        → row.kind ≡ R.medium → Refuses_reading medium place json fault
         → Refuses place row json fault
     in_stack : (place : List ℕ) (row : Row) (json : Json) (fault : SchemaFault) → row.kind ≡ R.stack
         → Refuses_reading (child C.STACKS) place json fault → Refuses place row json fault

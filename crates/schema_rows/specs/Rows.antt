@@ -17,6 +17,7 @@ pub data RowKind : Type 0 where
   effects : RowKind
   markers : RowKind
   media : RowKind
+  medium : RowKind
   stack : RowKind
   objects : RowKind
   rate : RowKind
@@ -40,6 +41,7 @@ kind_of K.Items = items
 kind_of K.Effects = effects
 kind_of K.Markers = markers
 kind_of K.Media = media
+kind_of K.Medium = medium
 kind_of K.Stack = stack
 kind_of K.Objects = objects
 kind_of K.Rate = rate
@@ -102,6 +104,10 @@ clip_rows = item_rows (
     ∷ optional (codes "active_media_reference_key") (text (codes "DEFAULT_MEDIA"))
     ∷ [])
 
+-- Clip.1
+abbrev pub first_clip_rows : List Row
+first_clip_rows = item_rows (optional (codes "media_reference") medium ∷ [])
+
 -- Gap.1
 abbrev pub gap_rows : List Row
 gap_rows = item_rows []
@@ -133,6 +139,10 @@ effect_rows = effect_rows_with []
 -- Marker.2
 abbrev pub marker_rows : List Row
 marker_rows = named_rows (optional (codes "marked_range") span ∷ [])
+
+-- Marker.1
+abbrev pub first_marker_rows : List Row
+first_marker_rows = named_rows (optional (codes "range") span ∷ [])
 
 -- ExternalReference.1
 abbrev pub external_rows : List Row

@@ -8,7 +8,7 @@ use Rattle.json_value.specs.declared.Json.{Json}
 use Rattle.json_value.specs.declared.Json.TheVariants.{Str, Map}
 use Rattle.schema_rows.specs.declared.schemas.Schema.{Schema}
 use Rattle.schema_rows.specs.declared.schemas.Schema.TheVariants as S
-use Rattle.schema_rows.specs.Rows.{Row, timeline_rows, collection_rows, stack_rows, track_rows, clip_rows, gap_rows, transition_rows, warp_rows, freeze_rows, time_effect_rows, effect_rows, marker_rows, external_rows, missing_rows, generator_rows, images_rows, time_range_rows, rational_time_rows}
+use Rattle.schema_rows.specs.Rows.{Row, timeline_rows, collection_rows, stack_rows, track_rows, clip_rows, first_clip_rows, gap_rows, transition_rows, warp_rows, freeze_rows, time_effect_rows, effect_rows, marker_rows, first_marker_rows, external_rows, missing_rows, generator_rows, images_rows, time_range_rows, rational_time_rows}
 
 -- the member that names an object's schema
 abbrev pub schema_key : List ℕ
@@ -21,6 +21,7 @@ name_of S.Collection = codes "SerializableCollection"
 name_of S.Stack = codes "Stack"
 name_of S.Track = codes "Track"
 name_of S.Clip = codes "Clip"
+name_of S.FirstClip = codes "Clip"
 name_of S.Gap = codes "Gap"
 name_of S.Transition = codes "Transition"
 name_of S.Warp = codes "LinearTimeWarp"
@@ -28,6 +29,7 @@ name_of S.Freeze = codes "FreezeFrame"
 name_of S.TimeEffect = codes "TimeEffect"
 name_of S.Effect = codes "Effect"
 name_of S.Marker = codes "Marker"
+name_of S.FirstMarker = codes "Marker"
 name_of S.External = codes "ExternalReference"
 name_of S.Missing = codes "MissingReference"
 name_of S.Generator = codes "GeneratorReference"
@@ -52,6 +54,7 @@ rows_of S.Collection = collection_rows
 rows_of S.Stack = stack_rows
 rows_of S.Track = track_rows
 rows_of S.Clip = clip_rows
+rows_of S.FirstClip = first_clip_rows
 rows_of S.Gap = gap_rows
 rows_of S.Transition = transition_rows
 rows_of S.Warp = warp_rows
@@ -59,6 +62,7 @@ rows_of S.Freeze = freeze_rows
 rows_of S.TimeEffect = time_effect_rows
 rows_of S.Effect = effect_rows
 rows_of S.Marker = marker_rows
+rows_of S.FirstMarker = first_marker_rows
 rows_of S.External = external_rows
 rows_of S.Missing = missing_rows
 rows_of S.Generator = generator_rows

@@ -84,6 +84,9 @@ mutual
         → Gives_all medium (map (λ member. member.1) members)
         (map (λ member. medium_reading member.1) media) → value ≡ V.Media media
         → Gives kind json value
+    one_medium : (kind : RowKind) (json : Json) (value : Value) (reference : Media)
+        → kind ≡ R.medium → Gives_reading medium json (medium_reading reference)
+        → value ≡ V.Medium reference → Gives kind json value
     stack : (kind : RowKind) (json : Json) (value : Value) (stack : StackOf Listed) → kind ≡ R.stack
         → Gives_fields C.STACKS json (stack_fields stack)
         → value ≡ V.Stack stack → Gives kind json value

@@ -35,6 +35,8 @@ pub enum Kind {
     Markers,
     /// An object of media references; empty by default.
     Media,
+    /// One media reference; a missing one by default.
+    Medium,
     /// A `Stack.1`; by default one without children, named `tracks`.
     Stack,
     /// A list of objects; empty by default.

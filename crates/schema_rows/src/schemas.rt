@@ -6,8 +6,8 @@ ghost use Rattle.schema_rows.specs.Schemas as schemas;
 
 use crate::rows::Field;
 use crate::tables::{
-    CLIP, COLLECTION, EFFECT, EXTERNAL, FREEZE, GAP, GENERATOR, IMAGES, MARKER, MISSING,
-    RATIONAL_TIME, STACK, TIME_EFFECT, TIME_RANGE, TIMELINE, TRACK, TRANSITION, WARP,
+    CLIP, CLIP_1, COLLECTION, EFFECT, EXTERNAL, FREEZE, GAP, GENERATOR, IMAGES, MARKER, MARKER_1,
+    MISSING, RATIONAL_TIME, STACK, TIME_EFFECT, TIME_RANGE, TIMELINE, TRACK, TRANSITION, WARP,
 };
 
 /// A schema that has a table.
@@ -23,6 +23,9 @@ pub enum Schema {
     Track,
     /// `Clip.2`
     Clip,
+    /// `Clip.1`, of the older family. It stands in none of the lists below: an upgrade makes a
+    /// `Clip.2` of it before it is read.
+    FirstClip,
     /// `Gap.1`
     Gap,
     /// `Transition.1`
@@ -37,6 +40,8 @@ pub enum Schema {
     Effect,
     /// `Marker.2`
     Marker,
+    /// `Marker.1`, of the older family. It stands in none of the lists below either.
+    FirstMarker,
     /// `ExternalReference.1`
     External,
     /// `MissingReference.1`
@@ -61,14 +66,14 @@ impl Schema {
             Schema::Collection => "SerializableCollection",
             Schema::Stack => "Stack",
             Schema::Track => "Track",
-            Schema::Clip => "Clip",
+            Schema::Clip | Schema::FirstClip => "Clip",
             Schema::Gap => "Gap",
             Schema::Transition => "Transition",
             Schema::Warp => "LinearTimeWarp",
             Schema::Freeze => "FreezeFrame",
             Schema::TimeEffect => "TimeEffect",
             Schema::Effect => "Effect",
-            Schema::Marker => "Marker",
+            Schema::Marker | Schema::FirstMarker => "Marker",
             Schema::External => "ExternalReference",
             Schema::Missing => "MissingReference",
             Schema::Generator => "GeneratorReference",
@@ -98,6 +103,7 @@ impl Schema {
             Schema::Stack => "Stack.1",
             Schema::Track => "Track.1",
             Schema::Clip => "Clip.2",
+            Schema::FirstClip => "Clip.1",
             Schema::Gap => "Gap.1",
             Schema::Transition => "Transition.1",
             Schema::Warp => "LinearTimeWarp.1",
@@ -105,6 +111,7 @@ impl Schema {
             Schema::TimeEffect => "TimeEffect.1",
             Schema::Effect => "Effect.1",
             Schema::Marker => "Marker.2",
+            Schema::FirstMarker => "Marker.1",
             Schema::External => "ExternalReference.1",
             Schema::Missing => "MissingReference.1",
             Schema::Generator => "GeneratorReference.1",
@@ -124,6 +131,7 @@ impl Schema {
             Schema::Stack => &STACK,
             Schema::Track => &TRACK,
             Schema::Clip => &CLIP,
+            Schema::FirstClip => &CLIP_1,
             Schema::Gap => &GAP,
             Schema::Transition => &TRANSITION,
             Schema::Warp => &WARP,
@@ -131,6 +139,7 @@ impl Schema {
             Schema::TimeEffect => &TIME_EFFECT,
             Schema::Effect => &EFFECT,
             Schema::Marker => &MARKER,
+            Schema::FirstMarker => &MARKER_1,
             Schema::External => &EXTERNAL,
             Schema::Missing => &MISSING,
             Schema::Generator => &GENERATOR,

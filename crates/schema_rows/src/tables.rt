@@ -90,6 +90,9 @@ pub(crate) static CLIP: [Field; 8] = item_rows![
     optional!("active_media_reference_key", Kind::Text("DEFAULT_MEDIA"))
 ];
 
+/// The rows of `Clip.1`.
+pub(crate) static CLIP_1: [Field; 7] = item_rows![optional!("media_reference", Kind::Medium)];
+
 /// The rows of `Gap.1`.
 pub(crate) static GAP: [Field; 6] = item_rows![];
 
@@ -114,6 +117,9 @@ pub(crate) static EFFECT: [Field; 3] = effect_rows![];
 
 /// The rows of `Marker.2`.
 pub(crate) static MARKER: [Field; 3] = named_rows![optional!("marked_range", Kind::Span)];
+
+/// The rows of `Marker.1`.
+pub(crate) static MARKER_1: [Field; 3] = named_rows![optional!("range", Kind::Span)];
 
 /// The rows of `ExternalReference.1`.
 pub(crate) static EXTERNAL: [Field; 4] = media_rows![optional!("target_url", Kind::Text(""))];

@@ -3,7 +3,7 @@
 use crate::faults::SchemaFault;
 use crate::schemas::Schema;
 use json_value::Members;
-use otio_model::{Effects, Items, Markers, MediaMap, Objects, Stack};
+use otio_model::{Effects, Items, Markers, Media, MediaMap, Objects, Stack};
 use owned::Owned;
 use sequences::{Sequence, Text};
 use tick_time::{Decimal, Rate, Scalar, Span, Time};
@@ -31,6 +31,8 @@ pub enum Value {
     Markers(Markers),
     /// Media references under their keys.
     Media(MediaMap),
+    /// One media reference.
+    Medium(Owned<Media>),
     /// A stack.
     Stack(Owned<Stack>),
     /// Objects in order.

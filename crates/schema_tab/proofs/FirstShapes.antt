@@ -20,6 +20,7 @@ is_of R.items value h = ap shape_of h.1
 is_of R.effects value h = ap shape_of h.1
 is_of R.markers value h = ap shape_of h.1
 is_of R.media value h = ap shape_of h.1
+is_of R.medium value h = ap shape_of h.1
 is_of R.stack value h = ap shape_of h.1
 is_of R.objects value h = ap shape_of h.1
 is_of R.rate value h = ap shape_of h.1

@@ -4,6 +4,7 @@ use Rattle.std.specs.Str.{bytes_eq}
 use Rattle.json_value.specs.declared.Json.{Json}
 use Rattle.tick_time.specs.Times.{is_speed}
 use Rattle.tick_time.specs.declared.times.Time.{Time}
+use Rattle.otio_model.specs.declared.media.Media.TheVariants as M
 use Rattle.schema_rows.specs.declared.schemas.Schema.{Schema}
 use Rattle.schema_rows.specs.declared.schemas.Schema.TheVariants as S
 use Rattle.schema_rows.specs.declared.schemas.TheConstants as C
@@ -13,9 +14,9 @@ use Rattle.schema_rows.specs.declared.values.Value.TheVariants as V
 use Rattle.schema_rows.specs.Rows as R
 use Rattle.schema_rows.specs.Rows.{Row, RowKind, stack_rows, time_range_rows, rational_time_rows}
 use Rattle.schema_rows.specs.Schemas.{named, name_of, rows_of}
-use Rattle.schema_rows.specs.Defaults.{default_of, empty_tracks}
+use Rattle.schema_rows.specs.Defaults.{default_of, empty_tracks, empty_missing}
 use Rattle.schema_rows.specs.Families.{stilled, is_freeze}
-use Rattle.schema_rows.specs.Stands.{Gives, text, flag, meta, span, time, number, rate, numeral, items, objects, effects, markers, media, stack, Gives_row, present, absent, Gives_rows, no_rows, more_rows, Gives_fields, fields}
+use Rattle.schema_rows.specs.Stands.{Gives, text, flag, meta, span, time, number, rate, numeral, items, objects, effects, markers, media, one_medium, stack, Gives_row, present, absent, Gives_rows, no_rows, more_rows, Gives_fields, fields}
 use Rattle.schema_tab.specs.Shapes.{IsOf, HaveKinds, IsAmong, AreOfRange, AreOfTime}
 
 gives_kind : {kind : RowKind} {json : Json} {value : Value} → Gives kind json value → IsOf kind value
@@ -32,6 +33,7 @@ gives_kind (objects _ _ v l xs k j g e) = subst (λ (x : RowKind). IsOf x v) (sy
 gives_kind (effects _ _ v l xs k j g e) = subst (λ (x : RowKind). IsOf x v) (sym k) (xs, e)
 gives_kind (markers _ _ v l xs k j g e) = subst (λ (x : RowKind). IsOf x v) (sym k) (xs, e)
 gives_kind (media _ _ v ms xs k j n g e) = subst (λ (x : RowKind). IsOf x v) (sym k) (xs, e)
+gives_kind (one_medium _ _ v m k g e) = subst (λ (x : RowKind). IsOf x v) (sym k) (m, e)
 gives_kind (stack _ _ v s k g e) = subst (λ (x : RowKind). IsOf x v) (sym k) (s, e)
 
 default_kind : (kind : RowKind) (value : Value) → default_of kind ≡ Some value → IsOf kind value
@@ -48,6 +50,7 @@ default_kind R.items value e = ([], cc)
 default_kind R.effects value e = ([], cc)
 default_kind R.markers value e = ([], cc)
 default_kind R.media value e = ([], cc)
+default_kind R.medium value e = (M.Missing empty_missing, cc)
 default_kind R.stack value e = (empty_tracks, cc)
 default_kind R.objects value e = ([], cc)
 default_kind R.rate value e = absurd (cc)
@@ -76,6 +79,7 @@ still_kind s R.items v h = (h.0, ap (stilled s) h.1)
 still_kind s R.effects v h = (h.0, ap (stilled s) h.1)
 still_kind s R.markers v h = (h.0, ap (stilled s) h.1)
 still_kind s R.media v h = (h.0, ap (stilled s) h.1)
+still_kind s R.medium v h = (h.0, ap (stilled s) h.1)
 still_kind s R.stack v h = (h.0, ap (stilled s) h.1)
 still_kind s R.objects v h = (h.0, ap (stilled s) h.1)
 still_kind s R.rate v h = (h.0, ap (stilled s) h.1)
@@ -136,6 +140,7 @@ gives_time (objects _ _ v l xs k j g e) is = absurd (cc)
 gives_time (effects _ _ v l xs k j g e) is = absurd (cc)
 gives_time (markers _ _ v l xs k j g e) is = absurd (cc)
 gives_time (media _ _ v ms xs k j n g e) is = absurd (cc)
+gives_time (one_medium _ _ v m k g e) is = absurd (cc)
 gives_time (stack _ _ v s k g e) is = absurd (cc)
 
 row_time : {row : Row} {members : List (List ℕ × Json)} {value : Value} → Gives_row row members value → row.need ≡ true → row.kind ≡ R.time → (t : Time) × (value ≡ V.Time (Some t))

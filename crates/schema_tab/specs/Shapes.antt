@@ -30,6 +30,7 @@ IsOf R.items value = (held : List (ItemOf Listed)) × (value ≡ V.Items held)
 IsOf R.effects value = (held : List Effect) × (value ≡ V.Effects held)
 IsOf R.markers value = (held : List Marker) × (value ≡ V.Markers held)
 IsOf R.media value = (held : List (List ℕ × Media)) × (value ≡ V.Media held)
+IsOf R.medium value = (held : Media) × (value ≡ V.Medium held)
 IsOf R.stack value = (held : StackOf Listed) × (value ≡ V.Stack held)
 IsOf R.objects value = (held : List Object) × (value ≡ V.Objects held)
 IsOf R.rate value = (held : Rate) × (value ≡ V.Rate held)
@@ -68,6 +69,7 @@ pub data Shape : Type 0 where
   effects : Shape
   markers : Shape
   media : Shape
+  medium : Shape
   stack : Shape
   objects : Shape
   rate : Shape
@@ -84,6 +86,7 @@ shape_of (V.Items held) = items
 shape_of (V.Effects held) = effects
 shape_of (V.Markers held) = markers
 shape_of (V.Media held) = media
+shape_of (V.Medium held) = medium
 shape_of (V.Stack held) = stack
 shape_of (V.Objects held) = objects
 shape_of (V.Rate held) = rate
@@ -100,6 +103,7 @@ kind_shape R.items = items
 kind_shape R.effects = effects
 kind_shape R.markers = markers
 kind_shape R.media = media
+kind_shape R.medium = medium
 kind_shape R.stack = stack
 kind_shape R.objects = objects
 kind_shape R.rate = rate

@@ -6,7 +6,8 @@ ghost use Rattle.schema_rows.specs.Rows.{row_of, kind_of};
 ghost use Rattle.schema_rows.specs.Defaults as defaults;
 
 use crate::faults::field_fault;
-use otio_model::{Children, Effects, Place, Stack, StackOf};
+use crate::required_values::empty_missing;
+use otio_model::{Children, Effects, Media, MediaMap, Place, Stack, StackOf};
 use owned::Owned;
 use schema_rows::{Field, Kind, RowResult, SchemaFault, Value};
 use sequences::{NamedValues, Sequence, Text};
@@ -59,7 +60,11 @@ fn default_of(alloc: Global, kind: Kind) -> Result<Option<Value>, AllocError>
         Kind::Items => Ok(Some(Value::Items(Sequence::new(alloc)))),
         Kind::Effects => Ok(Some(Value::Effects(Effects::new(alloc)))),
         Kind::Markers => Ok(Some(Value::Markers(Sequence::new(alloc)))),
-        Kind::Media => Ok(Some(Value::Media(NamedValues::new(alloc)))),
+        Kind::Media => Ok(Some(Value::Media(MediaMap::new(alloc)))),
+        Kind::Medium => {
+            let missing = empty_missing(alloc)?;
+            Ok(Some(Value::Medium(Owned::of(alloc, Media::Missing(missing))?)))
+        }
         Kind::Stack => {
             let stack = empty_tracks(alloc)?;
             Ok(Some(Value::Stack(Owned::of(alloc, stack)?)))

@@ -14,17 +14,19 @@ ghost use Rattle.schema_rows.specs.Faults.{Refuses, Refuses_row, Refuses_rows, R
 
 use crate::defaults::absent;
 use crate::faults::{child_place, field_fault, newer_fault};
-use crate::required_values::{effect_of, item_of, marker_of, medium_of, root_of, tracks_of};
+use crate::required_values::{
+    effect_of, item_of, marker_of, medium_of, medium_row, root_of, tracks_of,
+};
 use crate::scalars::{flag_of, meta_of, number_of, numeral_of, rate_of, span_of, text_of, time_of};
 use crate::schema_names::{found_object, given};
 use crate::tables::finished;
 use json_value::{Json, JsonList, Members};
-use otio_model::{Effects, Place};
+use otio_model::{Effects, MediaMap, Place};
 use schema_rows::{
     EFFECTS, Field, ITEMS, Kind, MARKERS, MEDIA, Matched, RANGES, ROOTS, RowResult, STACKS, Schema,
     SchemaFault, TIMES, Value, named,
 };
-use sequences::{NamedValues, Sequence, Text};
+use sequences::{Sequence, Text};
 use std::alloc::Global;
 
 /// The values of the rows of a table that an object's members give, in the order of the table; or
@@ -109,6 +111,10 @@ fn read_member(alloc: Global, row: &Field, value: &Json, place: &Place) -> RowRe
         Kind::Stack => {
             let found = read_object(alloc, &STACKS, value, place)?;
             tracks_of(alloc, value, place, found)
+        }
+        Kind::Medium => {
+            let found = read_object(alloc, &MEDIA, value, place)?;
+            medium_row(alloc, value, found)
         }
         Kind::Items => read_items(alloc, list_of(alloc, row, value, place)?, place),
         Kind::Objects => read_objects(alloc, list_of(alloc, row, value, place)?, place),
@@ -224,7 +230,7 @@ fn read_media(alloc: Global, members: &Members, place: &Place) -> RowResult
         let reference = medium_of(alloc, &pair.1, found)?;
         media.push((key, reference))?;
     }
-    Ok(Value::Media(NamedValues::of(media)))
+    Ok(Value::Media(MediaMap::of(media)))
 }
 
 /// The fields of an object of one of the schemas; none where the value is no such object.

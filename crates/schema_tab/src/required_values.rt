@@ -231,7 +231,8 @@ pub fn marker_of(alloc: Global, value: &Json, found: Matched) -> Result<Marker, 
     }
 }
 
-fn empty_missing(alloc: Global) -> Result<Missing, AllocError>
+/// The media reference that null means, and an absent member.
+pub fn empty_missing(alloc: Global) -> Result<Missing, AllocError>
     ensures { IfOk result (λ missing. missing ≡ defaults.empty_missing) }
 {
     let name = Text::of(alloc, "")?;
@@ -277,5 +278,22 @@ pub fn medium_of(alloc: Global, value: &Json, found: Matched) -> Result<Media, S
             Err(_) => Err(SchemaFault::Memory),
         },
         _ => reference_of(alloc, value, found),
+    }
+}
+
+/// The one media reference of a row. The one error is `Memory`, where memory runs out. `found` has
+/// to be the value's fields as an object of `MEDIA`, none where it is no such object.
+pub fn medium_row(alloc: Global, value: &Json, found: Matched) -> RowResult
+    requires found { MatchOption found (IsForeign families.MEDIA value.now)
+        (Gives_fields families.MEDIA value.now) }
+    ensures value { IfOk result (Gives rows.medium value.now) }
+    ensures memory { IfErr result (λ fault. fault ≡ SchemaFault.Memory) }
+{
+    match medium_of(alloc, value, found) {
+        Ok(reference) => match Owned::of(alloc, reference) {
+            Ok(owned) => Ok(Value::Medium(owned)),
+            Err(_) => Err(SchemaFault::Memory),
+        },
+        Err(fault) => Err(fault),
     }
 }

@@ -90,16 +90,3 @@ table-length table values h = h ∙ same table
     same : (table : List Field) → length (map row_of table) ≡ length table
     same [] = refl
     same (f ∷ table) = ap suc (same table)
-
--- the same with a row of its own behind the rows
-pub old_added : (new behind mid front none rows rest : List (List ℕ × Json))
-    (key name text of called own : List ℕ) (value : Json) → new ≡ behind ++ rest
-    → behind ≡ mid ++ (called, value) ∷ [] → mid ≡ front ++ rows
-    → front ≡ none ++ (key, Str text) ∷ [] → none ≡ [] → key ≡ name → text ≡ of → called ≡ own
-    → new ≡ (name, Str of) ∷ (rows ++ (own, value) ∷ rest)
-old_added new behind mid front none rows rest key name text of called own value a b c d e f g h =
-    let row = (called, value) ∷ [] in
-    let more = b ∙ ap (λ l. l ++ row) c ∙ append_assoc front rows row in
-    object_added new behind front none (rows ++ row) rest key name text of a more d e f g
-    ∙ ap (λ l. (name, Str of) ∷ l) (append_assoc rows row rest)
-    ∙ ap (λ (n : List ℕ). (name, Str of) ∷ (rows ++ (n, value) ∷ rest)) h

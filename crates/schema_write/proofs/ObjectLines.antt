@@ -1,5 +1,5 @@
 -- The layout of an object of a schema, row by row.
-use Rattle.std.proofs.Common.{◌≡◌, ◌<◌, ℕ, suc, ◌+◌, ◌||◌, Bool, true, false, not, filter, List, [], ◌∷◌, ◌++◌, length, get_or, map, drop, drop-cons, add-one, codes, if◌then◌else◌, refl, sym, ap, subst, ◌∙◌, append_assoc}
+use Rattle.std.proofs.Common.{◌≡◌, ◌<◌, ℕ, suc, ◌+◌, ◌||◌, Bool, true, false, not, List, [], ◌∷◌, ◌++◌, length, get_or, map, drop, drop-cons, add-one, codes, if◌then◌else◌, refl, sym, ap, subst, ◌∙◌, append_assoc}
 use Rattle.std.specs.Str.{bytes_eq}
 use Rattle.otio_model.specs.declared.effect_types.Plain.{Plain}
 use Rattle.schema_rows.specs.Rows.{Row}
@@ -14,8 +14,8 @@ use Rattle.json_text.proofs.Lines.{text_at-Map, text_at-Str}
 use Rattle.schema_rows.specs.declared.schemas.Schema.{Schema}
 use Rattle.schema_rows.specs.Schemas.{schema_key, text_of, rows_of}
 use Rattle.schema_rows.specs.Families.{is_row, others}
-use Rattle.schema_write.specs.Written.{written, named_values, old_others, written_old}
-use Rattle.schema_write.specs.Lines.{head_text, old_head_text, row_text, other_text, old_other_text, member_rows, end_text}
+use Rattle.schema_write.specs.Written.{written, named_values}
+use Rattle.schema_write.specs.Lines.{head_text, row_text, other_text, old_other_text, member_rows, end_text}
 
 -- members behind another one, and then a text
 abbrev pub rows_then : List (List ℕ × Json) → ℕ → List ℕ → List ℕ
@@ -65,11 +65,16 @@ head_then n p r e =
     ap (λ l. 123 ∷ 10 ∷ l) (append_assoc (indent n) (p ++ r) e
     ∙ ap (λ l. indent n ++ l) (append_assoc p r e) ∙ sym (append_assoc (indent n) p (r ++ e)))
 
--- an object whose schema has this text, by its head, its rows, its other members and its end
-pairs_parts : (n m : ℕ) (of : List ℕ) (named more : List (List ℕ × Json)) → m ≡ n + 1
-    → old_head_text of m ++ rows_then named m (member_rows more m ++ end_text n)
-    ≡ text_at (Map ((schema_key, Str of) ∷ (named ++ more))) n
-pairs_parts n m of named more e =
+-- an object of a schema by its head, its rows, its other members and its end
+object_parts : (n m : ℕ) (schema : Schema) (values : List Json) (rest : List (List ℕ × Json))
+    → m ≡ n + 1
+    → head_text schema m ++ rows_then (named_values (rows_of schema) values) m
+    (member_rows (others (rows_of schema) rest) m ++ end_text n)
+    ≡ text_at (written schema values rest) n
+object_parts n m schema values rest e =
+    let of = text_of schema in
+    let named = named_values (rows_of schema) values in
+    let more = others (rows_of schema) rest in
     let key = member_text schema_key (quoted of) in
     let lines = rows_are named more (n + 1) in
     let text = text_at-Map ((schema_key, Str of) ∷ (named ++ more)) n in
@@ -82,37 +87,8 @@ pairs_parts n m of named more e =
     (named ++ more))))) ++ end_text n) str
     ∙ ap (λ r. (123 ∷ (newline (n + 1) ++ (key ++ r))) ++ end_text n) lines
     ∙ head_then (n + 1) key (rows_then named (n + 1) (member_rows more (n + 1))) (end_text n)
-    ∙ ap (λ r. old_head_text of (n + 1) ++ r)
+    ∙ ap (λ r. head_text schema (n + 1) ++ r)
     (then_end named (n + 1) (member_rows more (n + 1)) (end_text n))))
-
--- an object of a schema
-pub object_parts : (n m : ℕ) (schema : Schema) (values : List Json) (rest : List (List ℕ × Json))
-    → m ≡ n + 1
-    → head_text schema m ++ rows_then (named_values (rows_of schema) values) m
-    (member_rows (others (rows_of schema) rest) m ++ end_text n)
-    ≡ text_at (written schema values rest) n
-object_parts n m schema values rest e = pairs_parts n m (text_of schema)
-    (named_values (rows_of schema) values) (others (rows_of schema) rest) e
-
--- an object of an older schema
-old_parts : (n m : ℕ) (of : List ℕ) (schema : Schema) (values : List Json) (own : List ℕ × Json)
-    (rest : List (List ℕ × Json)) → m ≡ n + 1
-    → old_head_text of m ++ rows_then (named_values (rows_of schema) values ++ own ∷ []) m
-    (member_rows (old_others own.0 schema rest) m ++ end_text n)
-    ≡ text_at (written_old of schema values own rest) n
-old_parts n m of schema values own rest e =
-    let named = named_values (rows_of schema) values in
-    let more = old_others own.0 schema rest in
-    pairs_parts n m of (named ++ own ∷ []) more e
-    ∙ ap (λ l. text_at (Map ((schema_key, Str of) ∷ l)) n) (append_assoc named (own ∷ []) more)
-
-pub old_put : {a b : Standing} (n m : ℕ) (of : List ℕ) (schema : Schema) (values : List Json)
-    (own : List ℕ × Json) (rest : List (List ℕ × Json)) → m ≡ n + 1
-    → Puts a b (old_head_text of m
-    ++ rows_then (named_values (rows_of schema) values ++ own ∷ []) m
-    (member_rows (old_others own.0 schema rest) m ++ end_text n))
-    → Puts a b (text_at (written_old of schema values own rest) n)
-old_put n m of schema values own rest e p = puts_as _ p (old_parts n m of schema values own rest e)
 
 -- the same, handed over
 pub object_put : {a b : Standing} (n m : ℕ) (schema : Schema) (values : List Json)
@@ -147,30 +123,24 @@ others-next rows members i n d h =
     (by_test (bytes_eq m.0 schema_key || is_row rows m.0) m (others rows (drop (suc i) members))
     n)
 
--- the same without members of a name
-by_tests : (name : List ℕ) (s t : Bool) (member : List ℕ × Json) (more : List (List ℕ × Json))
-    (n : ℕ) → bytes_eq name member.0 ≡ s
-    → member_rows (filter (λ (x : List ℕ × Json). not (bytes_eq name x.0))
-    (if not t then member ∷ more else more)) n
-    ≡ (if s then [] else (if t then [] else row_text member.0 member.1 n))
-    ++ member_rows (filter (λ (x : List ℕ × Json). not (bytes_eq name x.0)) more) n
-by_tests name true true member more n e = refl
-by_tests name false true member more n e = refl
-by_tests name true false member more n e = rw e refl
-by_tests name false false member more n e = rw e refl
+-- the same of an older schema, where the newer one's table may have a row for it
+by_tests : (rows : List Row) (t : Bool) (member : List ℕ × Json) (more : List (List ℕ × Json))
+    (n : ℕ) → member_rows (others rows (if not t then member ∷ more else more)) n
+    ≡ (if t then [] else other_text rows member n) ++ member_rows (others rows more) n
+by_tests rows true member more n = refl
+by_tests rows false member more n =
+    by_test (bytes_eq member.0 schema_key || is_row rows member.0) member (others rows more) n
 
-pub old_others-next : (name : List ℕ) (rows : List Row) (members : List (List ℕ × Json)) (i n : ℕ)
+pub old_others-next : (newer rows : List Row) (members : List (List ℕ × Json)) (i n : ℕ)
     (d : List ℕ × Json) → i < length members
-    → member_rows (filter (λ (x : List ℕ × Json). not (bytes_eq name x.0))
-    (others rows (drop i members))) n
-    ≡ old_other_text name rows (get_or members i d) n
-    ++ member_rows (filter (λ (x : List ℕ × Json). not (bytes_eq name x.0))
-    (others rows (drop (i + 1) members))) n
-old_others-next name rows members i n d h =
+    → member_rows (others rows (others newer (drop i members))) n
+    ≡ old_other_text newer rows (get_or members i d) n
+    ++ member_rows (others rows (others newer (drop (i + 1) members))) n
+old_others-next newer rows members i n d h =
     let m = get_or members i d in
     rw (add-one, drop-cons members i d)
-    (by_tests name (bytes_eq name m.0) (bytes_eq m.0 schema_key || is_row rows m.0) m
-    (others rows (drop (suc i) members)) n refl)
+    (by_tests rows (bytes_eq m.0 schema_key || is_row newer m.0) m
+    (others newer (drop (suc i) members)) n)
 
 -- the rows of an effect without a meaning in frames
 by_timed : (timed : Bool) (m : ℕ) (x y z : Json) (tail : List ℕ)

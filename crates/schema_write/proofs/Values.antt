@@ -4,7 +4,7 @@ use Rattle.json_value.specs.declared.Json.{Json}
 use Rattle.otio_model.specs.declared.media.Media.{Media}
 use Rattle.sequences.specs.Pairs.{names_of}
 use Rattle.schema_rows.specs.declared.schemas.Schema.{Schema}
-use Rattle.schema_write.specs.Written.{written, written_old}
+use Rattle.schema_write.specs.Written.{written}
 use Rattle.schema_rows.specs.Readings.{plain_schema}
 use Rattle.schema_write.specs.Objects.{medium_pair}
 
@@ -22,12 +22,6 @@ added (Err _) y is_added it before = absurd is_added
 pub written_as : {E : Type 0} (r : Result Json E) (schema : Schema) (rest : List (List ℕ × Json)) (xs ys : List Json) → xs ≡ ys
     → IfOk r (λ json. json ≡ written schema xs rest) → IfOk r (λ json. json ≡ written schema ys rest)
 written_as r schema rest xs ys e h = subst (λ (vs : List Json). IfOk r (λ json. json ≡ written schema vs rest)) e h
-
--- the same of an older schema
-pub old_as : {E : Type 0} (r : Result Json E) (text : List ℕ) (schema : Schema) (name : List ℕ) (rest : List (List ℕ × Json)) (xs ys : List Json) (x y : Json) → xs ≡ ys → x ≡ y
-    → IfOk r (λ json. json ≡ written_old text schema xs (name, x) rest) → IfOk r (λ json. json ≡ written_old text schema ys (name, y) rest)
-old_as r text schema name rest xs ys x y e f h =
-    subst (λ (v : Json). IfOk r (λ json. json ≡ written_old text schema ys (name, v) rest)) f (subst (λ (vs : List Json). IfOk r (λ json. json ≡ written_old text schema vs (name, x) rest)) e h)
 
 -- the same object where it has no other members
 pub written_bare : {E : Type 0} (r : Result Json E) (schema : Schema) (rest : List (List ℕ × Json)) (xs ys : List Json) → rest ≡ [] → xs ≡ ys

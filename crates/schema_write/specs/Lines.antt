@@ -13,10 +13,6 @@ use Rattle.schema_rows.specs.Families.{is_row}
 abbrev pub head_text : Schema → ℕ → List ℕ
 head_text schema n = 123 ∷ (newline n ++ member_text schema_key (quoted (text_of schema)))
 
--- the same of a schema of this text
-abbrev pub old_head_text : List ℕ → ℕ → List ℕ
-old_head_text text n = 123 ∷ (newline n ++ member_text schema_key (quoted text))
-
 -- a comma, and the name of a member on a line of this level, up to its value
 abbrev pub row_front : List ℕ → ℕ → List ℕ
 row_front name n = 44 ∷ (newline n ++ (quoted name ++ (58 ∷ 32 ∷ [])))
@@ -40,7 +36,8 @@ other_text rows member n =
     if bytes_eq member.0 schema_key || is_row rows member.0 then []
     else row_text member.0 member.1 n
 
--- the same, where it hasn't this name either
-abbrev pub old_other_text : List ℕ → List Row → List ℕ × Json → ℕ → List ℕ
-old_other_text name rows member n =
-    if bytes_eq name member.0 then [] else other_text rows member n
+-- the same of an older schema, where the newer one's table has no row for it either
+abbrev pub old_other_text : List Row → List Row → List ℕ × Json → ℕ → List ℕ
+old_other_text newer rows member n =
+    if bytes_eq member.0 schema_key || is_row newer member.0 then []
+    else other_text rows member n

@@ -83,8 +83,7 @@ mark_json m = written S.Marker (Map m.metadata ∷ Str m.name ∷ span_json m.ma
 -- Marker.1: the range under its old name
 abbrev pub old_mark_json : Mark → Json
 old_mark_json m =
-    written_old (codes "Marker.1") S.Marker (Map m.metadata ∷ Str m.name ∷ [])
-    (codes "range", span_json m.marked_range) m.rest
+    written_old S.FirstMarker (Map m.metadata ∷ Str m.name ∷ span_json m.marked_range ∷ []) m.rest
 
 -- a marker, known ones by this function
 abbrev pub marker_by : (Mark → Json) → Marker → Json
@@ -154,10 +153,10 @@ reference_json (medium ∷ more) = medium_json medium.1
 
 -- Clip.1: one reference in place of the references and the active key
 abbrev pub old_clip_json : Clip → Json
-old_clip_json c = written_old (codes "Clip.1") S.Clip (
+old_clip_json c = written_old S.FirstClip (
     Map c.metadata ∷ Str c.name ∷ span_json c.source_range ∷ effects_json c.effects
-    ∷ markers_by old_mark_json c.markers ∷ JsonOfBool c.enabled ∷ [])
-    (codes "media_reference", reference_json c.media_references) c.rest
+    ∷ markers_by old_mark_json c.markers ∷ JsonOfBool c.enabled
+    ∷ reference_json c.media_references ∷ []) c.rest
 
 -- how known markers and clips are written; all else is the same in both families
 pub record Style : Type 0 where

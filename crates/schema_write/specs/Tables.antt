@@ -12,7 +12,7 @@ use Rattle.schema_rows.specs.Readings.{Reading, known, kept}
 use Rattle.schema_rows.specs.Families.{stilled}
 use Rattle.schema_write.specs.Texts.{decimal_text, rate_text}
 use Rattle.schema_write.specs.Written.{written}
-use Rattle.schema_write.specs.Objects.{offset_json, span_json, effects_json, markers_json, media_json, newer, stack_by, children_json, item_json, json_of}
+use Rattle.schema_write.specs.Objects.{offset_json, span_json, effects_json, markers_json, media_json, medium_json, newer, stack_by, children_json, item_json, json_of}
 
 -- the whole millionths of a decimal
 abbrev pub millionths_text : Decimal → List ℕ
@@ -31,6 +31,7 @@ value_json (V.Items items) = JsonOfList (map item_json items)
 value_json (V.Effects effects) = effects_json effects
 value_json (V.Markers markers) = markers_json markers
 value_json (V.Media media) = media_json media
+value_json (V.Medium medium) = medium_json medium
 value_json (V.Stack stack) = stack_by newer children_json stack
 value_json (V.Objects objects) = JsonOfList (map json_of objects)
 value_json (V.Rate rate) = Num (rate_text rate)

@@ -1,12 +1,12 @@
 -- An object of a schema in JSON, in the written order.
-use Rattle.std.specs.Prelude.{ℕ, List, [], ◌∷◌, ◌++◌, filter, not, Bool, ◌&&◌, ◌||◌}
-use Rattle.std.specs.Str.{bytes_eq}
+use Rattle.std.specs.Prelude.{ℕ, List, [], ◌∷◌, ◌++◌}
 use Rattle.json_value.specs.declared.Json.{Json, Str, Map}
 use Rattle.schema_rows.specs.declared.rows.Field.{Field}
 use Rattle.schema_rows.specs.Rows.{Row}
 use Rattle.schema_rows.specs.declared.schemas.Schema.{Schema}
+use Rattle.schema_rows.specs.declared.schemas.Schema.TheVariants as S
 use Rattle.schema_rows.specs.Schemas.{schema_key, text_of, rows_of}
-use Rattle.schema_rows.specs.Families.{is_row, others}
+use Rattle.schema_rows.specs.Families.{others}
 
 -- the name of a row that the code keeps
 abbrev pub name_of : Field → List ℕ
@@ -25,23 +25,13 @@ written schema values rest =
     Map ((schema_key, Str (text_of schema))
     ∷ (named_values (rows_of schema) values ++ others (rows_of schema) rest))
 
--- the name is neither the own one nor that of a row
-abbrev pub written_last : List ℕ → List Row → List ℕ → Bool
-written_last own rows name =
-    not (bytes_eq own name) && not (bytes_eq name schema_key || is_row rows name)
+-- the newer schema of the same name; an upgrade makes an object of it of one of the older
+abbrev pub newer_of : Schema → Schema
+newer_of S.FirstClip = S.Clip
+newer_of S.FirstMarker = S.Marker
+newer_of schema = schema
 
--- the members that a schema's table has no row for, without those of that name
-abbrev pub old_others : List ℕ → Schema → List (List ℕ × Json) → List (List ℕ × Json)
-old_others name schema rest =
-    filter (λ member. not (bytes_eq name member.0)) (others (rows_of schema) rest)
-
--- The members of an object of an older schema: its text, the values of the first rows of the newer
--- schema, the older schema's own row, then the members that neither has a row for.
-abbrev pub old_pairs : List ℕ → Schema → List Json → List ℕ × Json → List (List ℕ × Json)
-    → List (List ℕ × Json)
-old_pairs text schema values own rest = (schema_key, Str text)
-    ∷ (named_values (rows_of schema) values ++ own ∷ old_others own.0 schema rest)
-
-abbrev pub written_old : List ℕ → Schema → List Json → List ℕ × Json → List (List ℕ × Json)
-    → Json
-written_old text schema values own rest = Map (old_pairs text schema values own rest)
+-- an object of an older schema: other members are those that neither its table has a row for nor
+-- that of the newer one
+abbrev pub written_old : Schema → List Json → List (List ℕ × Json) → Json
+written_old schema values rest = written schema values (others (rows_of (newer_of schema)) rest)

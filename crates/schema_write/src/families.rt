@@ -1,5 +1,8 @@
 //! Families of schemas.
 
+ghost use Rattle.std.specs.Prelude.{◌≡◌};
+ghost use Rattle.schema_write.specs.Written.{newer_of};
+
 use schema_rows::Schema;
 
 /// A family of schemas, by the versions of clips and markers (OpenTimelineIO's schema pages). All
@@ -12,28 +15,14 @@ pub enum Family {
     New,
 }
 
-/// A schema of the older family, by the newer schema of the same name.
-#[derive(Clone, Copy)]
-pub struct OldSchema<'a> {
-    /// The newer schema.
-    pub newer: Schema,
-    /// The text of the older one.
-    pub text: &'a str,
-    /// The name of the older one's own row, which stands in place of the last rows of the newer
-    /// one.
-    pub own: &'a str,
+/// The newer schema of the same name: an upgrade makes an object of it of a `Clip.1` or a
+/// `Marker.1`. Any other schema is its own.
+pub fn newer(schema: Schema) -> Schema
+    ensures { result ≡ newer_of schema }
+{
+    match schema {
+        Schema::FirstClip => Schema::Clip,
+        Schema::FirstMarker => Schema::Marker,
+        other => other,
+    }
 }
-
-/// The clip of the older family: one reference in place of the references and the active key.
-pub const OLD_CLIP: OldSchema<'static> = OldSchema {
-    newer: Schema::Clip,
-    text: "Clip.1",
-    own: "media_reference",
-};
-
-/// The marker of the older family: its range has another name.
-pub const OLD_MARKER: OldSchema<'static> = OldSchema {
-    newer: Schema::Marker,
-    text: "Marker.1",
-    own: "range",
-};

@@ -4,7 +4,7 @@ ghost use Rattle.std.specs.Prelude.{◌≡◌, IfOk};
 ghost use Rattle.schema_write.specs.Objects as objects;
 ghost use Rattle.schema_write.specs.Styles.{style_of};
 
-use crate::families::{Family, OLD_MARKER};
+use crate::families::Family;
 use crate::times::span_json;
 use crate::writing::{add, named, written, written_old};
 use json_value::{Json, copy_json};
@@ -47,9 +47,9 @@ fn mark_in(alloc: Global, mark: &Mark, family: Family) -> Result<Json, AllocErro
 fn old_mark_json(alloc: Global, mark: &Mark) -> Result<Json, AllocError>
     ensures { IfOk result (λ json. json ≡ objects.old_mark_json mark.now) }
 {
-    let values = named(alloc, &mark.metadata, &mark.name, 2)?;
-    let range = span_json(alloc, mark.marked_range)?;
-    written_old(alloc, &OLD_MARKER, values, range, &mark.rest)
+    let mut values = named(alloc, &mark.metadata, &mark.name, 3)?;
+    add(&mut values, span_json(alloc, mark.marked_range))?;
+    written_old(alloc, Schema::FirstMarker, values, &mark.rest)
 }
 
 fn mark_json(alloc: Global, mark: &Mark) -> Result<Json, AllocError>

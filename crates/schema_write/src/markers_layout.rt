@@ -8,10 +8,9 @@ ghost use Rattle.schema_write.specs.Objects.{markers_by, marker_by, mark_json, o
 ghost use Rattle.schema_write.specs.Styles.{style_of};
 ghost use Rattle.schema_write.specs.Lines.{row_text};
 
-use crate::families::{Family, OLD_MARKER};
+use crate::families::Family;
 use crate::rows::{
-    put_end, put_head, put_object_row, put_old_head, put_old_others, put_others, put_row_name,
-    put_text_row,
+    put_end, put_head, put_object_row, put_old_others, put_others, put_row_name, put_text_row,
 };
 use crate::times_layout::put_span_row;
 use dev_io::{Out, OutBuffer};
@@ -109,11 +108,11 @@ fn put_old_mark<W: Out>(buffer: &mut OutBuffer, out: &mut W, mark: &Mark, level:
         (text_at (old_mark_json mark.now) (deep level.now)) }
 {
     let inner = inside(&*level);
-    put_old_head(buffer, out, OLD_MARKER.text, &inner);
+    put_head(buffer, out, Schema::FirstMarker, &inner);
     put_object_row(buffer, out, "metadata", &mark.metadata, &inner);
     put_text_row(buffer, out, "name", &mark.name, &inner);
-    put_span_row(buffer, out, OLD_MARKER.own, mark.marked_range, &inner);
-    put_old_others(buffer, out, &OLD_MARKER, &mark.rest, &inner);
+    put_span_row(buffer, out, "range", mark.marked_range, &inner);
+    put_old_others(buffer, out, Schema::FirstMarker, &mark.rest, &inner);
     put_end(buffer, out, level);
 }
 

@@ -8,11 +8,11 @@ ghost use Rattle.json_text.specs.Levels.{deep};
 ghost use Rattle.schema_rows.specs.Rows.{row_of};
 ghost use Rattle.schema_rows.specs.Schemas.{rows_of};
 ghost use Rattle.schema_rows.specs.Families.{others};
-ghost use Rattle.schema_write.specs.Written.{old_others};
-ghost use Rattle.schema_write.specs.Lines.{head_text, old_head_text, row_front, row_text, other_text, old_other_text};
+ghost use Rattle.schema_write.specs.Written.{newer_of};
+ghost use Rattle.schema_write.specs.Lines.{head_text, row_front, row_text, other_text, old_other_text};
 ghost use Rattle.schema_write.specs.Lines.{member_rows, end_text};
 
-use crate::families::OldSchema;
+use crate::families::newer;
 use crate::writing::is_named;
 use dev_io::{Out, OutBuffer};
 use json_text::{Level, put_line, put_name, put_object, put_string, put_value};
@@ -28,16 +28,6 @@ pub fn put_head<W: Out>(buffer: &mut OutBuffer, out: &mut W, schema: Schema, lev
     put_line(buffer, out, b"{\n", level);
     buffer.put(out, b"\"OTIO_SCHEMA\": ");
     put_string(buffer, out, schema.text().as_bytes());
-}
-
-/// Hands over the bracket of an object and, on a line of the level inside, this text as its schema.
-pub fn put_old_head<W: Out>(buffer: &mut OutBuffer, out: &mut W, text: &str, level: &Level<'_>)
-    ensures { HandsOver W.known W.faults out.old out.new buffer.old buffer.new
-        (old_head_text text.now (deep level.now)) }
-{
-    put_line(buffer, out, b"{\n", level);
-    buffer.put(out, b"\"OTIO_SCHEMA\": ");
-    put_string(buffer, out, text.as_bytes());
 }
 
 /// Hands over the name of a row on a line of its own, up to its value.
@@ -137,16 +127,17 @@ pub fn put_others<W: Out>(
     }
 }
 
-/// Hands over the members that neither an older schema nor the newer one has a row for.
+/// Hands over the members that neither the table of an older schema nor that of the newer one has
+/// a row for.
 pub fn put_old_others<W: Out>(
     buffer: &mut OutBuffer,
     out: &mut W,
-    schema: &OldSchema<'_>,
+    schema: Schema,
     rest: &Members,
     level: &Level<'_>,
 )
     ensures { HandsOver W.known W.faults out.old out.new buffer.old buffer.new
-        (member_rows (old_others schema.now.own.now schema.now.newer rest.now)
+        (member_rows (others (rows_of schema) (others (rows_of (newer_of schema)) rest.now))
         (deep level.now)) }
 {
     for member in rest.as_slice() {
@@ -154,22 +145,22 @@ pub fn put_old_others<W: Out>(
     }
 }
 
-// Hands over a member where neither an older schema nor the newer one has a row for it.
+// Hands over a member where neither of the two tables has a row for it.
 fn put_old_other<W: Out>(
     buffer: &mut OutBuffer,
     out: &mut W,
-    schema: &OldSchema<'_>,
+    schema: Schema,
     member: &(Text, Json),
     level: &Level<'_>,
 )
     ensures { HandsOver W.known W.faults out.old out.new buffer.old buffer.new
-        (old_other_text schema.now.own.now (rows_of schema.now.newer) member.now
+        (old_other_text (rows_of (newer_of schema)) (rows_of schema) member.now
         (deep level.now)) }
 {
-    if schema.own == member.0.as_str() {
+    if is_named(newer(schema).table(), member.0.as_str()) {
         return;
     }
-    put_other(buffer, out, schema.newer.table(), member, level);
+    put_other(buffer, out, schema.table(), member, level);
 }
 
 // Hands over a member where the table has no row for it.

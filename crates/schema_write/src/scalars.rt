@@ -6,7 +6,7 @@ ghost use Rattle.schema_write.specs.Objects as objects;
 ghost use Rattle.schema_write.specs.Styles.{style_of};
 
 use crate::effects::effects_json;
-use crate::families::{Family, OLD_CLIP};
+use crate::families::Family;
 use crate::markers::markers_json;
 use crate::media::{media_json, reference_json};
 use crate::times::{offset_json, span_json};
@@ -72,9 +72,9 @@ pub fn clip_in(alloc: Global, clip: &Clip, family: Family) -> Result<Json, Alloc
 fn old_clip_json(alloc: Global, clip: &Clip) -> Result<Json, AllocError>
     ensures { IfOk result (λ json. json ≡ objects.old_clip_json clip.now) }
 {
-    let values = shared_json(alloc, &shared!(clip), Family::Old)?;
-    let reference = reference_json(alloc, &clip.media_references)?;
-    written_old(alloc, &OLD_CLIP, values, reference, &clip.rest)
+    let mut values = shared_json(alloc, &shared!(clip), Family::Old)?;
+    add(&mut values, reference_json(alloc, &clip.media_references))?;
+    written_old(alloc, Schema::FirstClip, values, &clip.rest)
 }
 
 fn clip_json(alloc: Global, clip: &Clip) -> Result<Json, AllocError>

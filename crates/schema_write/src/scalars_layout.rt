@@ -7,12 +7,11 @@ ghost use Rattle.schema_write.specs.Objects.{clip_json, old_clip_json, gap_in, t
 ghost use Rattle.schema_write.specs.Styles.{style_of};
 
 use crate::effects_layout::put_effects_row;
-use crate::families::{Family, OLD_CLIP};
+use crate::families::Family;
 use crate::markers_layout::put_markers_row;
 use crate::media_layout::{put_media_row, put_reference_row};
 use crate::rows::{
-    put_end, put_flag_row, put_head, put_object_row, put_old_head, put_old_others, put_others,
-    put_text_row,
+    put_end, put_flag_row, put_head, put_object_row, put_old_others, put_others, put_text_row,
 };
 use crate::times_layout::{put_offset_row, put_span_row};
 use dev_io::{Out, OutBuffer};
@@ -42,7 +41,7 @@ fn put_old_clip<W: Out>(buffer: &mut OutBuffer, out: &mut W, clip: &Clip, level:
         (text_at (old_clip_json clip.now) (deep level.now)) }
 {
     let inner = inside(&*level);
-    put_old_head(buffer, out, OLD_CLIP.text, &inner);
+    put_head(buffer, out, Schema::FirstClip, &inner);
     put_object_row(buffer, out, "metadata", &clip.metadata, &inner);
     put_text_row(buffer, out, "name", &clip.name, &inner);
     put_span_row(buffer, out, "source_range", clip.source_range, &inner);
@@ -50,7 +49,7 @@ fn put_old_clip<W: Out>(buffer: &mut OutBuffer, out: &mut W, clip: &Clip, level:
     put_markers_row(buffer, out, &clip.markers, Family::Old, &inner);
     put_flag_row(buffer, out, "enabled", clip.enabled, &inner);
     put_reference_row(buffer, out, &clip.media_references, &inner);
-    put_old_others(buffer, out, &OLD_CLIP, &clip.rest, &inner);
+    put_old_others(buffer, out, Schema::FirstClip, &clip.rest, &inner);
     put_end(buffer, out, level);
 }
 

@@ -1,6 +1,6 @@
 //! An object of a schema in the written order.
 
-ghost use Rattle.std.specs.Prelude.{◌≡◌, ◌<◌, ◌≤◌, ◌++◌, ◌∷◌, [], ◌||◌, length, map, IfOk, IsOkAnd, OnOk, filter, not, Some, option_map, slice_get};
+ghost use Rattle.std.specs.Prelude.{◌≡◌, ◌<◌, ◌≤◌, ◌++◌, ◌∷◌, [], ◌||◌, length, map, IfOk, IsOkAnd, OnOk, Some, option_map, slice_get};
 ghost use Rattle.std.specs.Str.{bytes_eq};
 ghost use Rattle.json_value.specs.declared.Json.{Str, Map};
 ghost use Rattle.sequences.specs.Pairs.{names_of, AreDistinct};
@@ -8,9 +8,9 @@ ghost use Rattle.schema_rows.specs.Rows.{row_of};
 ghost use Rattle.schema_rows.specs.Schemas.{rows_of, schema_key};
 ghost use Rattle.schema_rows.specs.Families.{is_row, others};
 ghost use Rattle.schema_write.specs.Written as order;
-ghost use Rattle.schema_write.specs.Written.{name_of, written_last};
+ghost use Rattle.schema_write.specs.Written.{name_of};
 
-use crate::families::OldSchema;
+use crate::families::newer;
 use json_value::{Json, Members, copy_json, copy_members};
 use schema_rows::{Field, Schema};
 use sequences::{NamedValues, Text};
@@ -75,31 +75,30 @@ pub fn written(
     Ok(Json::Map(NamedValues::of(pairs)))
 }
 
-/// An object of an older schema: its text, a value for each of the first rows of the newer schema's
-/// table, its own row, and the members that neither has a row for.
+/// An object of an older schema by its table: the schema, a value for each row, and the members
+/// that neither its table nor that of the newer schema has a row for.
 pub fn written_old(
     alloc: Global,
-    schema: &OldSchema<'_>,
+    schema: Schema,
     values: Vec<Json>,
-    own: Json,
     rest: &Members,
 ) -> Result<Json, AllocError>
-    requires few { length values.items ≤ length (rows_of schema.now.newer) }
-    requires front { AreDistinct (schema_key ∷ names_of
-        (order.named_values (rows_of schema.now.newer) values.items
-        ++ (schema.now.own.now, own) ∷ [])) }
-    ensures { IfOk result (λ json. json ≡ order.written_old schema.now.text.now schema.now.newer
-        values.items (schema.now.own.now, own) rest.now) }
+    requires { length values.items ≡ length (rows_of schema) }
+    ensures { IfOk result (λ json. json ≡ order.written_old schema values.items rest.now) }
 {
-    let table = schema.newer.table();
-    let room = values.len().saturating_add(rest.len()).saturating_add(2);
-    let mut pairs = Vec::with_capacity(alloc, room)?;
-    let schema_text = Json::Str(Text::of(alloc, schema.text)?);
-    pairs.push((Text::of(alloc, "OTIO_SCHEMA")?, schema_text))?;
-    put_rows(alloc, &mut pairs, table, values)?;
-    pairs.push((Text::of(alloc, schema.own)?, own))?;
-    put_old_others(alloc, &mut pairs, table, schema.own, rest)?;
-    Ok(Json::Map(NamedValues::of(pairs)))
+    let rest = other_members(alloc, newer(schema), rest)?;
+    let made = written(alloc, schema, values, &rest);
+    drop(rest);
+    made
+}
+
+// The members that a schema's table has no row for.
+fn other_members(alloc: Global, schema: Schema, rest: &Members) -> Result<Members, AllocError>
+    ensures { IfOk result (λ made. made ≡ others (rows_of schema) rest.now) }
+{
+    let mut pairs = Vec::with_capacity(alloc, rest.len())?;
+    put_others(alloc, &mut pairs, schema.table(), rest)?;
+    Ok(NamedValues::of(pairs))
 }
 
 // Adds a value for each row of a table.
@@ -148,35 +147,6 @@ fn put_others(
         }
     }
     Ok(())
-}
-
-// Adds the members that a table has no row for, without those of this name.
-fn put_old_others(
-    alloc: Global,
-    pairs: &mut Vec<(Text, Json)>,
-    table: &[Field],
-    name: &str,
-    rest: &Members,
-) -> Result<(), AllocError>
-    ensures added { OnOk result (pairs.new.items ≡ pairs.old.items
-        ++ filter (λ member. not (bytes_eq name.now member.0))
-        (others (map row_of table.now) rest.now)) }
-    ensures distinct { AreDistinct (names_of rest.now) }
-{
-    'members: for member in rest.as_slice() {
-        if is_other(table, name, member.0.as_str()) {
-            let text = Text::of(alloc, member.0.as_str())?;
-            pairs.push((text, copy_json(alloc, &member.1)?))?;
-        }
-    }
-    Ok(())
-}
-
-// Whether a member of that name is none of the rows, nor the own row of an older schema.
-fn is_other(table: &[Field], own: &str, name: &str) -> bool
-    ensures { result ≡ written_last own.now (map row_of table.now) name.now }
-{
-    own != name && !is_named(table, name)
 }
 
 /// Whether that is the name of the schema's member or of a row.

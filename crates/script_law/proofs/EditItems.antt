@@ -50,22 +50,25 @@ put_is : (rate : Rate) (media : MediaRows) (put : Put) (with_item : ItemOf Liste
 put_is rate media put with_item e has p =
     subst HasEditItem (sym p.2) (has p.0 (item_is rate media put p.0 p.1))
 
-edit_is : (rate : Rate) (media : MediaRows) (act : Act) (e : Edit) → IsEditOf rate media act e
+asked-has_edit_item : (rate : Rate) (media : MediaRows) (act : Act) (e : Edit)
+    → IsEditOf rate media act e
     → HasEditItem e
-edit_is rate media (A.Overwrite place at put) e i = put_is rate media put _ e (λ x h. h) i
-edit_is rate media (A.Insert place at put) e i = put_is rate media put _ e (λ x h. h) i
-edit_is rate media (A.Fill place at mode put) e i = put_is rate media put _ e (λ x h. h) i
-edit_is rate media (A.Slice place at) e i = subst HasEditItem (sym i) tt
-edit_is rate media (A.Remove place at mode) e i = subst HasEditItem (sym i) tt
-edit_is rate media (A.Trim place at head tail) e i = subst HasEditItem (sym i) tt
-edit_is rate media (A.Slip place at by) e i = subst HasEditItem (sym i) tt
-edit_is rate media (A.Slide place at by) e i = subst HasEditItem (sym i) tt
-edit_is rate media (A.Ripple place at head tail) e i = subst HasEditItem (sym i) tt
-edit_is rate media (A.Roll place at head tail) e i = subst HasEditItem (sym i) tt
-edit_is rate media A.Undo e i = absurd i
-edit_is rate media A.Redo e i = absurd i
+asked-has_edit_item rate media (A.Overwrite place at put) e i = put_is rate media put _ e (λ x h.
+    h) i
+asked-has_edit_item rate media (A.Insert place at put) e i = put_is rate media put _ e (λ x h. h) i
+asked-has_edit_item rate media (A.Fill place at mode put) e i = put_is rate media put _ e (λ x h.
+    h) i
+asked-has_edit_item rate media (A.Slice place at) e i = subst HasEditItem (sym i) tt
+asked-has_edit_item rate media (A.Remove place at mode) e i = subst HasEditItem (sym i) tt
+asked-has_edit_item rate media (A.Trim place at head tail) e i = subst HasEditItem (sym i) tt
+asked-has_edit_item rate media (A.Slip place at by) e i = subst HasEditItem (sym i) tt
+asked-has_edit_item rate media (A.Slide place at by) e i = subst HasEditItem (sym i) tt
+asked-has_edit_item rate media (A.Ripple place at head tail) e i = subst HasEditItem (sym i) tt
+asked-has_edit_item rate media (A.Roll place at head tail) e i = subst HasEditItem (sym i) tt
+asked-has_edit_item rate media A.Undo e i = absurd i
+asked-has_edit_item rate media A.Redo e i = absurd i
 
 -- the edit that a command asks for has such an item, where it has one
 pub asked_item : (media : MediaRows) (act : Act) (t : Timeline) (e : Edit)
     → AsksFor media act t e → HasEditItem e
-asked_item media act t e a = edit_is (rate_of t) media act e a.edit
+asked_item media act t e a = asked-has_edit_item (rate_of t) media act e a.edit

@@ -11,7 +11,7 @@ use Rattle.edits.specs.Refusals.{IsAfter}
 use Rattle.edits_law.proofs.SoundEdits.{stays_sound}
 use Rattle.edit_plans.proofs.Shown.{shows_through}
 use Rattle.edit_script.specs.declared.commands.Act.{Act}
-use Rattle.edit_script.specs.declared.commands.Command.{Command}
+use Rattle.edit_script.specs.declared.commands.ScriptCommand.{ScriptCommand}
 use Rattle.media_rows.specs.Rows.{MediaRows}
 use Rattle.edit_script.specs.Runs.{AsksFor, Runs, Takes, edits, undoes, redoes, moved_on}
 use Rattle.script_law.specs.Shown.{IsEditedFrom, IsShown, opened}
@@ -90,12 +90,12 @@ on_act media act first s r (edits e t asks a same) f =
 on_act media act first s r (undoes is e) f = undo_by first s.before s.after s.now r f e
 on_act media act first s r (redoes is e) f = redo_by first s.before s.after s.now r f e
 
-on_next : (media : MediaRows) (first : Timeline) (s r : State) (o : Option Command)
+on_next : (media : MediaRows) (first : Timeline) (s r : State) (o : Option ScriptCommand)
     → IsSomeAnd o (λ c. Takes media c.act s r) → Follows first s → Follows first r
 on_next media first s r None t f = absurd t
 on_next media first s r (Some c) t f = on_act media c.act first s r t f
 
-follows : (media : MediaRows) (script : List Command) (n : ℕ) (first : Timeline) (r : State)
+follows : (media : MediaRows) (script : List ScriptCommand) (n : ℕ) (first : Timeline) (r : State)
     → Follows first (opened first) → Runs media script n (opened first) r → Follows first r
 follows media script zero first r f runs = subst (Follows first) (sym runs) f
 follows media script (suc n) first r f runs =
@@ -111,7 +111,8 @@ opened_follows first sound = record {
 }
 
 -- what commands lead to is edited from the first timeline
-pub commands_follow : (media : MediaRows) (script : List Command) (n : ℕ) (t : Timeline) (s : State)
+pub commands_follow : (media : MediaRows) (script : List ScriptCommand) (n : ℕ) (t : Timeline) (s :
+    State)
     → IsSound t → Runs media script n (opened t) s → IsEditedFrom t s
 commands_follow media script n t s sound runs =
     (follows media script n t s (opened_follows t sound) runs).edited

@@ -16,7 +16,7 @@ use Rattle.edits.specs.Refusals.{IsAfter}
 use Rattle.edits_law.proofs.SoundEdits.{stays_sound}
 use Rattle.edit_script.specs.declared.commands.Act.{Act}
 use Rattle.edit_script.specs.declared.commands.Act.TheVariants as A
-use Rattle.edit_script.specs.declared.commands.Command.{Command}
+use Rattle.edit_script.specs.declared.commands.ScriptCommand.{ScriptCommand}
 use Rattle.edit_script.specs.declared.commands.Put.{Put}
 use Rattle.edit_script.specs.declared.commands.Put.TheVariants as P
 use Rattle.edit_script.specs.RunActs.{IsEditOf, Puts}
@@ -51,20 +51,26 @@ put_is : (rate : Rate) (media : MediaRows) (p : Put) (with_item : ItemOf Listed 
 put_is rate media p with_item e has i =
     subst HasWritableItem (sym i.2) (has i.0 (item_is rate media p i.0 i.1))
 
-edit_is : (rate : Rate) (media : MediaRows) (act : Act) (e : Edit) → IsEditOf rate media act e
+asked-has_writable_item : (rate : Rate) (media : MediaRows) (act : Act) (e : Edit)
+    → IsEditOf rate media act e
     → HasWritableItem e
-edit_is rate media (A.Overwrite place at p) e i = put_is rate media p _ e (λ x h. h) i
-edit_is rate media (A.Insert place at p) e i = put_is rate media p _ e (λ x h. h) i
-edit_is rate media (A.Fill place at mode p) e i = put_is rate media p _ e (λ x h. h) i
-edit_is rate media (A.Slice place at) e i = subst HasWritableItem (sym i) tt
-edit_is rate media (A.Remove place at mode) e i = subst HasWritableItem (sym i) tt
-edit_is rate media (A.Trim place at head tail) e i = subst HasWritableItem (sym i) tt
-edit_is rate media (A.Slip place at by) e i = subst HasWritableItem (sym i) tt
-edit_is rate media (A.Slide place at by) e i = subst HasWritableItem (sym i) tt
-edit_is rate media (A.Ripple place at head tail) e i = subst HasWritableItem (sym i) tt
-edit_is rate media (A.Roll place at head tail) e i = subst HasWritableItem (sym i) tt
-edit_is rate media A.Undo e i = absurd i
-edit_is rate media A.Redo e i = absurd i
+asked-has_writable_item rate media (A.Overwrite place at p) e i = put_is rate media p _ e (λ x h.
+    h) i
+asked-has_writable_item rate media (A.Insert place at p) e i = put_is rate media p _ e (λ x h. h) i
+asked-has_writable_item rate media (A.Fill place at mode p) e i = put_is rate media p _ e (λ x h.
+    h) i
+asked-has_writable_item rate media (A.Slice place at) e i = subst HasWritableItem (sym i) tt
+asked-has_writable_item rate media (A.Remove place at mode) e i = subst HasWritableItem (sym i) tt
+asked-has_writable_item rate media (A.Trim place at head tail) e i = subst HasWritableItem (sym i)
+    tt
+asked-has_writable_item rate media (A.Slip place at by) e i = subst HasWritableItem (sym i) tt
+asked-has_writable_item rate media (A.Slide place at by) e i = subst HasWritableItem (sym i) tt
+asked-has_writable_item rate media (A.Ripple place at head tail) e i = subst HasWritableItem (sym
+    i) tt
+asked-has_writable_item rate media (A.Roll place at head tail) e i = subst HasWritableItem (sym i)
+    tt
+asked-has_writable_item rate media A.Undo e i = absurd i
+asked-has_writable_item rate media A.Redo e i = absurd i
 
 -- ---- steps
 
@@ -91,7 +97,7 @@ on_edit media act s e t asks a k =
       now = record {
         sound = stays_sound s.now e t k.now.sound item a;
         writable = stays_writable s.now e t k.now.sound k.now.writable item
-            (edit_is (rate_of s.now) media act e asks.edit) a;
+            (asked-has_writable_item (rate_of s.now) media act e asks.edit) a;
       };
       after = tt;
     }
@@ -121,18 +127,19 @@ on_act media act s r (edits e t asks a same) k =
 on_act media act s r (undoes is e) k = undo_by s.before s.after s.now r k e
 on_act media act s r (redoes is e) k = redo_by s.before s.after s.now r k e
 
-on_next : (media : MediaRows) (s r : State) (o : Option Command)
+on_next : (media : MediaRows) (s r : State) (o : Option ScriptCommand)
     → IsSomeAnd o (λ c. Takes media c.act s r) → IsKeptState s → IsKeptState r
 on_next media s r None t k = absurd t
 on_next media s r (Some c) t k = on_act media c.act s r t k
 
-runs_keep : (media : MediaRows) (script : List Command) (n : ℕ) (s r : State) → IsKeptState s
+runs_keep : (media : MediaRows) (script : List ScriptCommand) (n : ℕ) (s r : State) → IsKeptState s
     → Runs media script n s r → IsKeptState r
 runs_keep media script zero s r k runs = subst IsKeptState (sym runs) k
 runs_keep media script (suc n) s r k runs =
     on_next media runs.0 r (slice_get script n) runs.2 (runs_keep media script n s runs.0 k runs.1)
 
-pub scripts_keep : (media : MediaRows) (script : List Command) (n : ℕ) (t : Timeline) (s : State)
+pub scripts_keep : (media : MediaRows) (script : List ScriptCommand) (n : ℕ) (t : Timeline) (s :
+    State)
     → IsSound t → IsTimeline t → Runs media script n (opened t) s → IsTimeline s.now
 scripts_keep media script n t s sound writable runs =
     (runs_keep media script n (opened t) s (record {

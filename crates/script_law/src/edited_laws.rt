@@ -8,7 +8,7 @@ ghost use Rattle.coord.specs.Soundness.{IsSound};
 ghost use Rattle.edits_law.specs.Editable.{HasEditItem};
 ghost use Rattle.edits.specs.Refusals.{IsAfter};
 ghost use Rattle.undo_log.specs.States.{State};
-ghost use Rattle.edit_script.specs.declared.commands.Command.{Command};
+ghost use Rattle.edit_script.specs.declared.commands.ScriptCommand.{ScriptCommand};
 ghost use Rattle.media_rows.specs.Rows.{MediaRows};
 ghost use Rattle.edit_script.specs.Runs.{Runs};
 ghost use Rattle.script_law.specs.Shown.{opened};
@@ -30,10 +30,10 @@ pub fn edited_timelines_are_writable()
 /// Law: whatever commands are run on a sound and writable timeline, the one that they lead to is
 /// writable, so what is written of it stands for it.
 pub fn scripts_keep_timelines_writable()
-    ensures writable { (media : MediaRows) (script : List Command) (n : ℕ) (t : Timeline)
+    ensures writable { (media : MediaRows) (script : List ScriptCommand) (n : ℕ) (t : Timeline)
         (s : State) → IsSound t → IsTimeline t → Runs media script n (opened t) s →
         IsTimeline s.now }
-    ensures again { (media : MediaRows) (script : List Command) (n : ℕ) (t : Timeline)
+    ensures again { (media : MediaRows) (script : List ScriptCommand) (n : ℕ) (t : Timeline)
         (s : State) → IsSound t → IsTimeline t → Runs media script n (opened t) s →
         Stands (json_of (ObjectOfTimeline s.now)) (ObjectOfTimeline s.now) }
 {}

@@ -4,7 +4,7 @@ ghost use Rattle.std.specs.Prelude.{ℕ, List};
 ghost use Rattle.otio_model.specs.declared.timelines.Timeline.{Timeline};
 ghost use Rattle.coord.specs.Soundness.{IsSound};
 ghost use Rattle.undo_log.specs.States.{State};
-ghost use Rattle.edit_script.specs.declared.commands.Command.{Command};
+ghost use Rattle.edit_script.specs.declared.commands.ScriptCommand.{ScriptCommand};
 ghost use Rattle.media_rows.specs.Rows.{MediaRows};
 ghost use Rattle.edit_script.specs.Runs.{Runs};
 ghost use Rattle.script_law.specs.Shown.{IsEditedFrom, opened};
@@ -13,6 +13,6 @@ ghost use Rattle.script_law.specs.Shown.{IsEditedFrom, opened};
 /// stands for an edit of the one before it, after which every frame shows what the edit's law says;
 /// and undoing all edits gives the first timeline.
 pub fn commands_show()
-    ensures { (media : MediaRows) (script : List Command) (n : ℕ) (t : Timeline) (s : State) →
+    ensures { (media : MediaRows) (script : List ScriptCommand) (n : ℕ) (t : Timeline) (s : State) →
         IsSound t → Runs media script n (opened t) s → IsEditedFrom t s }
 {}

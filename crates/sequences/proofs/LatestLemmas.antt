@@ -6,7 +6,7 @@ use Rattle.std.proofs.lemmas.Slice.Eq.{bytes_eq-Decides}
 use Rattle.sequences.specs.Pairs.{value_of, put, put_all, merged}
 
 -- the value of a name where a value is put
-value_of-put : {X : Type 0} (n m : List ℕ) (x : X) (ps : List (List ℕ × X)) → value_of n (put m x ps) ≡ value_of n ((m, x) ∷ ps)
+pub value_of-put : {X : Type 0} (n m : List ℕ) (x : X) (ps : List (List ℕ × X)) → value_of n (put m x ps) ≡ value_of n ((m, x) ∷ ps)
 value_of-put n m x [] = refl
 value_of-put n m x (p ∷ ps) = grind (arith, bytes_eq-Decides n m, bytes_eq-Decides m p.0, bytes_eq-Decides n p.0, value_of-put n m x ps)
 

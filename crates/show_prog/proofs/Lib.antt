@@ -4,6 +4,7 @@ mod FarInstants
 pub mod PrintTexts
 pub mod Roots
 pub mod ShowLemmas
+pub mod DarkItems
 pub mod SoundnessFacts
 pub mod Walk
 pub mod SeatLemmas

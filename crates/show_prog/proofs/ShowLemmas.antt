@@ -107,7 +107,8 @@ pub stack_before : (l : List Look) (m : ℤ) → m <ℤ pos 0 → stack_shows l 
 stack_before [] m h = refl
 stack_before (x ∷ l) m h = rw (stack_before l m h, missed_before (pos 0) x.length m h) refl
 
-abbrev one : Look → ℤ → Show
+-- what one item of a stack shows
+abbrev pub one : Look → ℤ → Show
 one x m = cond (within (pos 0) x.length m) (x.shows m) Blank
 
 -- what is blank shows nothing

@@ -1,5 +1,5 @@
 -- What the soundness of items says.
-use Rattle.std.proofs.Common.{◌≡◌, refl, ap, ◌∙◌, ℕ, ◌+◌, ◌<◌, ◌≤◌, ◌^◌, List, [], ◌∷◌, map, Option, Some, None, length, drop, slice_get, arith}
+use Rattle.std.proofs.Common.{◌≡◌, refl, ap, ◌∙◌, ℕ, ◌+◌, ◌<◌, ◌≤◌, ◌^◌, List, [], ◌∷◌, map, Some, None, length, drop, slice_get, arith}
 use Rattle.limits.specs.Limits.{most_ticks}
 use Rattle.otio_model.specs.declared.compositions.ItemOf.{ItemOf}
 use Rattle.otio_model.specs.declared.compositions.ItemOf.TheVariants.{Stack, Track}
@@ -64,9 +64,6 @@ here l i x e s h =
       count = k;
       few = omega (arith, k, h);
     }
-
-pub few_below : (l : Listed) (i : ℕ) (x : ItemOf Listed) → slice_get (items_of l) i ≡ Some x → count l < 2 ^ 32 → count_of x < 2 ^ 32
-few_below l i x e h = omega (arith, child_counts l i x e, h)
 
 pub left_all : (l : Listed) → left_from l 0 ≡ added (lengths l)
 left_all l = ap added (lengths-items l)

@@ -208,13 +208,17 @@ fn show_stack<'a>(
     if at < 0 {
         return Ok(Picture::Blank);
     }
-    'children: for index in (0..children.len()).rev() {
-        let item = children.child(index);
-        if at < item.length_or_zero() {
-            let picture = show_item(alloc, item, kind, at)?;
-            if !is_blank(&picture) {
-                return Ok(picture);
+    let mut end = children.len();
+    'children: while end > 0 {
+        match children.last_lit(end, at) {
+            Some(index) => {
+                let picture = show_item(alloc, children.child(index), kind, at)?;
+                if !is_blank(&picture) {
+                    return Ok(picture);
+                }
+                end = index;
             }
+            None => return Ok(Picture::Blank),
         }
     }
     Ok(Picture::Blank)

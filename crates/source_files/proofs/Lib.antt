@@ -2,6 +2,7 @@
 pub mod Indexes
 pub mod Taking
 pub mod Handing
+pub mod HandedLemmas
 pub mod Order
 pub mod Opening
 pub mod Walking

@@ -8,10 +8,12 @@ use Rattle.text_lines.proofs.Pieces.{ended_more}
 use Rattle.edl_text.specs.Statements.{Statement}
 use Rattle.edl_text.specs.Lines.{HasFirstFault}
 use Rattle.edl_text.specs.Lists.{IsEarlyFault, IsFault}
+use Rattle.edl_text.specs.Reader.{HasRead}
+use Rattle.edl_text.specs.declared.reader.EdlReader.{EdlReader}
 use Rattle.edl_text.specs.declared.faults.EdlFault.{EdlFault}
 use Rattle.edl_text.specs.declared.faults.EdlFault.TheVariants.{Memory}
 use Rattle.source_files.specs.Faults.{list_fault_text}
-use Rattle.source_files.specs.Formats.{RefusesList}
+use Rattle.source_files.specs.Formats.{IsCalmList, RefusesList}
 use Rattle.source_files.specs.Reading.{IsRefused}
 use Rattle.source_files.specs.declared.read_faults.Refusal.{Refusal}
 use Rattle.source_files.specs.declared.read_faults.Refusal.TheVariants.{Broken, Memory as NoMemory}
@@ -71,3 +73,9 @@ pub front_refused : (rate : Rate) (fault : EdlFault) (front rest : List ℕ) (re
     → IsRefused (RefusesList rate (front ++ rest)) refusal
 front_refused rate fault front rest refusal h r =
     fault_refused rate fault (front ++ rest) refusal (front_fault rate fault front rest h) r
+
+-- what a reader was fed without a fault shows none
+pub read_is_calm : (rate : Rate) (bytes : List ℕ) (reader : EdlReader) → HasRead rate bytes reader
+    → length bytes ≤ most_bytes → IsCalmList rate bytes
+read_is_calm rate bytes reader h few =
+    record { few = few; said = h.past; sound = h.ended }

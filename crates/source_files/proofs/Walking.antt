@@ -4,7 +4,9 @@ use Rattle.std.specs.declared.option.Option.{Option}
 use Rattle.std.proofs.lemmas.List.{take_more}
 use Rattle.dev_io.specs.Known.{KnownFiles}
 use Rattle.dev_io.specs.Calls.{Tells}
+use Rattle.dev_io.specs.Handed.{Handed}
 use Rattle.source_files.specs.Order.{EachIs, IsAmong}
+use Rattle.source_files.specs.HandedFiles.{HandsOver, GivesAll, GivesFile, GivesStop}
 use Rattle.source_files.specs.Reading.{Held, Source, source_of, IsRead, IsUnread, StopsAt, EndsWith, HaveRead, HasStopped, ReadsSource, names_of}
 use Rattle.source_files.specs.declared.file_kinds.Source as code
 use Rattle.source_files.specs.declared.file_kinds.Content.{Content}
@@ -13,6 +15,7 @@ use Rattle.source_files.specs.declared.read_faults.ReadFault.{ReadFault}
 use Rattle.source_files.specs.declared.read_faults.ReadFault.TheVariants.{Refused}
 use Rattle.source_files.specs.declared.read_faults.SourceFault.{SourceFault}
 use Rattle.source_files.proofs.Order.{each_more, first_behind}
+use Rattle.source_files.proofs.HandedLemmas.{files_more, files_stop, hands_as, without_room}
 
 mapped_last : {A B : Type 0} (f : A → B) (xs : List A) (x : A)
     → map f (xs ++ x ∷ []) ≡ map f xs ++ f x ∷ []
@@ -182,3 +185,43 @@ named_among [] i x d name l e n = absurd (omega (arith, l))
 named_among (y ∷ xs) zero x d name l e n = inl (n ∙ ap (λ (s : code.Source). s.name.now) e)
 named_among (y ∷ xs) (suc i) x d name l e n =
     inr (named_among xs i x d name (omega (arith, l)) e n)
+
+-- ---- the same of what the calls gave
+
+pub given_among : (xs : List code.Source) (i : ℕ) (x : code.Source) (contents more : List Content)
+    (content : Content) (old mid new : List Handed) → i < length xs → x ≡ get_or xs i x
+    → more ≡ contents ++ content ∷ []
+    → HandsOver (GivesAll (map source_of (take i xs)) contents) old mid
+    → HandsOver (GivesFile (source_of x) (Ok content)) mid new
+    → HandsOver (GivesAll (map source_of (take (i + 1) xs)) more) old new
+given_among xs i x contents more content old mid new l e m h r =
+    subst (λ (s : List Source). HandsOver (GivesAll s more) old new) (sym (sources_more xs i x l))
+    (subst (λ (c : List Content). HandsOver
+    (GivesAll (map source_of (take i xs) ++ source_of (get_or xs i x) ∷ []) c) old new) (sym m)
+    (files_more (map source_of (take i xs)) contents (source_of (get_or xs i x)) content old mid new
+    h (subst (λ (y : code.Source). HandsOver (GivesFile (source_of y) (Ok content)) mid new) e r)))
+
+pub given_stop : (xs : List code.Source) (i : ℕ) (x : code.Source) (contents : List Content)
+    (stop : SourceFault) (fault : ReadFault) (old mid new : List Handed) → i < length xs
+    → x ≡ get_or xs i x → HandsOver (GivesAll (map source_of (take i xs)) contents) old mid
+    → HandsOver (GivesFile (source_of x) (Err fault)) mid new → stop.name.now ≡ x.name.now
+    → stop.fault ≡ fault
+    → HandsOver (GivesStop (map source_of xs) stop.name.now stop.fault) old new
+given_stop xs i x contents stop fault old mid new l e h r n f =
+    subst (λ (s : List Source). HandsOver (GivesStop s stop.name.now stop.fault) old new)
+    (sym (sources_split xs i x l))
+    (files_stop (map source_of (take i xs)) (map source_of (drop (suc i) xs)) contents
+    (source_of (get_or xs i x)) stop fault old mid new h
+    (subst (λ (y : code.Source). HandsOver (GivesFile (source_of y) (Err fault)) mid new) e r)
+    (n ∙ ap (λ (y : code.Source). y.name.now) e) f)
+
+pub given_full : (xs : List code.Source) (i : ℕ) (x : code.Source) (contents : List Content)
+    (content : Content) (stop : SourceFault) (old mid new : List Handed) → i < length xs
+    → x ≡ get_or xs i x → HandsOver (GivesAll (map source_of (take i xs)) contents) old mid
+    → HandsOver (GivesFile (source_of x) (Ok content)) mid new → stop.name.now ≡ x.name.now
+    → stop.fault ≡ Refused Memory
+    → HandsOver (GivesStop (map source_of xs) stop.name.now stop.fault) old new
+given_full xs i x contents content stop old mid new l e h r n f =
+    given_stop xs i x contents stop (Refused Memory) old mid new l e h
+    (hands_as (GivesFile (source_of x) (Ok content)) (GivesFile (source_of x) (Err (Refused Memory)))
+    mid new (without_room (source_of x) content) r) n f

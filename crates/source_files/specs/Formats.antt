@@ -32,7 +32,7 @@ use Rattle.ale_text.specs.declared.faults.AleFault.{AleFault}
 use Rattle.media_list.specs.Lists.{IsMediaList, IsFault as IsMediaFault}
 use Rattle.media_list.specs.declared.faults.MediaFault.{MediaFault}
 use Rattle.edit_script.specs.Scripts.{IsScript, IsFault as IsScriptFault}
-use Rattle.edit_script.specs.declared.commands.Command.{Command}
+use Rattle.edit_script.specs.declared.commands.ScriptCommand.{ScriptCommand}
 use Rattle.edit_script.specs.declared.commands.ScriptFault.{ScriptFault}
 use Rattle.source_files.specs.Faults.{ale_fault_text, json_fault_text, list_fault_text, media_fault_text, script_fault_text, fault_text, not_timeline_text}
 use Rattle.source_files.specs.declared.file_kinds.Kind.{Kind}
@@ -60,7 +60,7 @@ pub record IsTimeline (bytes : List ℕ) (timeline : Timeline) : Type 0 where
   pub root : out-Object object ≡ Object-F.Timeline timeline
 
 -- the bytes are a script of these commands
-abbrev pub IsCommands : List ℕ → Vec Command → Type 0
+abbrev pub IsCommands : List ℕ → Vec ScriptCommand → Type 0
 IsCommands bytes commands = IsScript bytes commands.items
 
 -- the bytes are a list at that rate, with these notes

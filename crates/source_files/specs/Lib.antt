@@ -6,4 +6,5 @@ pub mod Order
 pub mod Formats
 pub mod Reading
 pub mod Hand
+pub mod HandedFiles
 pub mod Values

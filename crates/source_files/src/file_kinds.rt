@@ -1,5 +1,5 @@
 // What files are read as, and what they hold.
-use edit_script::Command;
+use edit_script::ScriptCommand;
 use edl_list::EventList;
 use json_value::Json;
 use media_list::MediaList;
@@ -53,5 +53,5 @@ pub enum Content {
     /// A media list, or that of a log.
     Rows(MediaList),
     /// The commands of a script, at most 10 000.
-    Commands(Vec<Command>),
+    Commands(Vec<ScriptCommand>),
 }

@@ -6,6 +6,7 @@ ghost use Rattle.json_text.specs.Grammar.{text_of};
 ghost use Rattle.source_files.specs.Faults.{json_fault_text};
 ghost use Rattle.source_files.specs.Formats.{IsJson, RefusesJson, IsCalmJson};
 ghost use Rattle.source_files.specs.Hand.{Judges, ReadsHand};
+ghost use Rattle.source_files.specs.HandedFiles.{HandsOver, GivesHand};
 ghost use Rattle.source_files.specs.Reading.{IsRefused, Raised};
 
 use crate::messages::json_reason;
@@ -27,6 +28,8 @@ pub fn read_json<F: Files>(alloc: Global, files: &mut F) -> Result<Json, ReadFau
     ensures told { Tells (ReadsHand IsJson RefusesJson IsCalmJson result) (F.known files.old)
         (F.known files.new) }
     ensures text { IfOk result (λ value. (bytes : List ℕ) × text_of bytes value) }
+    ensures given { HandsOver (GivesHand IsJson RefusesJson IsCalmJson result)
+        (F.handed files.old) (F.handed files.new) }
     ensures cause { Raised result (F.faults files.old) (F.faults files.new) }
 {
     let mut reader = JsonReader::new(alloc);

@@ -9,6 +9,7 @@ ghost use Rattle.note_text.specs.Reader.{HasHeard};
 ghost use Rattle.source_files.specs.Faults.{list_fault_text};
 ghost use Rattle.source_files.specs.Formats.{IsNotedList, RefusesList, IsCalmList, SuitsNotes};
 ghost use Rattle.source_files.specs.Hand.{Judges, ReadsHand};
+ghost use Rattle.source_files.specs.HandedFiles.{HandsOver, GivesHand};
 ghost use Rattle.source_files.specs.Reading.{IsRefused, Raised};
 
 use crate::messages::list_reason;
@@ -31,6 +32,8 @@ pub fn read_list<F: Files>(alloc: Global, rate: Rate, files: &mut F) -> Result<E
     ensures told { Tells (ReadsHand (IsList rate) (RefusesList rate) (IsCalmList rate) result)
         (F.known files.old) (F.known files.new) }
     ensures formed { IfOk result (λ list. IsWellFormed list) }
+    ensures given { HandsOver (GivesHand (IsList rate) (RefusesList rate) (IsCalmList rate) result)
+        (F.handed files.old) (F.handed files.new) }
     ensures cause { Raised result (F.faults files.old) (F.faults files.new) }
 {
     let mut reader = EdlReader::new(alloc, rate);
@@ -67,6 +70,8 @@ pub fn read_noted_list<F: Files>(
     ensures told { Tells (ReadsHand (λ bytes read. IsNotedList rate bytes read.0 read.1)
         (RefusesList rate) (IsCalmList rate) result) (F.known files.old) (F.known files.new) }
     ensures suits { IfOk result (λ read. SuitsNotes read.0 read.1) }
+    ensures given { HandsOver (GivesHand (λ bytes read. IsNotedList rate bytes read.0 read.1)
+        (RefusesList rate) (IsCalmList rate) result) (F.handed files.old) (F.handed files.new) }
     ensures cause { Raised result (F.faults files.old) (F.faults files.new) }
 {
     let mut reader = EdlReader::new(alloc, rate);

@@ -5,6 +5,7 @@ ghost use Rattle.dev_io.specs.Calls.{Tells};
 ghost use Rattle.source_files.specs.Faults.{ale_fault_text};
 ghost use Rattle.source_files.specs.Formats.{RefusesLog, IsCalmLog};
 ghost use Rattle.source_files.specs.Hand.{Judges, ReadsHand};
+ghost use Rattle.source_files.specs.HandedFiles.{HandsOver, GivesHand};
 ghost use Rattle.source_files.specs.Reading.{IsRefused, Raised};
 
 use crate::messages::ale_reason;
@@ -24,6 +25,8 @@ const MOST: usize = MOST_BYTES as usize;
 pub fn read_log<F: Files>(alloc: Global, files: &mut F) -> Result<MediaList, ReadFault>
     ensures told { Tells (ReadsHand IsLog RefusesLog IsCalmLog result)
         (F.known files.old) (F.known files.new) }
+    ensures given { HandsOver (GivesHand IsLog RefusesLog IsCalmLog result)
+        (F.handed files.old) (F.handed files.new) }
     ensures cause { Raised result (F.faults files.old) (F.faults files.new) }
 {
     let mut bytes = Vec::new(alloc);

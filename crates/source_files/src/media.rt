@@ -5,6 +5,7 @@ ghost use Rattle.media_list.specs.Lists.{IsMediaList};
 ghost use Rattle.source_files.specs.Faults.{media_fault_text};
 ghost use Rattle.source_files.specs.Formats.{RefusesMedia, IsCalmMedia};
 ghost use Rattle.source_files.specs.Hand.{Judges, ReadsHand};
+ghost use Rattle.source_files.specs.HandedFiles.{HandsOver, GivesHand};
 ghost use Rattle.source_files.specs.Reading.{IsRefused, Raised};
 
 use crate::messages::media_reason;
@@ -23,6 +24,8 @@ const MOST: usize = MOST_BYTES as usize;
 pub fn read_media<F: Files>(alloc: Global, files: &mut F) -> Result<MediaList, ReadFault>
     ensures told { Tells (ReadsHand IsMediaList RefusesMedia IsCalmMedia result)
         (F.known files.old) (F.known files.new) }
+    ensures given { HandsOver (GivesHand IsMediaList RefusesMedia IsCalmMedia result)
+        (F.handed files.old) (F.handed files.new) }
     ensures cause { Raised result (F.faults files.old) (F.faults files.new) }
 {
     let mut reader = MediaReader::new(alloc);

@@ -11,6 +11,7 @@ ghost use Rattle.schema_rows.specs.Stands.{Stands};
 ghost use Rattle.schema_rows.specs.declared.faults.SchemaFault.TheVariants.{Memory as WantOfMemory};
 ghost use Rattle.source_files.specs.Formats.{IsObject, IsOfTables, IsTimeline, IsCalmJson, RefusesValue, RefusesObject, RefusesTimeline};
 ghost use Rattle.source_files.specs.Hand.{Judges, ReadsHand};
+ghost use Rattle.source_files.specs.HandedFiles.{HandsOver, GivesHand};
 ghost use Rattle.source_files.specs.Values.{StandsAs};
 ghost use Rattle.source_files.specs.Reading.{IsRefused, Raised};
 
@@ -34,6 +35,8 @@ pub fn read_object<F: Files>(alloc: Global, files: &mut F) -> Result<Object, Rea
     ensures few { IfOk result (λ object. count_of object ≤ most_items) }
     ensures stands { IfOk result (λ object.
         (value : JsonValue) × (upgraded value ≡ value) × Stands value object) }
+    ensures given { HandsOver (GivesHand IsObject RefusesObject IsCalmJson result)
+        (F.handed files.old) (F.handed files.new) }
     ensures cause { Raised result (F.faults files.old) (F.faults files.new) }
 {
     match read_json(alloc, files) {
@@ -48,6 +51,8 @@ pub fn read_timeline<F: Files>(alloc: Global, files: &mut F) -> Result<Timeline,
     ensures told { Tells (ReadsHand IsTimeline RefusesTimeline IsCalmJson result)
         (F.known files.old) (F.known files.new) }
     ensures tables { IfOk result IsOfTables }
+    ensures given { HandsOver (GivesHand IsTimeline RefusesTimeline IsCalmJson result)
+        (F.handed files.old) (F.handed files.new) }
     ensures cause { Raised result (F.faults files.old) (F.faults files.new) }
 {
     match read_object(alloc, files) {

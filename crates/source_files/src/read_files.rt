@@ -5,6 +5,7 @@ ghost use Rattle.source_files.specs.Order.{EachIs, IsAmong};
 ghost use Rattle.source_files.specs.Formats.{Holds, Refuses, IsCalm, Suits};
 ghost use Rattle.source_files.specs.Reading.{Raised, RaisedAt, ReadsSource, HaveRead, HasStopped, names_of, source_of};
 ghost use Rattle.source_files.specs.Hand.{ReadsHand};
+ghost use Rattle.source_files.specs.HandedFiles.{HandsOver, GivesAs, GivesFile, GivesFiles};
 ghost use Rattle.source_files.specs.declared.file_kinds.Kind.TheVariants.{List as ListAt, NotedList as NotedListAt};
 
 use crate::file_kinds::{Content, Kind, Source};
@@ -42,6 +43,8 @@ pub fn read_sources<'a, F: Files>(
         (map source_of sources.now) contents.items) }
     ensures named { IfErr result (λ stop.
         IsAmong (names_of (map source_of sources.now)) stop.name.now) }
+    ensures given { HandsOver (GivesFiles (map source_of sources.now) result)
+        (F.handed files.old) (F.handed files.new) }
     ensures cause { RaisedAt result (F.faults files.old) (F.faults files.new) }
 {
     let mut contents = Vec::new(alloc);
@@ -70,6 +73,8 @@ pub fn read_source<F: Files>(
     ensures told { Tells (ReadsSource (source_of source.now) result) (F.known files.old)
         (F.known files.new) }
     ensures suits { IfOk result (Suits source.now.kind) }
+    ensures given { HandsOver (GivesFile (source_of source.now) result) (F.handed files.old)
+        (F.handed files.new) }
     ensures cause { Raised result (F.faults files.old) (F.faults files.new) }
 {
     match files.open_file(source.name) {
@@ -84,6 +89,7 @@ fn read_as<F: Files>(alloc: Global, kind: Kind, files: &mut F) -> Result<Content
     ensures told { Tells (ReadsHand (Holds kind) (Refuses kind) (IsCalm kind) result)
         (F.known files.old) (F.known files.new) }
     ensures suits { IfOk result (Suits kind) }
+    ensures given { HandsOver (GivesAs kind result) (F.handed files.old) (F.handed files.new) }
     ensures cause { Raised result (F.faults files.old) (F.faults files.new) }
 {
     match kind {
@@ -103,6 +109,7 @@ fn read_value<F: Files>(alloc: Global, files: &mut F) -> Result<Content, ReadFau
     ensures told { Tells (ReadsHand (Holds Kind.Json) (Refuses Kind.Json) (IsCalm Kind.Json) result)
         (F.known files.old) (F.known files.new) }
     ensures suits { IfOk result (Suits Kind.Json) }
+    ensures given { HandsOver (GivesAs Kind.Json result) (F.handed files.old) (F.handed files.new) }
     ensures cause { Raised result (F.faults files.old) (F.faults files.new) }
 {
     match read_json(alloc, files) {
@@ -117,6 +124,8 @@ fn read_root<F: Files>(alloc: Global, files: &mut F) -> Result<Content, ReadFaul
         (IsCalm Kind.Object) result)
         (F.known files.old) (F.known files.new) }
     ensures suits { IfOk result (Suits Kind.Object) }
+    ensures given { HandsOver (GivesAs Kind.Object result) (F.handed files.old)
+        (F.handed files.new) }
     ensures cause { Raised result (F.faults files.old) (F.faults files.new) }
 {
     match read_object(alloc, files) {
@@ -131,6 +140,8 @@ fn read_film<F: Files>(alloc: Global, files: &mut F) -> Result<Content, ReadFaul
         (IsCalm Kind.Timeline) result)
         (F.known files.old) (F.known files.new) }
     ensures suits { IfOk result (Suits Kind.Timeline) }
+    ensures given { HandsOver (GivesAs Kind.Timeline result) (F.handed files.old)
+        (F.handed files.new) }
     ensures cause { Raised result (F.faults files.old) (F.faults files.new) }
 {
     match read_timeline(alloc, files) {
@@ -145,6 +156,8 @@ fn read_events<F: Files>(alloc: Global, rate: Rate, files: &mut F) -> Result<Con
         (IsCalm (ListAt rate)) result)
         (F.known files.old) (F.known files.new) }
     ensures suits { IfOk result (Suits (ListAt rate)) }
+    ensures given { HandsOver (GivesAs (ListAt rate) result) (F.handed files.old)
+        (F.handed files.new) }
     ensures cause { Raised result (F.faults files.old) (F.faults files.new) }
 {
     match read_list(alloc, rate, files) {
@@ -163,6 +176,8 @@ fn read_noted_events<F: Files>(
         (IsCalm (NotedListAt rate)) result)
         (F.known files.old) (F.known files.new) }
     ensures suits { IfOk result (Suits (NotedListAt rate)) }
+    ensures given { HandsOver (GivesAs (NotedListAt rate) result) (F.handed files.old)
+        (F.handed files.new) }
     ensures cause { Raised result (F.faults files.old) (F.faults files.new) }
 {
     match read_noted_list(alloc, rate, files) {
@@ -177,6 +192,8 @@ fn read_rows<F: Files>(alloc: Global, files: &mut F) -> Result<Content, ReadFaul
         (IsCalm Kind.Media) result)
         (F.known files.old) (F.known files.new) }
     ensures suits { IfOk result (Suits Kind.Media) }
+    ensures given { HandsOver (GivesAs Kind.Media result) (F.handed files.old)
+        (F.handed files.new) }
     ensures cause { Raised result (F.faults files.old) (F.faults files.new) }
 {
     match read_media(alloc, files) {
@@ -190,6 +207,7 @@ fn read_log_rows<F: Files>(alloc: Global, files: &mut F) -> Result<Content, Read
     ensures told { Tells (ReadsHand (Holds Kind.Log) (Refuses Kind.Log) (IsCalm Kind.Log) result)
         (F.known files.old) (F.known files.new) }
     ensures suits { IfOk result (Suits Kind.Log) }
+    ensures given { HandsOver (GivesAs Kind.Log result) (F.handed files.old) (F.handed files.new) }
     ensures cause { Raised result (F.faults files.old) (F.faults files.new) }
 {
     match read_log(alloc, files) {
@@ -204,6 +222,8 @@ fn read_edits<F: Files>(alloc: Global, files: &mut F) -> Result<Content, ReadFau
         (IsCalm Kind.Script) result)
         (F.known files.old) (F.known files.new) }
     ensures suits { IfOk result (Suits Kind.Script) }
+    ensures given { HandsOver (GivesAs Kind.Script result) (F.handed files.old)
+        (F.handed files.new) }
     ensures cause { Raised result (F.faults files.old) (F.faults files.new) }
 {
     match read_commands(alloc, files) {

@@ -4,12 +4,13 @@ ghost use Rattle.dev_io.specs.Calls.{Tells};
 ghost use Rattle.source_files.specs.Faults.{script_fault_text};
 ghost use Rattle.source_files.specs.Formats.{IsCommands, RefusesScript, IsCalmScript};
 ghost use Rattle.source_files.specs.Hand.{Judges, ReadsHand};
+ghost use Rattle.source_files.specs.HandedFiles.{HandsOver, GivesHand};
 ghost use Rattle.source_files.specs.Reading.{IsRefused, Raised};
 
 use crate::messages::script_reason;
 use crate::read_faults::{ReadFault, Refusal};
 use dev_io::Files;
-use edit_script::{Command, ScriptFault, read_script};
+use edit_script::{ScriptCommand, ScriptFault, read_script};
 use limits::{MOST_BYTES, PIECE_BYTES};
 use std::alloc::{AllocError, Global};
 
@@ -19,9 +20,14 @@ const MOST: usize = MOST_BYTES as usize;
 /// The commands of the script that is left of the file in hand. It is judged when all of it was
 /// read.
 #[tactic(auto, using(crate::proofs::Taking::same_at_first))]
-pub fn read_commands<F: Files>(alloc: Global, files: &mut F) -> Result<Vec<Command>, ReadFault>
+pub fn read_commands<F: Files>(
+    alloc: Global,
+    files: &mut F,
+) -> Result<Vec<ScriptCommand>, ReadFault>
     ensures told { Tells (ReadsHand IsCommands RefusesScript IsCalmScript result)
         (F.known files.old) (F.known files.new) }
+    ensures given { HandsOver (GivesHand IsCommands RefusesScript IsCalmScript result)
+        (F.handed files.old) (F.handed files.new) }
     ensures cause { Raised result (F.faults files.old) (F.faults files.new) }
 {
     let mut bytes = Vec::new(alloc);
@@ -48,7 +54,7 @@ pub(crate) fn put_last(bytes: &mut Vec<u8>, piece: &[u8]) -> Result<(), AllocErr
 }
 
 // The commands that all bytes are.
-fn commands_of(alloc: Global, bytes: &[u8]) -> Result<Vec<Command>, ReadFault>
+fn commands_of(alloc: Global, bytes: &[u8]) -> Result<Vec<ScriptCommand>, ReadFault>
     ensures read { Judges IsCommands RefusesScript bytes.now result }
     ensures calm { (n : ℕ) → Raised result n n }
 {

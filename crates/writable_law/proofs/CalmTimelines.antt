@@ -1,6 +1,6 @@
 -- A timeline that was read is writable, the transitions of a writable one stand where they may, and
 -- what is written of it reads back as that timeline.
-use Rattle.std.proofs.Common.{◌≡◌, ℕ, Bool, true, false, List, [], ◌∷◌, Option, Some, None}
+use Rattle.std.proofs.Common.{◌≡◌, ℕ, Bool, false, List, [], ◌∷◌, Option, Some, None}
 use Rattle.std.proofs.Common.{refl, sym, ap, subst, ◌∙◌}
 use Rattle.std.specs.Prelude.{slice_get, option_and_then}
 use Rattle.std.specs.List.{list_any}
@@ -13,7 +13,6 @@ use Rattle.otio_model.specs.declared.compositions.Listed.{Listed}
 use Rattle.otio_model.specs.declared.objects.Object.{Object, out-Object}
 use Rattle.otio_model.specs.declared.objects.Object.{Timeline as ObjectOfTimeline}
 use Rattle.otio_model.specs.declared.objects.Object.TheOpen.{Object-F}
-use Rattle.otio_model.specs.declared.objects.Object.TheViews.{roll-Object}
 use Rattle.otio_model.specs.declared.timelines.Timeline.{Timeline}
 use Rattle.otio_model.specs.Trees.{items_of, children_of, below, item_at, is_transition}
 use Rattle.otio_model.specs.Misplaced.{has_misplaced, side_by_side}

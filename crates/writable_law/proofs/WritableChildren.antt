@@ -1,5 +1,5 @@
 -- What writable items become: another range, one effect more.
-use Rattle.std.proofs.Common.{◌≡◌, refl, sym, ap, subst, ◌||◌, ◌&&◌, not, Bool, true, false}
+use Rattle.std.proofs.Common.{◌≡◌, refl, sym, ap, subst, ◌||◌, not, Bool, true, false}
 use Rattle.std.proofs.Common.{ℤ, pos, ◌-ℤ◌, List, [], ◌∷◌, ◌++◌, Some, arith}
 use Rattle.std.specs.Prelude.{int_le}
 use Rattle.std.proofs.lemmas.Int.{ints}

@@ -42,6 +42,24 @@ pub record IsCode (a b c d character : ℕ) : Type 0 where
   pub code : character ≡ of_digits16 a b c d
   pub scalar : IsScalar character
 
+-- These digits of base 16 are the first half of a character.
+pub record IsFirstHalf (a b c d half : ℕ) : Type 0 where
+  pub first : digit_value a ≡ 13
+  pub least : 8 ≤ digit_value b
+  pub most : digit_value b < 12
+  pub third : digit_value c < 16
+  pub fourth : digit_value d < 16
+  pub code : half ≡ of_digits16 a b c d
+
+-- These digits of base 16 are the second half of a character.
+pub record IsSecondHalf (a b c d half : ℕ) : Type 0 where
+  pub first : digit_value a ≡ 13
+  pub least : 12 ≤ digit_value b
+  pub most : digit_value b < 16
+  pub third : digit_value c < 16
+  pub fourth : digit_value d < 16
+  pub code : half ≡ of_digits16 a b c d
+
 -- So many bytes stand for themselves in a string, and a quote ends it behind them.
 pub record EndsAt (count : ℕ) (bytes : List ℕ) : Type 0 where
   pub within : count < length bytes

@@ -1,33 +1,34 @@
-use Rattle.std.proofs.Common.{refl, [], ◌∙◌}
+use Rattle.std.proofs.Common.{refl, []}
 use Rattle.std.proofs.lemmas.Int.{to_z-of_z}
 use Rattle.otio_model.specs.declared.edit_types.Edit.TheVariants as A
 use Rattle.edits.specs.Refusals.{at_once}
 use Rattle.edit_ops.proofs.Answering.{answer-refused}
 use Rattle.edit_ops.proofs.Counting.{slice-counted}
-use Rattle.edit_ops.proofs.Kept.{taken-at_frame}
+use Rattle.edit_ops.proofs.Kept.{taken-at_frame, track-begun}
 use Rattle.edit_ops.proofs.list_edits.plan_slice.Goals as goal
 
-pub plan_cuts-requires-clause-there : goal.plan_cuts-requires-clause-there
-plan_cuts-requires-clause-there c = c.in-Ok.ensures.held.begun.there
-
-pub plan_cuts-requires-clause-rate : goal.plan_cuts-requires-clause-rate
-plan_cuts-requires-clause-rate c =
-    c.slot_from-slot.ensures.rate ∙ c.in-Ok.ensures.held.begun.counts
+pub plan_cuts-requires-clause-track : goal.plan_cuts-requires-clause-track
+plan_cuts-requires-clause-track c =
+    track-begun c.slot_from-slot.ensures.rate c.in-Ok.ensures.held.begun
 
 pub plan_cuts-requires-clause-edit : goal.plan_cuts-requires-clause-edit
 plan_cuts-requires-clause-edit c = (
   A.Slice c.args.place c.args.at,
-  [],
-  slice-counted c.args.timeline.now c.args.place c.args.at _ _ _ _ _ _ _ _ _
-      (taken-at_frame c.args.at c.ranges.at c.in-Ok.ensures.held) c.slot_from-slot.ensures.from
-      c.slot_from-slot.ensures.to c.slot_from-slot.ensures.ticks c.new.ensures.items,
+  (
+    [],
+    slice-counted c.args.timeline.now c.args.place c.args.at _ _ _ _ _ _ _ _ _
+        (taken-at_frame c.args.at c.ranges.at c.in-Ok.ensures.held) c.slot_from-slot.ensures.from
+        c.slot_from-slot.ensures.to c.slot_from-slot.ensures.ticks c.new-new.ensures.items,
+  ),
 )
 
 pub returns-in-Ok : goal.returns-in-Ok
-returns-in-Ok c = c.plan_cuts.ensures _ _
-    (slice-counted c.args.timeline.now c.args.place c.args.at _ _ _ _ _ _ _ _ _
-    (taken-at_frame c.args.at c.ranges.at c.in-Ok.ensures.held) c.slot_from-slot.ensures.from
-    c.slot_from-slot.ensures.to c.slot_from-slot.ensures.ticks c.new.ensures.items)
+returns-in-Ok c = c.plan_cuts.ensures _ (
+  _,
+  slice-counted c.args.timeline.now c.args.place c.args.at _ _ _ _ _ _ _ _ _
+      (taken-at_frame c.args.at c.ranges.at c.in-Ok.ensures.held) c.slot_from-slot.ensures.from
+      c.slot_from-slot.ensures.to c.slot_from-slot.ensures.ticks c.new-new.ensures.items,
+)
 
 pub returns-in-Err : goal.returns-in-Err
 returns-in-Err c =

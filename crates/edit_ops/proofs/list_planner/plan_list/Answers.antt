@@ -1,7 +1,6 @@
 use Rattle.std.proofs.Common.{FitsSigned, rules}
 use mir.Syntax.{w64}
 use Rattle.otio_model.specs.declared.edit_types.Edit.TheVariants as A
-use Rattle.edit_ops.specs.Answered.{IsAnswer}
 use Rattle.edit_ops.proofs.Answering.{answer-of_word, answer-shown, item-of_edit}
 use Rattle.edit_ops.proofs.list_planner.plan_list.Goals as goal
 

@@ -22,12 +22,10 @@ overflow_add-cut c =
     omega (arith, k)
 
 pub ticks_of-requires : goal.ticks_of-requires
-ticks_of-requires c =
-    let x = c.child.result.now in record {
-      few = child_few c.args.children.now c.args.index x c.child.ensures c.requires.few;
-      sound = sound_child c.args.children.now c.args.index x c.child.ensures c.requires.sound [] x
-          refl;
-    }
+ticks_of-requires c = record {
+  few = child_few c.args.children.now c.args.index _ c.child.ensures c.requires.few;
+  sound = sound_child c.args.children.now c.args.index _ c.child.ensures c.requires.sound [] _ refl;
+}
 
 pub returns-then-is_index-clause-value : goal.returns-then-is_index-clause-value
 returns-then-is_index-clause-value c =

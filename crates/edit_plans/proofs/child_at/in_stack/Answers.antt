@@ -7,12 +7,10 @@ use Rattle.edit_plans.proofs.Reached.{above_some, above_none, near_within}
 use Rattle.edit_plans.proofs.child_at.in_stack.Goals as goal
 
 pub ticks_of-requires : goal.ticks_of-requires
-ticks_of-requires c =
-    let x = c.child.result.now in record {
-      few = child_few c.args.children.now c.args.index x c.child.ensures c.requires.few;
-      sound = sound_child c.args.children.now c.args.index x c.child.ensures c.requires.sound [] x
-          refl;
-    }
+ticks_of-requires c = record {
+  few = child_few c.args.children.now c.args.index _ c.child.ensures c.requires.few;
+  sound = sound_child c.args.children.now c.args.index _ c.child.ensures c.requires.sound [] _ refl;
+}
 
 pub returns-then-is_within-clause-value : goal.returns-then-is_within-clause-value
 returns-then-is_within-clause-value c =

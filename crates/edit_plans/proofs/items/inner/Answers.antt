@@ -5,10 +5,10 @@ use Rattle.edit_plans.proofs.items.inner.Goals as goal
 
 pub returns : goal.returns
 returns c =
-    let k = c.start_of.ensures in let m = c.media_offset.ensures in let r = c.speed.ensures.range in
+    let k = c.start_ticks.ensures in let m = c.media_offset.ensures in let r = c.speed.ensures.range in
     let l = c.requires.near.low in let h = c.requires.near.high in
-    let sum : to_z w128 (of_z w128 (to_z w128 (of_z w128 c.start_of.result) +ℤ to_z w128
-    (of_z w128 c.media_offset.result))) ≡ c.start_of.result +ℤ c.media_offset.result = omega (arith, ints) in
+    let sum : to_z w128 (of_z w128 (to_z w128 (of_z w128 c.start_ticks.result) +ℤ to_z w128
+    (of_z w128 c.media_offset.result))) ≡ c.start_ticks.result +ℤ c.media_offset.result = omega (arith, ints) in
     let a : to_z w128 (of_z w128 c.args.ticks) ≡ c.args.ticks = omega (arith, ints) in
     let b : to_z w64 (of_z w64 c.speed.result) ≡ c.speed.result =
     omega (arith, ints, r.low, r.high) in

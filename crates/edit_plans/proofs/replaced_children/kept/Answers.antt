@@ -5,7 +5,7 @@ use Rattle.otio_model.specs.Trees.{items_of}
 use Rattle.otio_model.proofs.LengthLimits.{few_enough}
 use Rattle.pieces.proofs.StripLemmas.{near_start}
 use Rattle.edit_plans.proofs.ZoneLemmas.{kept_more, kept_less, kept_end, kept_faultless, kept_long}
-use Rattle.edit_plans.proofs.ZoneLemmas.{kept_near}
+use Rattle.edit_plans.proofs.ZoneLemmas.{kept_below}
 use Rattle.edit_plans.proofs.replaced_children.kept.Goals as goal
 use Rattle.edit_plans.proofs.replaced_children.kept.Goals.{then-not-is_stripped+in_ok-add_copy}
 use Rattle.edit_plans.proofs.replaced_children.kept.Goals.{else-not-is_stripped}
@@ -27,12 +27,9 @@ sound_ticks-start-requires c =
 
 pub overflow_add-start : goal.overflow_add-start
 overflow_add-start c =
-    let few = few_enough c.args.children.now c.requires.few in
-    let near = kept_near (items_of c.args.children.now) c.children.kept.items c.args.stretch.at
-    c.args.stretch.count c.children.index _ _ _ _ c.child-item.result.now c.children.invariant
-    (omega arith) c.child-item.ensures
-    (kept_long (items_of c.args.children.now) c.args.stretch.at c.args.stretch.count
-    c.requires.faultless (omega (arith, few, c.requires.there))) in
+    let near = kept_below c.args.children.now c.children.kept.items c.args.stretch.at
+    c.args.stretch.count c.children.index _ _ _ c.child-item.result.now c.requires.few
+    c.requires.faultless c.requires.there c.children.invariant (omega arith) c.child-item.ensures in
     let low = c.children.invariant.is.low in
     omega (
       arith,
@@ -46,12 +43,9 @@ overflow_add-start c =
 
 pub children-preserved : goal.children-preserved
 children-preserved c =
-    let few = few_enough c.args.children.now c.requires.few in
-    let near = kept_near (items_of c.args.children.now) c.children.kept.items c.args.stretch.at
-    c.args.stretch.count c.children.index _ _ _ _ c.child-item.result.now c.children.invariant
-    (omega arith) c.child-item.ensures
-    (kept_long (items_of c.args.children.now) c.args.stretch.at c.args.stretch.count
-    c.requires.faultless (omega (arith, few, c.requires.there))) in
+    let near = kept_below c.args.children.now c.children.kept.items c.args.stretch.at
+    c.args.stretch.count c.children.index _ _ _ c.child-item.result.now c.requires.few
+    c.requires.faultless c.requires.there c.children.invariant (omega arith) c.child-item.ensures in
     let low = c.children.invariant.is.low in
     elim c.if-not-is_stripped.branch [
       | then-not-is_stripped+in_ok-add_copy w ↦

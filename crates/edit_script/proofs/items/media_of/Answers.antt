@@ -1,6 +1,6 @@
 use Rattle.std.proofs.Common.{FitsSigned, w64, rules, ◌∙◌}
 use Rattle.std.proofs.lemmas.Int.{to_z-of_z}
-use Rattle.edit_script.specs.Items.{IsSpan}
+use Rattle.tick_time.specs.Frames.{IsFrameSpan}
 use Rattle.edit_script.proofs.Puts.{media_is}
 use Rattle.edit_script.proofs.items.media_of.Goals as goal
 
@@ -9,7 +9,7 @@ returns c =
     let row = c.args.row.now in
     let a : FitsSigned w64 row.start = search rules in
     let b : FitsSigned w64 row.count = search rules in
-    let listed : IsSpan row.rate row.start row.rate row.count c.span.result =
+    let listed : IsFrameSpan row.rate row.start row.rate row.count c.span.result =
     simp to_z-of_z at c.span.ensures in (
       c.span.result,
       listed,

@@ -1,12 +1,9 @@
 use Rattle.std.proofs.Common.{sym, ◌∙◌}
-use Rattle.otio_model.specs.Trees.{items_of}
 use Rattle.edit_trim.proofs.Seeking.{index_there}
 use Rattle.edit_trim.proofs.adjacent_items.item_after.Goals as goal
 
 pub child-requires : goal.child-requires
-child-requires c =
-    let at = c.in-Some.ensures.some in
-    index_there (items_of c.args.children.now) c.in-Some.at at.item at.there
+child-requires c = index_there _ c.in-Some.at _ c.in-Some.ensures.some.there
 
 pub returns-in-Some-clause-item : goal.returns-in-Some-clause-item
 returns-in-Some-clause-item c =

@@ -4,7 +4,7 @@ use Rattle.std.specs.Prelude.{option_copied}
 use Rattle.std.proofs.lemmas.Int.{to_z-of_z, ints}
 use Rattle.otio_model.specs.Trees.{items_of}
 use Rattle.edit_trim.specs.declared.edge_edits.EdgeEdit.TheVariants as M
-use Rattle.edit_trim.proofs.Asking.{IsZone, trim_as}
+use Rattle.edit_trim.proofs.Asking.{IsZone, trim_as, zone-is}
 use Rattle.edit_trim.proofs.Neighbours.{between_at}
 use Rattle.edit_trim.proofs.edge_moves.trim.Goals as goal
 
@@ -28,23 +28,22 @@ returns c =
     let f2 : FitsSigned w128 c.trim_by-moves.result.tail = omega (arith, ints, n2.low, n2.high) in
     let f3 : FitsSigned w128 c.end_of.result = search rules in
     let f4 : FitsSigned w128 c.trim_growth.result = search rules in
-    let e1 : c.edges_in_ticks.result.head ≡ (c.args.head *ℤ c.args.frame) =
-    simp to_z-of_z at c.edges_in_ticks.ensures.head in
-    let e2 : c.edges_in_ticks.result.tail ≡ (c.args.tail *ℤ c.args.frame) =
-    simp to_z-of_z at c.edges_in_ticks.ensures.tail in
+    let e1 : c.edges_in_ticks-asked.result.head ≡ (c.args.head *ℤ c.args.frame) =
+    simp to_z-of_z at c.edges_in_ticks-asked.ensures.head in
+    let e2 : c.edges_in_ticks-asked.result.tail ≡ (c.args.tail *ℤ c.args.frame) =
+    simp to_z-of_z at c.edges_in_ticks-asked.ensures.tail in
     let z : IsZone c.zone_between.result c.args.seat.start c.trim_by-moves.result.head
-    c.end_of.result c.trim_by-moves.result.tail = record {
-      from = simp to_z-of_z at c.zone_between.ensures.from;
-      to = simp to_z-of_z at c.zone_between.ensures.to;
-      near_from = c.zone_between.ensures.near_from;
-      near_to = c.zone_between.ensures.near_to;
-    } in
+    c.end_of.result c.trim_by-moves.result.tail = zone-is (simp to_z-of_z at
+    c.zone_between.ensures.from)
+    (simp to_z-of_z at c.zone_between.ensures.to) c.zone_between.ensures.near_from
+    c.zone_between.ensures.near_to in
     between_at (items_of c.args.children.now) c.args.seat
     (option_copied c.item_before-before.result) c.child-item.result.now
     (option_copied c.item_after-after.result) c.args.frame (M.Trim c.args.head c.args.tail) _
     c.item_before-before.ensures.item c.child-item.ensures c.item_after-after.ensures.item
     (simp to_z-of_z (trim_as c.args.frame c.args.seat.start c.args.head c.args.tail
-    c.edges_in_ticks.result.head c.edges_in_ticks.result.tail c.end_of.result c.trim_growth.result
+    c.edges_in_ticks-asked.result.head c.edges_in_ticks-asked.result.tail c.end_of.result
+    c.trim_growth.result
     (option_copied c.item_before-before.result) (option_copied c.item_after-after.result)
     c.child-item.result.now c.trim_by-moves.result c.zone_between.result c.trim_shape.result
     c.is_gap_at.result c.is_gap_at-2.result c.requires.low e1 e2

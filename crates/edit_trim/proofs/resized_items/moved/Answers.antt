@@ -1,13 +1,11 @@
-use Rattle.std.proofs.Common.{rules, ◌≡◌, sym, subst, ◌&&◌, true, false, Some, IfErr, IfOk}
+use Rattle.std.proofs.Common.{rules, ◌≡◌, sym, ◌&&◌, false}
 use Rattle.std.proofs.Common.{FitsSigned, ◌+ℤ◌, ◌-ℤ◌}
 use mir.Syntax.{w128}
 use Rattle.std.proofs.lemmas.Int.{to_z-of_z}
 use Rattle.otio_model.specs.Lengths.{trimmed_start}
 use Rattle.coord.specs.Speeds.{media_at, speed_of}
-use Rattle.edits.specs.Children.{is_far, made}
 use Rattle.edits.specs.Edges as edges
-use Rattle.pieces.specs.declared.new_ranges.RangedFault.TheVariants.{Range}
-use Rattle.edit_trim.proofs.Made.{moved_is}
+use Rattle.edit_trim.proofs.Made.{far-as, made-as, moved_is}
 use Rattle.edit_trim.proofs.resized_items.moved.Goals as goal
 
 pub returns-in-Some : goal.returns-in-Some
@@ -26,8 +24,6 @@ returns-in-Some c =
     let eq = moved_is c.args.head c.args.tail c.in-Some.start c.moved_ticks-length.result
     c.sound_ticks.result c.args.item.now e0 e1 c.sound_ticks.ensures.value e3 in
     record {
-      made = subst (λ z. IfOk c.ranged.result (λ new. made c.args.making.rate z ≡ Some new)) (sym eq)
-          (simp to_z-of_z at c.ranged.ensures.made);
-      far = subst (λ z. IfErr c.ranged.result (λ fault. fault ≡ Range → is_far z ≡ true)) (sym eq)
-          (simp to_z-of_z at c.ranged.ensures.far);
+      made = made-as c.args.making.rate c.ranged.result eq (simp to_z-of_z at c.ranged.ensures.made);
+      far = far-as c.ranged.result eq (simp to_z-of_z at c.ranged.ensures.far);
     }

@@ -1,11 +1,9 @@
-use Rattle.std.proofs.Common.{rules, ◌≡◌, sym, subst, ◌||◌, true, false, Some, IfErr, IfOk}
+use Rattle.std.proofs.Common.{rules, ◌≡◌, sym, ◌||◌, false}
 use Rattle.std.proofs.Common.{FitsSigned, ◌+ℤ◌}
 use mir.Syntax.{w128}
 use Rattle.std.proofs.lemmas.Int.{to_z-of_z}
-use Rattle.edits.specs.Children.{is_far, made}
 use Rattle.edits.specs.Edges as edges
-use Rattle.pieces.specs.declared.new_ranges.RangedFault.TheVariants.{Range}
-use Rattle.edit_trim.proofs.Made.{slipped_is}
+use Rattle.edit_trim.proofs.Made.{far-as, made-as, slipped_is}
 use Rattle.edit_trim.proofs.resized_items.slipped.Goals as goal
 
 pub returns : goal.returns
@@ -21,8 +19,6 @@ returns c =
     let eq = slipped_is c.args.by c.slipped_start.result c.start_ticks.result c.sound_ticks.result
     c.args.item.now e0 e1 c.start_ticks.ensures.value c.sound_ticks.ensures.value in
     record {
-      made = subst (λ z. IfOk c.ranged.result (λ new. made c.args.making.rate z ≡ Some new)) (sym eq)
-          (simp to_z-of_z at c.ranged.ensures.made);
-      far = subst (λ z. IfErr c.ranged.result (λ fault. fault ≡ Range → is_far z ≡ true)) (sym eq)
-          (simp to_z-of_z at c.ranged.ensures.far);
+      made = made-as c.args.making.rate c.ranged.result eq (simp to_z-of_z at c.ranged.ensures.made);
+      far = far-as c.ranged.result eq (simp to_z-of_z at c.ranged.ensures.far);
     }

@@ -6,8 +6,8 @@ use Rattle.edl_conform.specs.Stated.{stated_job}
 use Rattle.edl_conform.proofs.RootSteps.{comes_on, root_stops}
 use Rattle.edl_conform.proofs.events_from_tracks.gather.Goals as goal
 
-pub overflow_cast-index : goal.overflow_cast-index
-overflow_cast-index c =
+pub overflow_cast-at : goal.overflow_cast-at
+overflow_cast-at c =
     let k = index_few c.args.tracks.now c.tracks.index (omega arith) c.requires.few in
     omega (arith, k)
 

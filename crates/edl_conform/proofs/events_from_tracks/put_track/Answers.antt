@@ -15,14 +15,14 @@ put_children-requires-clause-fits c = track_fits c.args.track.now c.requires.sou
 
 pub returns-in-Ok-None-clause-added : goal.returns-in-Ok-None-clause-added
 returns-in-Ok-None-clause-added c =
-    walked_adds (stated_job c.args.job.now) c.args.channel c.args.index c.args.track.now
+    walked_adds (stated_job c.args.job.now) c.args.at.channel c.args.at.index c.args.track.now
     c.args.events.now.items c.put_children.new.events.items c.if-not-track.false
     (sym c.is_plain.ensures ∙ c.if-not-is_plain.false)
     (rw c.in-Ok-None.field-0-is at c.in-Ok-None.ensures)
 
 pub returns-in-Ok-Some-clause-refused : goal.returns-in-Ok-Some-clause-refused
 returns-in-Ok-Some-clause-refused c =
-    stop_said (stated_job c.args.job.now) c.args.channel c.args.index c.args.track.now
+    stop_said (stated_job c.args.job.now) c.args.at.channel c.args.at.index c.args.track.now
     c.args.events.now.items c.put_children.new.events.items c.in-Ok-Some.stop
     c.at_child.result c.if-not-track.false (sym c.is_plain.ensures ∙ c.if-not-is_plain.false)
     (rw c.in-Ok-Some.field-0-is at c.in-Ok-Some.ensures) c.at_child.ensures

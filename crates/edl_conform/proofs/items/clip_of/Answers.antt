@@ -13,8 +13,8 @@ returns c =
     let a : FitsSigned w64 c.args.side.now.src_in = search rules in
     let x : to_z w64 (of_z w64 c.args.side.now.src_in) ≡ c.args.side.now.src_in = omega (arith, ints, a) in
     let y : to_z w64 (of_z w64 c.args.count) ≡ c.args.count = omega (arith, ints, count) in
-    let is = c.speed_of.ensures in
-    let z : to_z w64 (of_z w64 c.speed_of.result) ≡ pos (side_speed rate c.args.side.now) = omega (arith, ints, is, slow) in
+    let is = c.side_speed.ensures in
+    let z : to_z w64 (of_z w64 c.side_speed.result) ≡ pos (side_speed rate c.args.side.now) = omega (arith, ints, is, slow) in
     record {
       clip = _;
       is = refl;

@@ -24,11 +24,11 @@ returns c =
     let i : FitsSigned w64 e.to.src_in = search rules in
     let t : FitsSigned w64 s.src_in = search rules in
     let count = c.requires.before.long in let low = count.low in let high = count.high in
-    let own = c.speed_of-speed.ensures in let of_side = c.speed_of.ensures in
+    let own = c.side_speed-speed.ensures in let of_side = c.side_speed.ensures in
     let out : to_z w64 (of_z w64 e.rec_out) ≡ e.rec_out = omega (arith, ints, o) in
     let at : to_z w64 (of_z w64 c.args.at) ≡ c.args.at = omega (arith, ints, at_in) in
-    let speed : to_z w64 (of_z w64 c.speed_of-speed.result) ≡ pos (side_speed c.args.rate e.to) = omega (arith, ints, own, slow) in
-    let other : to_z w64 (of_z w64 c.speed_of.result) ≡ pos (side_speed c.args.rate s) = omega (arith, ints, of_side, side_slow) in
+    let speed : to_z w64 (of_z w64 c.side_speed-speed.result) ≡ pos (side_speed c.args.rate e.to) = omega (arith, ints, own, slow) in
+    let other : to_z w64 (of_z w64 c.side_speed.result) ≡ pos (side_speed c.args.rate s) = omega (arith, ints, of_side, side_slow) in
     let from : to_z w64 (of_z w64 e.to.src_in) ≡ e.to.src_in = omega (arith, ints, i) in
     let to : to_z w64 (of_z w64 s.src_in) ≡ s.src_in = omega (arith, ints, t) in
     let q : FitsSigned w64 e.rec_in = search rules in

@@ -1,4 +1,4 @@
-use Rattle.std.proofs.Common.{◌≡◌, sym, subst, ap, ◌∙◌, to_z, of_z, None}
+use Rattle.std.proofs.Common.{sym, subst, ap, ◌∙◌, to_z, of_z, None}
 use Rattle.std.specs.Int.{w64}
 use Rattle.std.specs.Option.{option_copied}
 use Rattle.otio_model.specs.Trees.{items_of, listed}

@@ -4,7 +4,8 @@ use Rattle.std.proofs.lemmas.Int.{to_z-of_z}
 use Rattle.edl_frames.specs.Conformed.{first_record}
 use Rattle.note_text.specs.Noted.{IsNoteFor}
 use Rattle.note_text.specs.declared.notes.Note.{Note}
-use Rattle.edl_notes.specs.Steps.{HaveSameOwn, notes_at}
+use Rattle.note_text.specs.Belonging.{HaveSameOwn}
+use Rattle.edl_notes.specs.Steps.{notes_at}
 use Rattle.edl_notes.proofs.OwnNotes.{all_same}
 use Rattle.edl_notes.proofs.RootSteps.{timeline_noted}
 use Rattle.edl_notes.proofs.adding.add_notes.Goals as goal

@@ -1,5 +1,5 @@
 use Rattle.std.proofs.lemmas.Result.{IfOk-weaker}
-use Rattle.edl_tests.proofs.NotedLemmas.{notes_for}
+use Rattle.note_text.proofs.NotedLists.{notes_for}
 use Rattle.edl_tests.proofs.noted_tests.noted.Goals as goal
 
 pub returns : goal.returns

@@ -1,6 +1,6 @@
 use Rattle.std.proofs.Common.{sym, subst, All}
 use Rattle.note_text.specs.Belonging.{IsNoteOf}
-use Rattle.edl_tests.proofs.NotedLemmas.{notes_can}
+use Rattle.note_text.proofs.NotedLists.{notes_can}
 use Rattle.edl_tests.proofs.noted_tests.send.Goals as goal
 
 pub write_noted-requires-clause-notes : goal.write_noted-requires-clause-notes

@@ -1,7 +1,6 @@
 use Rattle.std.proofs.Common.{arith}
 use Rattle.std.proofs.lemmas.Int.{to_z-of_z, ints}
-use Rattle.edits.specs.Cuts.{is_whole_at}
-use Rattle.flat_stack.proofs.PartLemmas.{front_all, front_cut, not_phased, refused}
+use Rattle.flat_stack.proofs.PartLemmas.{front_all, front_cut}
 use Rattle.flat_stack.proofs.cutting.up_to.Goals as goal
 
 pub returns-then-sound_ticks-ticks : goal.returns-then-sound_ticks-ticks
@@ -12,10 +11,3 @@ returns-in-Ok c =
     let fits = c.ranges.ticks in
     let made = simp to_z-of_z at c.in-Ok.ensures.left in
     front_cut c.args.rate c.args.item.now c.in-Ok.front c.args.ticks c.sound_ticks.result c.sound_ticks.ensures.value (omega (arith, ints)) made
-
-pub unreachable-requires : goal.unreachable-requires
-unreachable-requires c =
-    let fits = c.ranges.ticks in
-    let fault = simp to_z-of_z at c.in-Err-Phase.ensures.fault in
-    not_phased c.args.item.now c.args.ticks c.requires.whole c.requires.low (omega (arith, ints, c.sound_ticks.ensures.value))
-    (refused c.in-Err-Phase.field-0 (is_whole_at c.args.item.now c.args.ticks) c.in-Err-Phase.field-0-is fault)

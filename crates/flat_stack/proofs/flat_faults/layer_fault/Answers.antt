@@ -9,13 +9,15 @@ use Rattle.flat_stack.proofs.MisfitLemmas.{no_track_first, not_plain_first, othe
 use Rattle.flat_stack.proofs.flat_faults.layer_fault.Goals as goal
 
 pub returns-then-not-is_track-clause-some : goal.returns-then-not-is_track-clause-some
-returns-then-not-is_track-clause-some c = λ l e. no_track_first c.args.kind.now l c.args.track c.args.item.now e (sym c.is_track.ensures ∙ c.if-not-is_track.true)
+returns-then-not-is_track-clause-some c = rw c.nested.ensures
+    (λ l e. no_track_first c.args.kind.now l c.args.track c.args.item.now e (sym c.is_track.ensures ∙ c.if-not-is_track.true))
 
 pub returns-then-not-is_layer-clause-none : goal.returns-then-not-is_layer-clause-none
 returns-then-not-is_layer-clause-none c = λ l e. other_free c.args.kind.now l c.args.track c.args.item.now e (sym c.is_track.ensures ∙ c.if-not-is_track.false) (sym c.is_layer.ensures ∙ c.if-not-is_layer.true)
 
 pub returns-then-not-is_plain-clause-some : goal.returns-then-not-is_plain-clause-some
-returns-then-not-is_plain-clause-some c = λ l e. not_plain_first c.args.kind.now l c.args.track c.args.item.now e (sym c.is_layer.ensures ∙ c.if-not-is_layer.false) (sym c.is_plain.ensures ∙ c.if-not-is_plain.true)
+returns-then-not-is_plain-clause-some c = rw c.nested-then-not-is_plain.ensures
+    (λ l e. not_plain_first c.args.kind.now l c.args.track c.args.item.now e (sym c.is_layer.ensures ∙ c.if-not-is_layer.false) (sym c.is_plain.ensures ∙ c.if-not-is_plain.true))
 
 pub returns-in-Some-first_misfit-clause-near : goal.returns-in-Some-first_misfit-clause-near
 returns-in-Some-first_misfit-clause-near c =

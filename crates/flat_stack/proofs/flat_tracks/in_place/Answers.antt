@@ -3,4 +3,6 @@ use Rattle.flat_stack.proofs.TrackPlaces.{placed}
 use Rattle.flat_stack.proofs.flat_tracks.in_place.Goals as goal
 
 pub returns : goal.returns
-returns c = placed c.args.kind.now c.args.flat (items_of c.args.children.now) c.in-Ok.front.items c.push.new.self.items c.copy_others.new.all.items c.args.first c.requires.first c.in-Ok.ensures c.in_ok-push.ensures.items c.in_ok-copy_others.ensures
+returns c =
+    placed c.args.kind.now c.args.flat (items_of c.args.children.now) _ c.copy_others.new.all.items
+    c.args.first c.requires.first c.in_ok-all.ensures c.in_ok-copy_others.ensures

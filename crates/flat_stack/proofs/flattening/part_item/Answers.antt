@@ -90,8 +90,8 @@ overflow_sub-part c =
     let fits_to : FitsSigned w128 c.args.part.to = search rules in
     simp to_z-of_z (length_fits c.requires.part)
 
-pub part_gap-requires-clause-low : goal.part_gap-requires-clause-low
-part_gap-requires-clause-low c =
+pub short_gap-requires-clause-low : goal.short_gap-requires-clause-low
+short_gap-requires-clause-low c =
     let fits_from : FitsSigned w128 c.args.part.from = search rules in
     let fits_to : FitsSigned w128 c.args.part.to = search rules in
     let fits_ticks = length_fits c.requires.part in
@@ -99,8 +99,8 @@ part_gap-requires-clause-low c =
     omega (arith, ints, c.requires.part.wide) in
     simp to_z-of_z k
 
-pub part_gap-requires-clause-high : goal.part_gap-requires-clause-high
-part_gap-requires-clause-high c =
+pub short_gap-requires-clause-high : goal.short_gap-requires-clause-high
+short_gap-requires-clause-high c =
     let fits_from : FitsSigned w128 c.args.part.from = search rules in
     let fits_to : FitsSigned w128 c.args.part.to = search rules in
     let fits_ticks = length_fits c.requires.part in
@@ -122,12 +122,12 @@ returns-in_ok-piece-in-Some c =
     clip_is c.args.rate (items_of c.args.children.now) c.args.part c.in-Some.given
     c.item_at-item.result.now c.in_ok-piece-in-Some.piece c.in-Some.is c.item_at-item.ensures is
 
-pub returns-in_ok-gap-in-None : goal.returns-in_ok-gap-in-None
-returns-in_ok-gap-in-None c =
+pub returns-in-None : goal.returns-in-None
+returns-in-None c =
     let fits_from : FitsSigned w128 c.args.part.from = search rules in
     let fits_to : FitsSigned w128 c.args.part.to = search rules in
     let fits_ticks = length_fits c.requires.part in
     let is : made c.args.rate (new_gap (c.args.part.to -ℤ c.args.part.from))
-    ≡ Some c.in_ok-gap-in-None.gap = simp to_z-of_z at c.in_ok-gap-in-None.ensures in
+    ≡ Some c.short_gap.result = simp to_z-of_z at c.short_gap.ensures in
     gap_is c.args.rate (items_of c.args.children.now) c.args.part
-    (c.args.part.to -ℤ c.args.part.from) c.in_ok-gap-in-None.gap c.in-None.is refl is
+    (c.args.part.to -ℤ c.args.part.from) c.short_gap.result c.in-None.is refl is

@@ -6,13 +6,13 @@ use Rattle.flat_stack.specs.Inputs.{IsAdded}
 use Rattle.flat_stack.proofs.JoinedTracks.{no_pad, one_pad}
 use Rattle.flat_stack.proofs.joined_tracks.put_pad.Goals as goal
 
-pub gap-requires-clause-low : goal.gap-requires-clause-low
-gap-requires-clause-low c =
+pub short_gap-requires-clause-low : goal.short_gap-requires-clause-low
+short_gap-requires-clause-low c =
     let fits : FitsSigned w128 c.pad_ticks-ticks.result = search rules in
     simp to_z-of_z (omega (arith, ints, c.if-ticks-le0.false))
 
-pub gap-requires-clause-high : goal.gap-requires-clause-high
-gap-requires-clause-high c =
+pub short_gap-requires-clause-high : goal.short_gap-requires-clause-high
+short_gap-requires-clause-high c =
     let fits : FitsSigned w128 c.pad_ticks-ticks.result = search rules in
     simp to_z-of_z c.pad_ticks-ticks.ensures.high
 
@@ -29,9 +29,9 @@ returns c =
     let low = c.pad_ticks-ticks.ensures.low in
     let high = c.pad_ticks-ticks.ensures.high in
     let fits : FitsSigned w128 c.pad_ticks-ticks.result = omega (arith, ints, low, high) in
-    let made = simp to_z-of_z at c.in_ok-gap.ensures in
+    let made = simp to_z-of_z at c.short_gap.ensures in
     let old = c.args.all.now.items in
     let new = c.push.new.self.items in
     subst (λ n. IsAdded c.args.rate (pad n) old new) c.pad_ticks-ticks.ensures.value
-    (one_pad c.args.rate c.pad_ticks-ticks.result old new c.in_ok-gap.gap
+    (one_pad c.args.rate c.pad_ticks-ticks.result old new c.short_gap.result
     (omega (arith, ints, c.if-ticks-le0.false)) made c.in_ok-push.ensures.items)

@@ -1,4 +1,4 @@
-use Rattle.std.proofs.Common.{sym, refl}
+use Rattle.std.proofs.Common.{refl}
 use Rattle.std.proofs.lemmas.Option.{slice_get_read}
 use Rattle.flat_stack.proofs.PileLemmas.{piled_more, piled_ok}
 use Rattle.flat_stack.proofs.stacking.pile.Goals as goal
@@ -14,6 +14,6 @@ pub returns : goal.returns
 returns c =
     record {
       piled = piled_ok c.copy_with.result c.args.inputs.now c.inputs.input-index
-          c.in-Some.first.now c.inputs.all.items c.inputs-test.false c.inputs.invariant
-          (sym c.in-Some.ensures.value) c.copy_with.ensures;
+          c.input_at.result.now c.inputs.all.items c.inputs-test.false c.inputs.invariant
+          c.input_at.ensures c.copy_with.ensures;
     }

@@ -10,7 +10,8 @@ use Rattle.flat_stack.proofs.RootLemmas.{plain_items, plain_some}
 use Rattle.flat_stack.proofs.window_faults.track_fault.Goals as goal
 
 pub returns-then-not-is_plain-clause-some : goal.returns-then-not-is_plain-clause-some
-returns-then-not-is_plain-clause-some c = λ l e. not_plain_first l c.args.from c.args.to c.args.track c.args.item.now e (sym c.is_plain.ensures ∙ c.if-not-is_plain.true)
+returns-then-not-is_plain-clause-some c = rw c.nested.ensures
+    (λ l e. not_plain_first l c.args.from c.args.to c.args.track c.args.item.now e (sym c.is_plain.ensures ∙ c.if-not-is_plain.true))
 
 pub first_uncut-requires-clause-few : goal.first_uncut-requires-clause-few
 first_uncut-requires-clause-few c =

@@ -37,13 +37,13 @@ window_items-requires-clause-cut c =
     let e : children_of c.args.item.now ≡ Some c.in-Some.children.now = first_of (cc (c.in-Some.ensures), search rules) in
     simp to_z-of_z (subst (λ m. AreCutTo m c.args.from c.args.to (length m)) (plain_items c.args.item.now c.in-Some.children.now c.requires.plain e) c.requires.cut)
 
-pub unreachable-requires : goal.unreachable-requires
-unreachable-requires c =
+pub returns-in-None : goal.returns-in-None
+returns-in-None c =
     let e : children_of c.args.item.now ≡ None = first_of (cc (c.in-None.ensures), search rules) in
-    plain_some c.args.item.now c.requires.plain e
+    absurd (plain_some c.args.item.now c.requires.plain e)
 
-pub returns : goal.returns
-returns c =
+pub returns-in_ok-items-in-Some : goal.returns-in_ok-items-in-Some
+returns-in_ok-items-in-Some c =
     let fits = c.ranges.from in
     let fits_to = c.ranges.to in
     let e : children_of c.args.item.now ≡ Some c.in-Some.children.now = first_of (cc (c.in-Some.ensures), search rules) in

@@ -4,11 +4,11 @@ use Rattle.otio_model.specs.Trees.{listed}
 use Rattle.flat_stack.proofs.PassedLemmas.{track_cut}
 use Rattle.flat_stack.proofs.windowing.window_track.Goals as goal
 
-pub track_items-requires-clause-cut : goal.track_items-requires-clause-cut
-track_items-requires-clause-cut c =
+pub track_items-requires : goal.track_items-requires
+track_items-requires c =
     let fits = c.ranges.from in
     let fits_to = c.ranges.to in
-    simp to_z-of_z c.requires.cut
+    simp to_z-of_z c.requires
 
 pub returns : goal.returns
 returns c =

@@ -38,7 +38,7 @@ shown_after-requires-clause-slow c =
     let rate = c.args.rate in
     let event = c.args.event.now in
     let small = slow rate event.to c.requires.timecode c.requires.event.to in
-    let s = kept c.speed_of-speed.result (side_speed rate event.to) c.speed_of-speed.ensures (omega (arith, small)) in
+    let s = kept c.side_speed-speed.result (side_speed rate event.to) c.side_speed-speed.ensures (omega (arith, small)) in
     rw s small
 
 pub returns-then-shown_after-ahead : goal.returns-then-shown_after-ahead
@@ -52,7 +52,7 @@ returns-then-shown_after-ahead c =
     let within = rw l.is at c.if-k-length.true in
     let z : to_z w64 k ≡ pos k = omega (arith, ints, few, within) in
     let small = slow rate event.to c.requires.timecode e.to in
-    let s = kept c.speed_of-speed.result (side_speed rate event.to) c.speed_of-speed.ensures (omega (arith, small)) in
+    let s = kept c.side_speed-speed.result (side_speed rate event.to) c.side_speed-speed.ensures (omega (arith, small)) in
     let f = to_z-of_z w128 c.args.frame c.ranges.frame in
     ap (λ n. Some (unsigned_abs n)) z
     ∙ found rate event.to c.args.frame c.in-Some.ahead k _ (sym f ∙ c.in-Some.ensures.1) within (rw s at c.least_frames-k.ensures.before)
@@ -66,7 +66,7 @@ returns-else-k-length c =
     let k = c.least_frames-k.result in
     let l = lasts event.rec_in event.rec_out _ (short_day rate c.requires.timecode) e.rec_in e.rec_out e.some in
     let small = slow rate event.to c.requires.timecode e.to in
-    let s = kept c.speed_of-speed.result (side_speed rate event.to) c.speed_of-speed.ensures (omega (arith, small)) in
+    let s = kept c.side_speed-speed.result (side_speed rate event.to) c.side_speed-speed.ensures (omega (arith, small)) in
     let f = to_z-of_z w128 c.args.frame c.ranges.frame in
     let is = sym f ∙ c.in-Some.ensures.1 in
     let before = rw s at c.least_frames-k.ensures.before in

@@ -10,7 +10,7 @@ overflow_mul-result c =
     let speed = side_speed rate c.args.side.now in
     let small = slow rate c.args.side.now c.requires.timecode c.requires.side in
     let k = to_z-of_z w64 c.args.k c.ranges.k in
-    let s = kept c.speed_of.result speed c.speed_of.ensures (omega (arith, small)) in
+    let s = kept c.side_speed.result speed c.side_speed.ensures (omega (arith, small)) in
     rw (k, s) (is_ahead c.args.k speed c.requires.low c.requires.high small).product
 
 pub overflow_add-result : goal.overflow_add-result
@@ -19,7 +19,7 @@ overflow_add-result c =
     let speed = side_speed rate c.args.side.now in
     let small = slow rate c.args.side.now c.requires.timecode c.requires.side in
     let k = to_z-of_z w64 c.args.k c.ranges.k in
-    let s = kept c.speed_of.result speed c.speed_of.ensures (omega (arith, small)) in
+    let s = kept c.side_speed.result speed c.side_speed.ensures (omega (arith, small)) in
     let a = is_ahead c.args.k speed c.requires.low c.requires.high small in
     let product = a.product in
     let p = to_z-of_z w64 (c.args.k *ℤ pos speed) product in
@@ -35,7 +35,7 @@ returns c =
     let speed = side_speed rate c.args.side.now in
     let small = slow rate c.args.side.now c.requires.timecode c.requires.side in
     let k = to_z-of_z w64 c.args.k c.ranges.k in
-    let s = kept c.speed_of.result speed c.speed_of.ensures (omega (arith, small)) in
+    let s = kept c.side_speed.result speed c.side_speed.ensures (omega (arith, small)) in
     let a = is_ahead c.args.k speed c.requires.low c.requires.high small in
     let product = a.product in
     let p = to_z-of_z w64 (c.args.k *ℤ pos speed) product in

@@ -24,7 +24,7 @@ copy_children-invariant_of-result t c =
       pieces = copies_are _ _ s v.pieces;
       numbered = copies_numbered _ _ _ s v.numbered;
       counted = v.counted ∙ ap length (sym (copies_items _ _ s));
-      keeps = v.keeps
+      keeps = c.in_ok-new.ensures.ok ∙ c.deref.ensures ∙ v.keeps
           ∙ ap kept_of (sym (copies_items _ _ s));
     }
 

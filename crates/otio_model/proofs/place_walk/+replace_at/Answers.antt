@@ -43,8 +43,8 @@ number-requires t c =
       );
     }
 
-pub kept_pieces-children-inside-requires : goal.kept_pieces-children-inside-requires
-kept_pieces-children-inside-requires t c =
+pub kept_pieces-requires : goal.kept_pieces-requires
+kept_pieces-requires t c =
     let s = spot_lent c.as_slice.ensures.value c.locate-number.ensures in
     let y = deeper (λ _. c.replace_at.new.children) c.index_mut-item.result.now in
     let m = mended {q = c.mend.new.self} c.index_mut-piece.result.now c.locate-number.result.1 y
@@ -63,7 +63,7 @@ invariant_of-children t c =
     let m = mended {q = c.mend.new.self} c.index_mut-piece.result.now c.locate-number.result.1 y
     refl c.mend.ensures.items c.mend.ensures.keeps in
     children_set _ _ _ _ _ _ _ c.mend.new.self y _ _ s c.index_mut-piece.ensures.value m.same
-    m.keeps c.number.ensures c.children.invariant (c.kept_pieces-children-inside.ensures
+    m.keeps c.number.ensures c.children.invariant (c.kept_pieces.ensures
     ∙ ap (λ l. kept_of (all_items l)) c.as_slice-2.ensures.value)
 
 pub returns-clause-items : goal.returns-clause-items

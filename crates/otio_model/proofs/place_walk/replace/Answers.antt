@@ -25,8 +25,8 @@ number-requires c =
       );
     }
 
-pub kept_pieces-children-inside-requires : goal.kept_pieces-children-inside-requires
-kept_pieces-children-inside-requires c =
+pub kept_pieces-requires : goal.kept_pieces-requires
+kept_pieces-requires c =
     record {
       pieces = subst AllPieces (sym c.as_slice.ensures.value)
           (c.number.ensures.pieces c.replace_pieces.ensures.pieces).all;
@@ -51,7 +51,7 @@ invariant_of-children c =
         c.len-put.ensures,
         c.args.list.now.ok,
       );
-      keeps = c.kept_pieces-children-inside.ensures
+      keeps = c.kept_pieces.ensures
           ∙ ap (λ l. kept_of (all_items l)) c.as_slice.ensures.value;
     }
 

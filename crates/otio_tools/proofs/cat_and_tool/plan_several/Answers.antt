@@ -4,7 +4,7 @@ use Rattle.source_files.specs.Reading.{source_of}
 use Rattle.otio_tools.specs.Asked.{input_named, media_source}
 use Rattle.otio_tools.specs.Several.{names_now}
 use Rattle.otio_tools.specs.Texts.{text_at}
-use Rattle.otio_tools.proofs.SeveralFiles.{several_planned, several_stopped}
+use Rattle.otio_tools.proofs.SeveralFiles.{several_given, several_planned, several_stopped, several_unread_given}
 use Rattle.otio_tools.proofs.Reporting.{several_named, several_unread}
 use Rattle.otio_tools.proofs.cat_and_tool.plan_several.Goals as goal
 
@@ -54,3 +54,29 @@ returns-clause-named g c =
     c.as_slice-2.ensures.value)
     (c.in-Ok.ensures ∙ ap (λ n. c.args.name.now ∷ names_now n) c.as_slice.ensures.value)
     c.in-Err.ensures.named
+
+pub returns-in-Ok-read_sources-clause-given : goal.returns-in-Ok-read_sources-clause-given
+returns-in-Ok-read_sources-clause-given g c = λ target.
+    let media = text_at c.args.others.media in
+    several_given c.args.command c.args.name.now (other_names c.args.others) target
+    (map source_of c.as_slice-3.result.now) (names_now c.in-Ok.names.items)
+    c.in-Ok-read_sources.contents.items c.judged_several.result _ _ c.requires.several
+    c.requires.scripted
+    (ap (map source_of) c.as_slice-3.ensures.value ∙ c.in-Ok-sources_of.ensures
+    ∙ ap (λ n. map (input_named c.args.command) (names_now n) ++ media_source media)
+    c.as_slice-2.ensures.value)
+    (c.in-Ok.ensures ∙ ap (λ n. c.args.name.now ∷ names_now n) c.as_slice.ensures.value)
+    c.in-Ok-read_sources.ensures.given
+    (rw c.as_slice-in-Ok-read_sources.ensures.value at (c.judged_several.ensures.told media))
+
+pub returns-clause-given : goal.returns-clause-given
+returns-clause-given g c = λ target.
+    let media = text_at c.args.others.media in
+    several_unread_given c.args.command c.args.name.now (other_names c.args.others) target
+    (map source_of c.as_slice-3.result.now) (names_now c.in-Ok.names.items) c.in-Err.stop _ _
+    c.requires.several c.requires.scripted
+    (ap (map source_of) c.as_slice-3.ensures.value ∙ c.in-Ok-sources_of.ensures
+    ∙ ap (λ n. map (input_named c.args.command) (names_now n) ++ media_source media)
+    c.as_slice-2.ensures.value)
+    (c.in-Ok.ensures ∙ ap (λ n. c.args.name.now ∷ names_now n) c.as_slice.ensures.value)
+    c.in-Err.ensures.given

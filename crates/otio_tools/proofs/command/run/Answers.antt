@@ -1,4 +1,4 @@
-use Rattle.std.proofs.Common.{None, map, string_bytes}
+use Rattle.std.proofs.Common.{None, map, refl, string_bytes}
 use Rattle.otio_tools.proofs.DrillEnds.{drill_alone, drill_ends, drill_is_no_usage, drill_leaves, drill_still, no_drills, task_is, unread_drills}
 use Rattle.otio_tools.proofs.RunEnds.{asks_nothing, usage_given}
 use Rattle.otio_tools.proofs.OneAnswer.{completes}
@@ -8,6 +8,8 @@ use Rattle.otio_tools.proofs.SeveralWords.{joining}
 use Rattle.otio_tools.proofs.PullWords.{few_handles}
 use Rattle.otio_tools.proofs.Working.{leaves_usage, no_edit, scripted}
 use Rattle.otio_tools.specs.Run.{streams}
+use Rattle.otio_tools.specs.Served.{Serves, ByDrill, NoCommand, NoWords}
+use Rattle.source_files.proofs.HandedLemmas.{hands_none}
 use Rattle.otio_tools.specs.declared.Status.TheVariants.{Usage}
 use Rattle.otio_tools.proofs.Reporting.{drill_reported}
 use Rattle.otio_tools.proofs.command.run.Goals as goal
@@ -220,3 +222,41 @@ returns-in-Err-Usage-clause-reported g c = c.say.ensures
 pub returns-in-Err-Memory-clause-reported : goal.returns-in-Err-Memory-clause-reported
 returns-in-Err-Memory-clause-reported g c =
     rw c.complain_of_memory.ensures.status c.complain_of_memory.ensures.message
+
+-- ---- what the calls of the files gave
+
+pub returns-in-Ok-OnFiles-clause-handed : goal.returns-in-Ok-OnFiles-clause-handed
+returns-in-Ok-OnFiles-clause-handed g c =
+    let words = map (λ w. string_bytes w) c.args.words.now.items in
+    c.serve.ensures.given words (task_is _ _ _ c.in-Ok-OnFiles.field-0-is
+    (rw c.as_slice.ensures.value at c.in-Ok-OnFiles.ensures))
+
+pub returns-in-Ok-Drill-clause-handed : goal.returns-in-Ok-Drill-clause-handed
+returns-in-Ok-Drill-clause-handed g c =
+    let words = map (λ w. string_bytes w) c.args.words.now.items in
+    let all =
+    streams g.W.Out.faults g.W.Out.known g.E.Out.faults g.E.Out.known c.args.out.now
+    c.serve_drill.new.out c.args.err.now c.serve_drill.new.err in
+    hands_none (Serves words all c.serve_drill.result) _ (ByDrill _ _ _
+    (task_is _ _ _ c.in-Ok-Drill.field-0-is
+    (rw c.as_slice.ensures.value at c.in-Ok-Drill.ensures)) refl)
+
+pub returns-in-Err-Usage-clause-handed : goal.returns-in-Err-Usage-clause-handed
+returns-in-Err-Usage-clause-handed g c =
+    let words = map (λ w. string_bytes w) c.args.words.now.items in
+    let all =
+    streams g.W.Out.faults g.W.Out.known g.E.Out.faults g.E.Out.known c.args.out.now
+    c.args.out.now c.args.err.now c.say.new.err in
+    hands_none (Serves words all Usage) _ (NoCommand (asks_nothing _ _ c.in-Err-Usage.field-0-is
+    (rw c.as_slice.ensures.value at c.in-Err-Usage.ensures)) refl refl
+    (stays_same (g.W.Out.known c.args.out.now)) c.say.ensures)
+
+pub returns-in-Err-Memory-clause-handed : goal.returns-in-Err-Memory-clause-handed
+returns-in-Err-Memory-clause-handed g c =
+    let words = map (λ w. string_bytes w) c.args.words.now.items in
+    let all =
+    streams g.W.Out.faults g.W.Out.known g.E.Out.faults g.E.Out.known c.args.out.now
+    c.args.out.now c.args.err.now c.complain_of_memory.new.err in
+    hands_none (Serves words all c.complain_of_memory.result) _ (NoWords refl
+    c.complain_of_memory.ensures.status (stays_same (g.W.Out.known c.args.out.now))
+    c.complain_of_memory.ensures.message)

@@ -4,6 +4,7 @@ use Rattle.otio_tools.proofs.Working.{leaves, untouched}
 use Rattle.std.proofs.Common.{◌∙◌}
 use Rattle.otio_tools.specs.Texts.{text_at}
 use Rattle.otio_tools.proofs.Reporting.{carried_reported}
+use Rattle.otio_tools.proofs.Serving.{served}
 use Rattle.otio_tools.proofs.command.serve.Goals as goal
 
 pub returns-clause-ends : goal.returns-clause-ends
@@ -51,3 +52,11 @@ returns-clause-reported g c = λ words asked.
     (other_names c.args.request.others) (text_at c.args.request.target) _ _ _
     c.plan-planned.result c.carry_out.result asked c.plan-planned.ensures.named
     c.plan-planned.ensures.cause c.carry_out.ensures.carried
+
+pub returns-clause-given : goal.returns-clause-given
+returns-clause-given g c = λ words asked.
+    served words c.args.request.command c.args.request.name.now
+    (other_names c.args.request.others) (text_at c.args.request.target) c.plan-planned.result _
+    c.carry_out.result _ _ asked
+    (c.plan-planned.ensures.given (text_at c.args.request.target)) c.plan-planned.ensures.kind
+    c.carry_out.ensures.carried

@@ -3,6 +3,7 @@ use Rattle.otio_tools.specs.Asked.{asked_alone}
 use Rattle.otio_tools.specs.Texts.{text_at}
 use Rattle.otio_tools.proofs.PlanLemmas.{held_planned, stop_planned}
 use Rattle.otio_tools.proofs.Reporting.{alone_named}
+use Rattle.otio_tools.proofs.Serving.{given_planned, given_stopped}
 use Rattle.otio_tools.proofs.planning.plan_alone.Goals as goal
 
 pub returns-in-Ok-clause-told : goal.returns-in-Ok-clause-told
@@ -23,3 +24,14 @@ returns-in-Ok-clause-named g c =
 
 pub returns-clause-named : goal.returns-clause-named
 returns-clause-named g c = c.in-Err.ensures.named
+
+pub returns-in-Ok-clause-given : goal.returns-in-Ok-clause-given
+returns-in-Ok-clause-given g c = λ target.
+    given_planned (asked_alone c.args.command c.args.name.now (other_names c.args.others) target)
+    c.in-Ok.contents.items c.planned_for.result _ _ c.in-Ok.ensures.given
+    (c.planned_for.ensures.told (text_at c.args.others.media))
+
+pub returns-clause-given : goal.returns-clause-given
+returns-clause-given g c = λ target.
+    given_stopped (asked_alone c.args.command c.args.name.now (other_names c.args.others) target)
+    c.in-Err.stop _ _ c.in-Err.ensures.given

@@ -3,6 +3,14 @@ use Rattle.std.specs.Int.{int_div_euclid}
 use Rattle.std.proofs.lemmas.Int.{to_z-of_z, ints}
 use Rattle.pieces.proofs.cutting.media_at.Goals as goal
 
+pub media_offset-requires-clause-speed_low : goal.media_offset-requires-clause-speed_low
+media_offset-requires-clause-speed_low c =
+    let speed = c.requires.speed in omega (arith, ints, speed.low, speed.high)
+
+pub media_offset-requires-clause-speed_high : goal.media_offset-requires-clause-speed_high
+media_offset-requires-clause-speed_high c =
+    let speed = c.requires.speed in omega (arith, ints, speed.low, speed.high)
+
 pub returns : goal.returns
 returns c =
     let fits_ticks = c.ranges.ticks in

@@ -1,12 +1,12 @@
 use Rattle.std.proofs.Common.{◌≡◌, ◌∙◌, ◌+◌, arith}
-use Rattle.show_prog.proofs.SoundnessFacts.{few_below}
+use Rattle.otio_model.specs.Falls.{child_counts}
 use Rattle.pull_list.proofs.Recording.{frames_all, frames_fit, frames_next, frames_from}
 use Rattle.pull_list.proofs.record.frame_count.Goals as goal
 
 pub frames_of-sum-requires-clause-few : goal.frames_of-sum-requires-clause-few
 frames_of-sum-requires-clause-few c =
-    few_below c.args.timeline.now.tracks.children c.children.index c.child.result.now c.child.ensures
-    c.requires
+    let fewer = child_counts c.args.timeline.now.tracks.children c.children.index c.child.result.now
+    c.child.ensures in omega (arith, fewer, c.requires)
 
 pub children-init : goal.children-init
 children-init c =

@@ -5,11 +5,12 @@ use Rattle.std.proofs.lemmas.Int.{ints}
 use Rattle.otio_model.specs.declared.compositions.ItemOf.{ItemOf}
 use Rattle.otio_model.specs.declared.compositions.ItemOf.TheVariants.{Clip as ClipItem}
 use Rattle.otio_model.specs.declared.compositions.Listed.{Listed}
+use Rattle.otio_model.specs.Falls.{child_counts}
 use Rattle.otio_model.specs.Trees.{items_of}
 use Rattle.coord.specs.Looks.{Show, track_shows, stack_shows}
 use Rattle.coord.specs.Sights.{exact, sight, sights, looks, shows_inside}
 use Rattle.show_prog.specs.Walk.{side, shown}
-use Rattle.show_prog.proofs.SoundnessFacts.{here, few_below, no_fault, track_facts, stack_facts}
+use Rattle.show_prog.proofs.SoundnessFacts.{here, no_fault, track_facts, stack_facts}
 use Rattle.show_prog.proofs.ShowLemmas.{inside_track, same_kind, track_outside, track_mix, track_item, inside_stack, stack_before, stack_down, stack_here, nothing_past, nothing_shown}
 use Rattle.pull_list.specs.Found.{Collects, clips_in, clips_of_item}
 use Rattle.pull_list.proofs.Collecting.{clip_below, collects_blank, collects_none, collects_some, mixed_by, ok_as, or_left, or_right, same_clips, told_blank, told_some}
@@ -95,8 +96,8 @@ add_stack-returns-then-at-lt0-clause-added t c =
 
 pub add_stack-length_or_zero-requires : goal.add_stack-length_or_zero-requires
 add_stack-length_or_zero-requires t c = record {
-  few = few_below c.args.children.now _ c.child-item.result.now c.child-item.ensures
-      c.requires.1.1.0;
+  few = let n = child_counts c.args.children.now _ c.child-item.result.now c.child-item.ensures in
+      omega (arith, n, c.requires.1.1.0);
 }
 
 pub add_stack-add_item-requires : goal.add_stack-add_item-requires

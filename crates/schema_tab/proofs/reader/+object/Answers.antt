@@ -2,6 +2,7 @@ use Rattle.std.proofs.Common.{ℕ, refl, sym, ap, subst, ◌∙◌, List, map, a
 use Rattle.std.proofs.lemmas.Result.{err_from_is_err_and}
 use Rattle.json_value.specs.declared.Json.{Json}
 use Rattle.otio_model.specs.declared.media.Media.{Media}
+use Rattle.schema_rows.specs.declared.faults.SchemaFault.{SchemaFault}
 use Rattle.schema_rows.specs.declared.schemas.TheConstants as C
 use Rattle.schema_rows.specs.Rows as R
 use Rattle.schema_rows.specs.Rows.{Row, row_of, kind_of}
@@ -9,13 +10,13 @@ use Rattle.schema_rows.specs.Numerals.{HasNumerals}
 use Rattle.schema_rows.specs.Readings.{known, item_fields, object_fields, effect_reading, marker_reading, medium_reading}
 use Rattle.schema_rows.specs.Families.{child, member, medium}
 use Rattle.schema_rows.specs.Stands.{Gives_rows}
-use Rattle.schema_rows.specs.Faults.{Refuses_reading, in_span, in_time, in_stack, in_child, in_member, in_medium, newer, in_rows, Refuses_rows}
+use Rattle.schema_rows.specs.Faults.{Refuses, Refuses_reading, in_span, in_time, in_reference, in_stack, in_child, in_member, in_medium, newer, in_rows, Refuses_rows}
 use Rattle.schema_tab.proofs.Objects.{foreign_by}
 use Rattle.schema_tab.specs.Depths.{depth}
 use Rattle.schema_tab.proofs.Exits.{item_inside, pair_inside, list_more, list_fails, items_end, objects_end, effects_end, markers_end, second_at, names_more, media_end, row_more, row_fails, row_end}
 use Rattle.schema_tab.proofs.Measures.{depth-Map, depth-List, looked_up_falls, looked_up_numerals}
 use Rattle.schema_tab.proofs.Members.{row_given, row_refused, row_absent, row_missing, items_refused, objects_refused, effects_refused, markers_refused, media_refused, stack_refused, gives_as, no_list}
-use Rattle.schema_tab.proofs.Asking.{wrong_field}
+use Rattle.schema_tab.proofs.Asking.{memory_only, wrong_field}
 use Rattle.schema_tab.proofs.Whole.{object_read, object_refused, foreign_any}
 use Rattle.schema_tab.proofs.reader.+object.Goals as goal
 
@@ -60,6 +61,14 @@ read_member-returns-in_err-found-in-Time-clause-fault t c = let p = err_from_is_
 pub read_member-returns-in_err-found-in-Stack-clause-fault : goal.read_member-returns-in_err-found-in-Stack-clause-fault
 read_member-returns-in_err-found-in-Stack-clause-fault t c =
     let p = err_from_is_err_and c.from_residual-in_err-found-in-Stack.result c.from_residual-in_err-found-in-Stack.ensures.1 in rw (p.1, p.2) (λ n. in_stack _ _ _ _ (ap kind_of c.in-Stack.is) (in_child _ _ _ _ C.STACKS refl (c.in_err-found-in-Stack.ensures.fault n)))
+
+pub read_member-returns-in_err-found-in-Medium-clause-fault : goal.read_member-returns-in_err-found-in-Medium-clause-fault
+read_member-returns-in_err-found-in-Medium-clause-fault t c =
+    let p = err_from_is_err_and c.from_residual-in_err-found-in-Medium.result c.from_residual-in_err-found-in-Medium.ensures.1 in rw (p.1, p.2) (λ n. in_reference _ _ _ _ (ap kind_of c.in-Medium.is) (in_medium _ _ _ _ refl (c.in_err-found-in-Medium.ensures.fault n)))
+
+pub read_member-returns-in_ok-found-in-Medium-clause-fault : goal.read_member-returns-in_ok-found-in-Medium-clause-fault
+read_member-returns-in_ok-found-in-Medium-clause-fault t c =
+    memory_only c.medium_row.result (λ (f : SchemaFault). Refuses c.args.place.now (row_of c.args.row.now) c.args.value.now f) c.medium_row.ensures.memory
 
 pub read_member-read_media-requires : goal.read_member-read_media-requires
 read_member-read_media-requires t c = (omega (arith, c.decreases, ap depth c.in-Map.is, depth-Map c.in-Map.members), subst HasNumerals c.in-Map.is c.requires.numerals)

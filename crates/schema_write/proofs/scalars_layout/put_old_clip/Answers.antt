@@ -1,20 +1,22 @@
-use Rattle.std.proofs.Common.{[], ◌∷◌, codes}
+use Rattle.std.proofs.Common.{[], ◌∷◌}
 use Rattle.dev_io.proofs.BufferLemmas.{puts_then}
 use Rattle.json_value.specs.declared.Json.{Str, Bool as JsonOfBool, Map}
 use Rattle.json_text.specs.Levels.{deep}
 use Rattle.schema_rows.specs.declared.schemas.Schema.TheVariants as S
+use Rattle.schema_rows.specs.Schemas.{rows_of}
+use Rattle.schema_rows.specs.Families.{others}
 use Rattle.schema_write.specs.Objects.{span_json, effects_json, markers_by, old_mark_json, reference_json}
-use Rattle.schema_write.proofs.ObjectLines.{old_put}
+use Rattle.schema_write.proofs.ObjectLines.{object_put}
 use Rattle.schema_write.proofs.scalars_layout.put_old_clip.Goals as goal
 
 pub returns : goal.returns
-returns g c = old_put (deep c.args.level.now) _ (codes "Clip.1") S.Clip
+returns g c = object_put (deep c.args.level.now) _ S.FirstClip
     (Map c.args.clip.now.metadata ∷ Str c.args.clip.now.name
     ∷ span_json c.args.clip.now.source_range ∷ effects_json c.args.clip.now.effects
-    ∷ markers_by old_mark_json c.args.clip.now.markers ∷ JsonOfBool c.args.clip.now.enabled ∷ [])
-    (codes "media_reference", reference_json c.args.clip.now.media_references)
-    c.args.clip.now.rest c.inside-inner.ensures
-    (puts_then c.put_old_head.ensures (puts_then c.put_object_row.ensures
+    ∷ markers_by old_mark_json c.args.clip.now.markers ∷ JsonOfBool c.args.clip.now.enabled
+    ∷ reference_json c.args.clip.now.media_references ∷ [])
+    (others (rows_of S.Clip) c.args.clip.now.rest) c.inside-inner.ensures
+    (puts_then c.put_head.ensures (puts_then c.put_object_row.ensures
     (puts_then c.put_text_row.ensures (puts_then c.put_span_row.ensures
     (puts_then c.put_effects_row.ensures (puts_then c.put_markers_row.ensures
     (puts_then c.put_flag_row.ensures (puts_then c.put_reference_row.ensures

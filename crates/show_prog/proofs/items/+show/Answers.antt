@@ -1,4 +1,4 @@
-use Rattle.std.proofs.Common.{◌≡◌, ◌∙◌, sym, ap, ap₂, ◌-◌, ℤ, ◌&&◌, Bool, Some, to_z, of_z, arith}
+use Rattle.std.proofs.Common.{◌≡◌, ◌∙◌, sym, ap, ap₂, ◌+◌, ℤ, ◌&&◌, Bool, Some, to_z, of_z, arith}
 use Rattle.std.specs.Int.{w128}
 use Rattle.std.proofs.lemmas.Int.{ints}
 use Rattle.otio_model.specs.declared.compositions.ItemOf.{ItemOf}
@@ -11,8 +11,10 @@ use Rattle.coord.specs.Images.{image, is_empty, is_mix}
 use Rattle.coord.proofs.ImageLemmas.{empty_is}
 use Rattle.coord.specs.Sights.{exact}
 use Rattle.show_prog.specs.Walk.{side, mixture}
-use Rattle.show_prog.proofs.SoundnessFacts.{here, few_below, no_fault, track_facts, stack_facts}
-use Rattle.show_prog.proofs.ShowLemmas.{image_of-Blank, ok_then, seen_then, err_then, err_map, on_err, mix_not_blank, seen_mixed, mixed_some, mixed_from, mixed_to, inside_track, same_kind, track_outside, track_mix, track_item, inside_stack, stack_before, stack_down, stack_here, nothing_past, nothing_shown}
+use Rattle.show_prog.proofs.SoundnessFacts.{here, no_fault, track_facts, stack_facts}
+use Rattle.show_prog.proofs.ShowLemmas.{image_of-Blank, ok_then, seen_then, err_then, err_map, on_err, mix_not_blank, seen_mixed, mixed_some, mixed_from, mixed_to, inside_track, same_kind, track_outside, track_mix, track_item, inside_stack, stack_before, stack_down, stack_here, nothing_shown}
+use Rattle.show_prog.proofs.DarkItems.{lit_shows, stack_lit, stack_unlit}
+use Rattle.otio_model.proofs.KeptLemmas.{taken_all}
 use Rattle.show_prog.proofs.items.+show.Goals as goal
 
 pub show_inside-show_stack-requires : goal.show_inside-show_stack-requires
@@ -83,52 +85,81 @@ show_stack-returns-then-at-lt0-clause-image t c =
     let n = c.if-at-lt0.true in
     image_of-Blank ∙ ap image (sym (stack_before (looks (exact c.args.kind.now) (items_of c.args.children.now)) c.args.at (omega (arith, ints))))
 
-pub show_stack-length_or_zero-requires : goal.show_stack-length_or_zero-requires
-show_stack-length_or_zero-requires t c = record { few = few_below c.args.children.now _ c.child-item.result.now c.child-item.ensures c.requires.1.1.0 }
+pub show_stack-children-init : goal.show_stack-children-init
+show_stack-children-init t c =
+    let l = items_of c.args.children.now in
+    record {
+      within = omega (arith, c.len-end.ensures);
+      same = ap (λ m. stack_shows (looks (exact c.args.kind.now) m) (to_z w128 (of_z w128 c.args.at)))
+          (sym (taken_all l c.len-end.result (omega (arith, c.len-end.ensures))));
+    }
+
+pub show_stack-last_lit-requires-clause-there : goal.show_stack-last_lit-requires-clause-there
+show_stack-last_lit-requires-clause-there t c = omega (arith, c.children.invariant.within)
+
+pub show_stack-last_lit-requires-clause-low : goal.show_stack-last_lit-requires-clause-low
+show_stack-last_lit-requires-clause-low t c = let n = c.if-at-lt0.false in omega (arith, ints)
+
+pub show_stack-child-requires : goal.show_stack-child-requires
+show_stack-child-requires t c = record {
+  there = omega (arith, c.in-Some.ensures.found.before, c.children.invariant.within);
+}
 
 pub show_stack-show_item-requires : goal.show_stack-show_item-requires
 show_stack-show_item-requires t c =
-    let h = here c.args.children.now _ c.child-item.result.now c.child-item.ensures c.requires.1.1.1 c.requires.1.1.0 in
-    let k = h.ticks in let e = c.length_or_zero.ensures in let m = c.if-at-length_or_zero.true in let n = c.if-at-lt0.false in
+    let h = here c.args.children.now _ c.child.result.now c.child.ensures c.requires.1.1.1 c.requires.1.1.0 in
+    let k = h.ticks in let n = c.if-at-lt0.false in
+    let m = lit_shows (items_of c.args.children.now) _ _ c.child.result.now _ c.in-Some.ensures.found c.child.ensures in
     (omega (arith, h.count, c.requires.1.0), (h.few, (h.sound, (omega (arith, ints), omega (arith, ints)))))
 
-pub show_stack-returns-in_err-picture-clause-memory :
-    goal.show_stack-returns-in_err-picture-clause-memory
-show_stack-returns-in_err-picture-clause-memory t c =
-    let x = c.child-item.result.now in let v = exact c.args.kind.now in
+pub show_stack-returns-in_err-picture-in-Some-clause-memory :
+    goal.show_stack-returns-in_err-picture-in-Some-clause-memory
+show_stack-returns-in_err-picture-in-Some-clause-memory t c =
+    let x = c.child.result.now in let v = exact c.args.kind.now in let l = items_of c.args.children.now in
+    let i = c.in-Some.index in
     let a : to_z w128 (of_z w128 c.args.at) ≡ c.args.at = omega (arith, ints) in
-    let e = c.length_or_zero.ensures in let m = c.if-at-length_or_zero.true in let n = c.if-at-lt0.false in
-    let mix = c.in_err-picture.ensures.memory in
+    let n = c.if-at-lt0.false in
+    let m = lit_shows l _ _ x _ c.in-Some.ensures.found c.child.ensures in
+    let mix = c.in_err-picture-in-Some.ensures.memory in
+    let down = stack_lit v l _ i _ _ c.children.invariant.same c.in-Some.ensures.found in
     on_err c.from_residual.result _
-    (ap is_mix (ap (stack_shows (looks v (items_of c.args.children.now))) (sym a)
-    ∙ stack_here v (items_of c.args.children.now) c.children.index (c.children.index - 1) x _ _ c.child-item.ensures (omega arith) c.children.invariant (omega (arith, ints)) (omega (arith, ints)) (mix_not_blank _ mix))
+    (ap is_mix (ap (stack_shows (looks v l)) (sym a)
+    ∙ stack_here v l (i + 1) i x _ _ c.child.ensures (omega arith) down (omega (arith, ints)) (omega (arith, ints)) (mix_not_blank _ mix))
     ∙ mix)
 
 pub show_stack-returns-then-not-is_blank-clause-image :
     goal.show_stack-returns-then-not-is_blank-clause-image
 show_stack-returns-then-not-is_blank-clause-image t c =
-    let x = c.child-item.result.now in let v = exact c.args.kind.now in
+    let x = c.child.result.now in let v = exact c.args.kind.now in let l = items_of c.args.children.now in
+    let i = c.in-Some.index in
     let a : to_z w128 (of_z w128 c.args.at) ≡ c.args.at = omega (arith, ints) in
-    let e = c.length_or_zero.ensures in let m = c.if-at-length_or_zero.true in let n = c.if-at-lt0.false in
+    let n = c.if-at-lt0.false in
+    let m = lit_shows l _ _ x _ c.in-Some.ensures.found c.child.ensures in
     let s : Show = (sight x).shows v (to_z w128 (of_z w128 c.args.at)) in
-    let some = sym (empty_is s) ∙ ap is_empty (sym c.in_ok-picture.ensures.image) ∙ sym c.is_blank.ensures ∙ c.if-not-is_blank.true in
-    c.in_ok-picture.ensures.image
-    ∙ ap image (sym (stack_here v (items_of c.args.children.now) c.children.index (c.children.index - 1) x _ _ c.child-item.ensures (omega arith) c.children.invariant (omega (arith, ints)) (omega (arith, ints)) some)
-    ∙ ap (stack_shows (looks v (items_of c.args.children.now))) a)
-
-pub show_stack-children-preserved-else-not-is_blank-2 :
-    goal.show_stack-children-preserved-else-not-is_blank-2
-show_stack-children-preserved-else-not-is_blank-2 t c =
-    let x = c.child-item.result.now in let v = exact c.args.kind.now in
-    let s : Show = (sight x).shows v (to_z w128 (of_z w128 c.args.at)) in
-    let none = sym (empty_is s) ∙ ap is_empty (sym c.in_ok-picture.ensures.image) ∙ sym c.is_blank.ensures ∙ c.if-not-is_blank.false in
-    stack_down v (items_of c.args.children.now) c.children.index (c.children.index - 1) x _ _ c.child-item.ensures (omega arith) c.children.invariant (nothing_shown v x _ none)
+    let some = sym (empty_is s) ∙ ap is_empty (sym c.in_ok-picture-in-Some.ensures.image) ∙ sym c.is_blank.ensures ∙ c.if-not-is_blank.true in
+    let down = stack_lit v l _ i _ _ c.children.invariant.same c.in-Some.ensures.found in
+    c.in_ok-picture-in-Some.ensures.image
+    ∙ ap image (sym (stack_here v l (i + 1) i x _ _ c.child.ensures (omega arith) down (omega (arith, ints)) (omega (arith, ints)) some)
+    ∙ ap (stack_shows (looks v l)) a)
 
 pub show_stack-children-preserved : goal.show_stack-children-preserved
 show_stack-children-preserved t c =
-    let x = c.child-item.result.now in let v = exact c.args.kind.now in
-    let e = c.length_or_zero.ensures in let m = c.if-at-length_or_zero.false in
-    stack_down v (items_of c.args.children.now) c.children.index (c.children.index - 1) x _ _ c.child-item.ensures (omega arith) c.children.invariant (nothing_past v x (to_z w128 (of_z w128 c.args.at)) (omega (arith, ints)))
+    let x = c.child.result.now in let v = exact c.args.kind.now in let l = items_of c.args.children.now in
+    let i = c.in-Some.index in
+    let s : Show = (sight x).shows v (to_z w128 (of_z w128 c.args.at)) in
+    let none = sym (empty_is s) ∙ ap is_empty (sym c.in_ok-picture-in-Some.ensures.image) ∙ sym c.is_blank.ensures ∙ c.if-not-is_blank.false in
+    let down = stack_lit v l _ i _ _ c.children.invariant.same c.in-Some.ensures.found in
+    record {
+      within = omega (arith, c.in-Some.ensures.found.before, c.children.invariant.within);
+      same = stack_down v l (i + 1) i x _ _ c.child.ensures (omega arith) down (nothing_shown v x _ none);
+    }
+
+pub show_stack-returns-in-None-clause-image : goal.show_stack-returns-in-None-clause-image
+show_stack-returns-in-None-clause-image t c =
+    let v = exact c.args.kind.now in let l = items_of c.args.children.now in
+    let a : to_z w128 (of_z w128 c.args.at) ≡ c.args.at = omega (arith, ints) in
+    let none = stack_unlit v l _ _ _ c.children.invariant.same c.in-None.ensures.none in
+    image_of-Blank ∙ ap image (sym none ∙ ap (stack_shows (looks v l)) a)
 
 pub show_track-returns-in_err-from-in-Some-overlap_at-clause-memory :
     goal.show_track-returns-in_err-from-in-Some-overlap_at-clause-memory

@@ -1,5 +1,5 @@
 -- What ends the cycle, and the children of a stack so far.
-use Rattle.std.proofs.Common.{◌+◌, ◌*◌, ◌≡◌, take}
+use Rattle.std.proofs.Common.{◌+◌, ◌*◌, ◌≡◌, ◌≤◌, length, take}
 use Rattle.otio_model.specs.Counts.{count, count_of}
 use Rattle.otio_model.specs.Trees.{items_of}
 use Rattle.coord.specs.Looks.{stack_shows}
@@ -23,4 +23,11 @@ abbrev pub decreases-show_stack : goal.decreases-show_stack
 decreases-show_stack a = 4 * count a.children.now + 2
 
 abbrev pub invariant-show_stack-children : goal.invariant-show_stack-children
-invariant-show_stack-children l = stack_shows (looks (exact l.kind) (items_of l.children)) l.fn.at ≡ stack_shows (looks (exact l.kind) (take l.index (items_of l.children))) l.fn.at
+invariant-show_stack-children l = record {
+  within : l.end ≤ length (items_of l.children);
+  same : stack_shows (looks (exact l.kind) (items_of l.children)) l.fn.at
+      ≡ stack_shows (looks (exact l.kind) (take l.end (items_of l.children))) l.fn.at;
+}
+
+abbrev pub decreases-show_stack-children : goal.decreases-show_stack-children
+decreases-show_stack-children l = l.end

@@ -1,13 +1,27 @@
-use Rattle.std.proofs.Common.{◌++◌, Ok, take, arith}
+use Rattle.std.proofs.Common.{◌++◌, [], ℕ, List, Ok, take, refl, arith}
 use Rattle.std.proofs.lemmas.Grind.{common_steps}
 use Rattle.json_text.proofs.NamedFaults.{live_all}
+use Rattle.json_text.specs.Reader.{HasRead}
+use Rattle.json_text.specs.declared.reader.JsonReader.{JsonReader}
 use Rattle.json_value.specs.declared.Json.{Json}
 use Rattle.dev_io.specs.declared.files.Failed.{Failed as FailedCall}
 use Rattle.source_files.specs.Formats.{IsJson, RefusesJson, IsCalmJson}
-use Rattle.source_files.proofs.Taking.{taken_more, takes_all, same_more}
+use Rattle.source_files.proofs.Taking.{took_nothing, same_at_first, taken_more, takes_all, same_more}
+use Rattle.source_files.proofs.HandedLemmas.{took_none, took_more, ended, broken, early}
 use Rattle.source_files.proofs.Handing.{judged, refused, failed}
 use Rattle.source_files.proofs.JsonLemmas.{front_refused, with_bytes}
 use Rattle.source_files.proofs.json.read_json.Goals as goal
+
+-- bytes that were read show no fault
+calm_of : (bytes : List ℕ) (reader : JsonReader) → HasRead bytes reader → IsCalmJson bytes
+calm_of bytes reader h = record { few = h.few; live = live_all bytes _ h.ran }
+
+pub pieces-init : goal.pieces-init
+pieces-init g c = record {
+  fed = ([], c.new-reader.ensures, refl, took_nothing _, took_none IsCalmJson _);
+  same = same_at_first _;
+  calm = refl;
+}
 
 pub pieces-preserved : goal.pieces-preserved
 pieces-preserved g c =
@@ -19,6 +33,9 @@ pieces-preserved g c =
         c.in-Ok-feed.ensures.read i.fed.0 i.fed.1,
         grind (arith, common_steps),
         more.0,
+        took_more FailedCall IsCalmJson i.fed.0 _ _ _ c.in-Ok.count c.read.new.buf
+            (calm_of i.fed.0 _ i.fed.1) c.in-Ok.count-test.1 c.in-Ok.ensures.bound.0 (omega arith) i.fed.4
+            c.in-Ok.ensures.handed,
       );
       same = more.1;
       calm = omega (arith, c.in-Ok.ensures.cause.failed, i.calm);
@@ -42,11 +59,7 @@ returns-in-Ok-eq0-clause-text g c =
 pub returns-in-Err-clause-told : goal.returns-in-Err-clause-told
 returns-in-Err-clause-told g c =
     let i = c.pieces.invariant in
-    failed Json IsJson RefusesJson IsCalmJson i.fed.0 _ _ _ (record {
-      few = i.fed.1.few;
-      live =
-          live_all i.fed.0 _ i.fed.1.ran;
-    })
+    failed Json IsJson RefusesJson IsCalmJson i.fed.0 _ _ _ (calm_of i.fed.0 _ i.fed.1)
     i.same i.fed.3 c.in-Err.ensures.told
 
 pub returns-in-Err-feed-clause-told : goal.returns-in-Err-feed-clause-told
@@ -55,5 +68,29 @@ returns-in-Err-feed-clause-told g c =
     let bytes = i.fed.0 ++ take c.in-Ok.count c.read.new.buf in
     let more = taken_more FailedCall i.fed.0 _ _ _ c.in-Ok.count c.read.new.buf i.fed.3 i.same c.in-Ok.ensures.told in
     refused Json IsJson RefusesJson IsCalmJson bytes _ _ c.json_refusal.result more.1 more.0
+    (λ rest. front_refused c.in-Err-feed.fault bytes rest c.json_refusal.result
+    (c.in-Err-feed.ensures.fault i.fed.0 i.fed.1) c.json_refusal.ensures)
+
+pub returns-in-Ok-eq0-clause-given : goal.returns-in-Ok-eq0-clause-given
+returns-in-Ok-eq0-clause-given g c =
+    let i = c.pieces.invariant in
+    let handed = rw c.in-Ok-eq0.field-0-test at c.in-Ok-eq0.ensures.handed in
+    ended IsJson RefusesJson IsCalmJson i.fed.0 _ _ _ c.value_of.result
+    (calm_of i.fed.0 _ i.fed.1) i.fed.4 handed (c.value_of.ensures.read i.fed.0 i.fed.1)
+
+pub returns-in-Err-clause-given : goal.returns-in-Err-clause-given
+returns-in-Err-clause-given g c =
+    let i = c.pieces.invariant in
+    broken Json IsJson RefusesJson IsCalmJson i.fed.0 _ _ _ (calm_of i.fed.0 _ i.fed.1) i.fed.4
+    c.in-Err.ensures.handed
+
+pub returns-in-Err-feed-clause-given : goal.returns-in-Err-feed-clause-given
+returns-in-Err-feed-clause-given g c =
+    let i = c.pieces.invariant in
+    let bytes = i.fed.0 ++ take c.in-Ok.count c.read.new.buf in
+    early Json IsJson RefusesJson IsCalmJson bytes _ _ c.json_refusal.result
+    (took_more FailedCall IsCalmJson i.fed.0 _ _ _ c.in-Ok.count c.read.new.buf
+    (calm_of i.fed.0 _ i.fed.1) c.in-Ok.count-test.1 c.in-Ok.ensures.bound.0 (omega arith) i.fed.4
+    c.in-Ok.ensures.handed)
     (λ rest. front_refused c.in-Err-feed.fault bytes rest c.json_refusal.result
     (c.in-Err-feed.ensures.fault i.fed.0 i.fed.1) c.json_refusal.ensures)

@@ -3,6 +3,8 @@ use Rattle.std.proofs.Common.{◌≡◌, ◌+◌, ◌-◌, ◌≤◌, ℕ, List,
 use Rattle.dev_io.specs.Calls.{Tells}
 use Rattle.edl_text.specs.Reader.{HasRead}
 use Rattle.source_files.specs.declared.lists.TheConstants.{MOST}
+use Rattle.source_files.specs.Formats.{IsCalmList}
+use Rattle.source_files.specs.HandedFiles.{HandsOver, Took}
 use Rattle.source_files.proofs.Taking.{Takes, SameFiles}
 use Rattle.source_files.proofs.lists.read_list.Given as goal
 
@@ -12,7 +14,9 @@ invariant-pieces g l =
     record {
       fed : (bytes : List ℕ) × HasRead l.fn.rate bytes l.reader × (length bytes ≡ l.taken)
           × (length bytes ≤ MOST) × Tells (Takes bytes) (files.known l.fn.files)
-          (files.known l.files);
+          (files.known l.files)
+          × HandsOver (Took (IsCalmList l.fn.rate) bytes) (files.handed l.fn.files)
+          (files.handed l.files);
       same : Tells SameFiles (files.known l.fn.files) (files.known l.files);
       calm : files.faults l.files ≡ files.faults l.fn.files;
     }

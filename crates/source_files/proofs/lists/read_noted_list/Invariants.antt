@@ -4,6 +4,8 @@ use Rattle.dev_io.specs.Calls.{Tells}
 use Rattle.edl_text.specs.Reader.{HasRead}
 use Rattle.note_text.specs.Reader.{HasHeard}
 use Rattle.source_files.specs.declared.lists.TheConstants.{MOST}
+use Rattle.source_files.specs.Formats.{IsCalmList}
+use Rattle.source_files.specs.HandedFiles.{HandsOver, Took}
 use Rattle.source_files.proofs.Taking.{Takes, SameFiles}
 use Rattle.source_files.proofs.lists.read_noted_list.Given as goal
 
@@ -14,7 +16,9 @@ invariant-pieces g l =
       fed : (bytes : List ℕ) × HasRead l.fn.rate bytes l.reader
           × HasHeard l.fn.rate bytes l.listener × (length bytes ≡ l.taken)
           × (length bytes ≤ MOST) × Tells (Takes bytes) (files.known l.fn.files)
-          (files.known l.files);
+          (files.known l.files)
+          × HandsOver (Took (IsCalmList l.fn.rate) bytes) (files.handed l.fn.files)
+          (files.handed l.files);
       same : Tells SameFiles (files.known l.fn.files) (files.known l.files);
       calm : files.faults l.files ≡ files.faults l.fn.files;
     }

@@ -1,4 +1,4 @@
-use Rattle.std.proofs.Common.{◌≤◌, Ok, refl, length, arith}
+use Rattle.std.proofs.Common.{◌≤◌, ◌++◌, Ok, refl, take, length, arith}
 use Rattle.limits.specs.Limits.{most_bytes}
 use Rattle.ale_text.specs.Logs.{IsLog}
 use Rattle.media_list.specs.declared.list.MediaList.{MediaList}
@@ -6,6 +6,7 @@ use Rattle.dev_io.specs.declared.files.Failed.{Failed as FailedCall}
 use Rattle.source_files.specs.Formats.{RefusesLog, IsCalmLog}
 use Rattle.source_files.specs.declared.read_faults.Refusal.TheVariants.{Memory}
 use Rattle.source_files.proofs.Taking.{same_at_first, taken_more, takes_all, same_more}
+use Rattle.source_files.proofs.HandedLemmas.{took_more, gathered_first, gathered_next, ended, broken, early}
 use Rattle.source_files.proofs.Handing.{judged, refused, failed}
 use Rattle.source_files.proofs.ScriptLemmas.{gathered_none, gathered_more}
 use Rattle.source_files.proofs.LogLemmas.{long_log-is_refused}
@@ -14,6 +15,7 @@ use Rattle.source_files.proofs.logs.read_log.Goals as goal
 pub pieces-init : goal.pieces-init
 pieces-init g c = record {
   fed = gathered_none _ _ c.new-bytes.ensures.items;
+  given = gathered_first IsCalmLog _ _ c.new-bytes.ensures.items;
   same = same_at_first _;
   calm = refl;
 }
@@ -23,8 +25,12 @@ pieces-preserved g c =
     let i = c.pieces.invariant in
     let more = gathered_more FailedCall c.pieces.bytes.items c.put_last.new.bytes.items _ _ _
     c.in-Ok.count c.read.new.buf c.in-Ok-put_last.ensures i.fed i.same c.in-Ok.ensures.told in
+    let few : length c.pieces.bytes.items ≤ most_bytes = omega arith in
     record {
       fed = more.0;
+      given = gathered_next FailedCall IsCalmLog c.pieces.bytes.items c.put_last.new.bytes.items _ _ _
+          c.in-Ok.count c.read.new.buf c.in-Ok-put_last.ensures few c.in-Ok.count-test.1
+          c.in-Ok.ensures.bound.0 (omega arith) i.given c.in-Ok.ensures.handed;
       same = more.1;
       calm = omega (arith, c.in-Ok.ensures.cause.failed, i.calm);
     }
@@ -62,3 +68,35 @@ returns-clause-told g c =
     i.same i.fed
     (λ rest. long_log-is_refused bytes rest c.log_refusal.result (omega arith)
     c.log_refusal.ensures)
+
+pub returns-in-Ok-eq0-clause-given : goal.returns-in-Ok-eq0-clause-given
+returns-in-Ok-eq0-clause-given g c =
+    let i = c.pieces.invariant in
+    let few : length c.pieces.bytes.items ≤ most_bytes = omega arith in
+    let handed = rw c.in-Ok-eq0.field-0-test at c.in-Ok-eq0.ensures.handed in
+    ended IsLog RefusesLog IsCalmLog c.pieces.bytes.items _ _ _ c.rows_of.result few
+    i.given handed (rw c.as_slice.ensures.value at c.rows_of.ensures.read)
+
+pub returns-in-Err-clause-given : goal.returns-in-Err-clause-given
+returns-in-Err-clause-given g c =
+    let i = c.pieces.invariant in
+    let few : length c.pieces.bytes.items ≤ most_bytes = omega arith in
+    broken MediaList IsLog RefusesLog IsCalmLog c.pieces.bytes.items _ _ _ few
+    i.given c.in-Err.ensures.handed
+
+pub returns-in-Err-put_last-clause-given : goal.returns-in-Err-put_last-clause-given
+returns-in-Err-put_last-clause-given g c =
+    let i = c.pieces.invariant in
+    let few : length c.pieces.bytes.items ≤ most_bytes = omega arith in
+    let bytes = c.pieces.bytes.items ++ take c.in-Ok.count c.read.new.buf in
+    early MediaList IsLog RefusesLog IsCalmLog bytes _ _ Memory
+    (took_more FailedCall IsCalmLog c.pieces.bytes.items _ _ _ c.in-Ok.count c.read.new.buf few
+    c.in-Ok.count-test.1 c.in-Ok.ensures.bound.0 (omega arith) i.given c.in-Ok.ensures.handed)
+    (λ rest. tt)
+
+pub returns-clause-given : goal.returns-clause-given
+returns-clause-given g c =
+    let i = c.pieces.invariant in
+    let bytes = c.pieces.bytes.items in
+    early MediaList IsLog RefusesLog IsCalmLog bytes _ _ c.log_refusal.result i.given
+    (λ rest. long_log-is_refused bytes rest c.log_refusal.result (omega arith) c.log_refusal.ensures)

@@ -2,6 +2,8 @@
 use Rattle.std.proofs.Common.{◌≡◌, ◌+◌, ◌-◌, ◌≤◌, ℕ, List, length}
 use Rattle.dev_io.specs.Calls.{Tells}
 use Rattle.source_files.specs.declared.media.TheConstants.{MOST}
+use Rattle.source_files.specs.Formats.{IsCalmMedia}
+use Rattle.source_files.specs.HandedFiles.{HandsOver, Took}
 use Rattle.source_files.proofs.Taking.{Takes, SameFiles}
 use Rattle.source_files.proofs.media.read_media.Given as goal
 
@@ -11,7 +13,8 @@ invariant-pieces g l =
     record {
       fed : (bytes : List ℕ) × (bytes ≡ l.reader) × (length bytes ≡ l.taken)
           × (length bytes ≤ MOST) × Tells (Takes bytes) (files.known l.fn.files)
-          (files.known l.files);
+          (files.known l.files)
+          × HandsOver (Took IsCalmMedia bytes) (files.handed l.fn.files) (files.handed l.files);
       same : Tells SameFiles (files.known l.fn.files) (files.known l.files);
       calm : files.faults l.files ≡ files.faults l.fn.files;
     }

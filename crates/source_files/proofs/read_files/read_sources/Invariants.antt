@@ -3,6 +3,7 @@ use Rattle.std.proofs.Common.{◌≡◌, map, take}
 use Rattle.dev_io.specs.Calls.{Tells}
 use Rattle.source_files.specs.Order.{EachIs}
 use Rattle.source_files.specs.Formats.{Suits}
+use Rattle.source_files.specs.HandedFiles.{HandsOver, GivesAll}
 use Rattle.source_files.specs.Reading.{Source, HaveRead, source_of}
 use Rattle.source_files.specs.declared.file_kinds.Content.{Content}
 use Rattle.source_files.proofs.read_files.read_sources.Given as goal
@@ -15,5 +16,7 @@ invariant-sources g l =
       read : Tells (HaveRead done l.contents.items) (files.known l.fn.files) (files.known l.files);
       suits : EachIs (λ (source : Source) (content : Content). Suits source.kind content) done
           l.contents.items;
+      given : HandsOver (GivesAll done l.contents.items) (files.handed l.fn.files)
+          (files.handed l.files);
       calm : files.faults l.files ≡ files.faults l.fn.files;
     }

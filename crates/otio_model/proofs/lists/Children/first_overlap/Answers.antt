@@ -1,19 +1,27 @@
 -- What the pieces answer, of the children that they are.
 use Rattle.std.proofs.Common.{arith, ap, ◌∙◌, ◌≡◌, pos, sym, subst, FitsSigned, to_z-of_z}
 use Rattle.std.specs.Int.{w128}
+use Rattle.otio_model.specs.Kept.{reach_in}
 use Rattle.otio_model.specs.Pieces.{all_items}
 use Rattle.otio_model.specs.Seeks.{IsOver, NoneOver}
-use Rattle.otio_model.proofs.KeptLemmas.{transitions_shown}
 use Rattle.otio_model.proofs.Views.{shown}
 use Rattle.otio_model.proofs.ShownLemmas.{few_shown, total_shown}
 use Rattle.otio_model.proofs.OverLemmas.{abs_pos, over_none, over_seated, over_short, over_without}
 use Rattle.otio_model.proofs.lists.Children.first_overlap.Goals as goal
 
-pub returns-then-self-eq0-clause-none : goal.returns-then-self-eq0-clause-none
-returns-then-self-eq0-clause-none c =
-    over_without c.args.self.now c.self.inside.kept.transitions c.args.ticks
-    (transitions_shown _ c.args.self.now c.self.inside.kept c.self.view_is c.self.invariant.keeps)
-    c.if-self-eq0.true
+pub returns-then-transitions-eq0-clause-none : goal.returns-then-transitions-eq0-clause-none
+returns-then-transitions-eq0-clause-none c =
+    over_without c.args.self.now c.transitions.result c.args.ticks c.transitions.ensures
+    c.if-transitions-eq0.true
+
+pub over_in_pieces-requires-clause-reach : goal.over_in_pieces-requires-clause-reach
+over_in_pieces-requires-clause-reach c =
+    omega (
+      arith,
+      c.overlap_reach.ensures,
+      ap reach_in (shown _ _ c.self.view_is),
+      ap (λ l. reach_in (all_items l)) c.as_slice.ensures.value,
+    )
 
 pub over_in_pieces-requires-clause-fits : goal.over_in_pieces-requires-clause-fits
 over_in_pieces-requires-clause-fits c =

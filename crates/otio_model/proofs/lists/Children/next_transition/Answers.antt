@@ -1,17 +1,15 @@
 -- What the pieces answer, of the children that they are.
 use Rattle.std.proofs.Common.{arith, ap, ◌∙◌, sym}
 use Rattle.otio_model.specs.Pieces.{all_items}
-use Rattle.otio_model.proofs.KeptLemmas.{transitions_shown}
 use Rattle.otio_model.proofs.Views.{shown}
 use Rattle.otio_model.proofs.ShownLemmas.{few_shown, total_shown}
 use Rattle.otio_model.proofs.NextLemmas.{next_seated, next_short, no_more, none_seated}
 use Rattle.otio_model.proofs.lists.Children.next_transition.Goals as goal
 
-pub returns-then-self-eq0-clause-none : goal.returns-then-self-eq0-clause-none
-returns-then-self-eq0-clause-none c =
-    no_more c.args.self.now c.self.inside.kept.transitions c.args.index
-    (transitions_shown _ c.args.self.now c.self.inside.kept c.self.view_is c.self.invariant.keeps)
-    c.if-self-eq0.true
+pub returns-then-transitions-eq0-clause-none : goal.returns-then-transitions-eq0-clause-none
+returns-then-transitions-eq0-clause-none c =
+    no_more c.args.self.now c.transitions.result c.args.index c.transitions.ensures
+    c.if-transitions-eq0.true
 
 pub next_in_pieces-requires-clause-fits : goal.next_in_pieces-requires-clause-fits
 next_in_pieces-requires-clause-fits c =

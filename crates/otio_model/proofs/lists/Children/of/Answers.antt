@@ -23,7 +23,8 @@ invariant_of-result c = record {
     ap length c.number.ensures.items,
     ap length c.in_ok-pieces.ensures.items,
   );
-  keeps = c.kept_pieces-kept.ensures ∙ ap (λ l. kept_of (all_items l)) c.as_slice.ensures.value;
+  keeps = c.in_ok-kept.ensures.ok ∙ c.kept_pieces-kept.ensures
+      ∙ ap (λ l. kept_of (all_items l)) c.as_slice.ensures.value;
 }
 
 pub returns : goal.returns
