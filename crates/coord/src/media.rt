@@ -20,12 +20,12 @@ fn text_in(value: &Json) -> Option<&Text>
     }
 }
 
-// The value of a member of an object.
-fn member_in<'a>(name: &str, value: &'a Json) -> Option<&'a Json>
+// The value of a member of an object in a clip's metadata.
+fn member_in<'a>(name: &str, value: &'a Json, clip: &Clip) -> Option<&'a Json>
     ensures { option_copied result ≡ keys.member_in name.now (out-Json value.now) }
 {
     match value {
-        Json::Map(members) => members.get(name),
+        Json::Map(members) => clip.inner_value(members, name),
         _ => None,
     }
 }
@@ -35,7 +35,7 @@ fn member_in<'a>(name: &str, value: &'a Json) -> Option<&'a Json>
 pub fn own_reel(clip: &Clip) -> Option<&Text>
     ensures { option_copied result ≡ keys.reel_of clip.now }
 {
-    text_in(member_in("reel", clip.metadata.get("cmx_3600")?)?)
+    text_in(member_in("reel", clip.metadata_value("cmx_3600")?, clip)?)
 }
 
 /// The rate of the clip's media: of their available range, else of its source_range. `None` where

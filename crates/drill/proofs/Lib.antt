@@ -15,6 +15,8 @@ pub mod FaultlessItems
 pub mod FaultlessTracks
 pub mod SoundTimelines
 pub mod KeptLists
+pub mod ToldLists
+pub mod SmallSums
 pub mod Starts
 pub mod Undone
 pub mod OneTally

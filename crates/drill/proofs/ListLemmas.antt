@@ -2,11 +2,12 @@
 use Rattle.std.proofs.Common.{◌≡◌, ◌<◌, ◌+◌, ◌++◌, refl, sym, ap, subst, ◌∙◌, ℕ, List, [], ◌∷◌, map, arith, All, inl, inr}
 use Rattle.std.specs.Prelude.{codes, AllPairs, get_or, ◌⊎◌}
 use Rattle.std.proofs.lemmas.Fmt.{decimal_digit}
+use Rattle.std.proofs.lemmas.Int.{ints}
 use Rattle.std.proofs.lemmas.List.Elements.{All-cons, All-nil}
 use Rattle.std.proofs.lemmas.List.Kept.{AllPairs-cons}
 use Rattle.text_lines.specs.Lines.{ended_lines, last_line, lines_of, without_return}
 use Rattle.media_rows.specs.declared.row.MediaRow.{MediaRow}
-use Rattle.media_rows.specs.Rows.{AreOther, AreRows}
+use Rattle.media_rows.specs.Rows.{AreOther, AreRows, IsRowInRange}
 use Rattle.media_list.specs.Lines.{one, tab_fields, field_list}
 use Rattle.media_list.specs.Lists.{IsFault, IsMediaList, LinesSay}
 use Rattle.media_list.specs.declared.faults.MediaFault.{MediaFault}
@@ -123,6 +124,21 @@ is_list = subst (IsMediaList text) same_rows (record {
   say = subst (λ l. LinesSay l spelled_rows) (sym lines) say;
   apart = apart;
 })
+
+-- their media lie within a million seconds of 0
+row_ranged : (k : ℕ) → IsRowInRange (row k)
+row_ranged k = record {
+  some = omega (arith, ints);
+  starts = record { low = omega (arith, ints); high = omega (arith, ints) };
+  lasts = record { low = omega (arith, ints); high = omega (arith, ints) };
+}
+
+pub rows_ranged : All IsRowInRange rows
+rows_ranged =
+    All-cons IsRowInRange (row 0) (row 1 ∷ row 2 ∷ row 3 ∷ []) (row_ranged 0)
+    (All-cons IsRowInRange (row 1) (row 2 ∷ row 3 ∷ []) (row_ranged 1)
+    (All-cons IsRowInRange (row 2) (row 3 ∷ []) (row_ranged 2)
+    (All-cons IsRowInRange (row 3) [] (row_ranged 3) (All-nil IsRowInRange))))
 
 -- reading the text fails for want of memory alone
 pub only_memory : (f : MediaFault) → (f ≡ Memory) ⊎ IsFault text f → f ≡ Memory

@@ -1,15 +1,15 @@
 -- The track of channel V among root children, and what it shows.
-use Rattle.std.proofs.Common.{◌≡◌, ◌∙◌, refl, sym, ap, ℕ, ◌+◌, ℤ, pos, Bool, true, false, cond, List, Option, Some, None, codes, drop, slice_get}
+use Rattle.std.proofs.Common.{inl, inr, subst, ◌≡◌, ◌∙◌, refl, sym, ap, ℕ, ◌+◌, ℤ, pos, Bool, true, false, cond, List, Option, Some, None, codes, drop, slice_get}
 use Rattle.otio_model.specs.declared.compositions.ItemOf.{ItemOf}
 use Rattle.otio_model.specs.declared.compositions.Listed.{Listed}
 use Rattle.otio_model.specs.declared.timelines.Timeline.{Timeline}
 use Rattle.otio_model.specs.Trees.{items_of}
 use Rattle.coord.specs.Programs.{instant, program, shown_by}
-use Rattle.coord.specs.Images.{image}
+use Rattle.coord.specs.Images.{Image, image}
 use Rattle.coord.proofs.Members.{next}
 use Rattle.edl_list.specs.declared.list.Channel.TheVariants.{V}
 use Rattle.edl_frames.specs.Channels.{is_track_of, nth_track, channel_track, own_key, keyed_shown, on}
-use Rattle.drill.specs.Sums.{child_sum, channel_sum}
+use Rattle.drill.specs.Sums.{child_sum, channel_sum, LeavesRange, StopsChild, StopsChannel}
 use Rattle.drill.proofs.SumLemmas.{same_sum, nothing_seen}
 
 -- ---- the first track of kind Video
@@ -44,14 +44,27 @@ seen_of : (o : Option (ItemOf Listed)) (u : ℤ)
 seen_of None u = refl
 seen_of (Some x) u = refl
 
+-- what is seen of its track is what is seen on the channel
+track_seen : (t : Timeline) (k : ℕ)
+    → channel_track V (items_of t.tracks.children) ≡ slice_get (items_of t.tracks.children) k
+    → (frame : ℤ) → image (program t k frame) ≡ on t V frame
+track_seen t k e frame = seen_of (slice_get (items_of t.tracks.children) k) (instant t frame)
+    ∙ ap (λ o. keyed_shown own_key o (instant t frame)) (sym e)
+
 -- the sum over its track is that of the channel
 pub track_sum : (t : Timeline) (k : ℕ) (first : ℤ) (n : ℕ)
     → channel_track V (items_of t.tracks.children) ≡ slice_get (items_of t.tracks.children) k
     → child_sum t k first n ≡ channel_sum t first n
 track_sum t k first n e =
-    same_sum (λ (frame : ℤ). image (program t k frame)) (on t V) first n (λ frame.
-    seen_of (slice_get (items_of t.tracks.children) k) (instant t frame)
-    ∙ ap (λ o. keyed_shown own_key o (instant t frame)) (sym e))
+    same_sum (λ (frame : ℤ). image (program t k frame)) (on t V) first n (track_seen t k e)
+
+-- why it isn't made is why that isn't
+pub track_stops : (t : Timeline) (k : ℕ) (first : ℤ) (n : ℕ)
+    → channel_track V (items_of t.tracks.children) ≡ slice_get (items_of t.tracks.children) k
+    → StopsChild t k first n → StopsChannel t first n
+track_stops t k first n e (inl mix) = inl (k, mix)
+track_stops t k first n e (inr wide) = inr (subst (λ (f : ℤ → Image). LeavesRange f first n)
+    (λ i frame. track_seen t k e frame i) wide)
 
 -- without a track the sum is 0
 pub no_track : (t : Timeline) (first : ℤ) (n : ℕ)

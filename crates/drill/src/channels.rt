@@ -1,6 +1,6 @@
 //! Sums over what is shown on a list's channel for pictures.
 
-ghost use Rattle.std.specs.Prelude.{◌≡◌, ◌<◌, ◌^◌, length, codes, slice_get, None, IfNone, IfOk, IfSome};
+ghost use Rattle.std.specs.Prelude.{◌≡◌, ◌<◌, ◌^◌, length, codes, slice_get, None, IfNone, IfOk, IfSome, OnErr};
 ghost use Rattle.otio_model.specs.Counts.{count as count_all};
 ghost use Rattle.otio_model.specs.Trees.{items_of};
 ghost use Rattle.coord.specs.Soundness.{IsFaultless};
@@ -51,7 +51,8 @@ pub fn channel_sum(
 ) -> Result<i128, AllocError>
     requires few { count_all timeline.now.tracks.children < 2 ^ 32 }
     requires sound { IsFaultless timeline.now }
-    ensures { IfOk result (λ sum. sum ≡ sums.channel_sum timeline.now first count) }
+    ensures sum { IfOk result (λ sum. sum ≡ sums.channel_sum timeline.now first count) }
+    ensures memory { OnErr result (sums.StopsChannel timeline.now first count) }
 {
     match video_index(&timeline.tracks.children) {
         Some(index) => child_sum(alloc, timeline, index, first, count),

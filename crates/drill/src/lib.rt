@@ -32,7 +32,7 @@ pub use draw_laws::draws_are_worked;
 pub use edit_loop::{Edited, run_edits, undo_all};
 pub use frames::{track_frames, track_ticks};
 pub use generator::Random;
-pub use laws::{one_outcome, undone_is_start};
+pub use laws::{lists_are_told, one_outcome, shown_sums_fit, undone_is_start};
 pub use lines::write_tally;
 pub use list_outcome::Listed;
 pub use list_round_trip::conformed;

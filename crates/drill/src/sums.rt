@@ -1,14 +1,14 @@
 //! Sums over record frames.
 
-ghost use Rattle.std.specs.Prelude.{◌≡◌, ◌<◌, ◌^◌, ◌+ℤ◌, pos, length, IfOk};
+ghost use Rattle.std.specs.Prelude.{◌≡◌, ◌<◌, ◌^◌, ◌+ℤ◌, pos, true, length, IfOk, OnErr};
 ghost use Rattle.otio_model.specs.Counts.{count as count_all};
 ghost use Rattle.otio_model.specs.Trees.{items_of};
-ghost use Rattle.coord.specs.Programs.{program};
-ghost use Rattle.coord.specs.Images.{image};
+ghost use Rattle.coord.specs.Programs.{program, start_frame as first_frame};
+ghost use Rattle.coord.specs.Images.{image, is_mix};
 ghost use Rattle.coord.specs.Soundness.{IsFaultless};
 ghost use Rattle.show_prog.specs.Clocks.{IsClockOf};
 ghost use Rattle.drill.specs.Sums as sums;
-ghost use Rattle.drill.specs.Sums.{numbers_of};
+ghost use Rattle.drill.specs.Sums.{numbers_of, IsWide, StopsChild};
 
 use crate::pictures::picture_sum;
 use crate::record_frames::frames_of;
@@ -19,7 +19,8 @@ use std::alloc::{AllocError, Global};
 
 // The record frame so many after another; an error where its number leaves 128 bits.
 fn frame_behind(first: i128, count: u128) -> Result<i128, AllocError>
-    ensures { IfOk result (λ frame. frame ≡ first +ℤ pos count) }
+    ensures frame { IfOk result (λ frame. frame ≡ first +ℤ pos count) }
+    ensures wide { OnErr result (IsWide (first +ℤ pos count)) }
 {
     match first.checked_add_unsigned(count) {
         Some(frame) => Ok(frame),
@@ -29,7 +30,8 @@ fn frame_behind(first: i128, count: u128) -> Result<i128, AllocError>
 
 // Two sums added; an error where that leaves 128 bits.
 fn added(sum: i128, more: i128) -> Result<i128, AllocError>
-    ensures { IfOk result (λ all. all ≡ sum +ℤ more) }
+    ensures sum { IfOk result (λ all. all ≡ sum +ℤ more) }
+    ensures wide { OnErr result (IsWide (sum +ℤ more)) }
 {
     match sum.checked_add(more) {
         Some(all) => Ok(all),
@@ -49,7 +51,9 @@ fn sum_at(
     requires sound { IsFaultless timeline.now }
     requires clock { IsClockOf timeline.now clock }
     requires there { child < length (items_of timeline.now.tracks.children) }
-    ensures { IfOk result (λ sum. sum ≡ numbers_of (image (program timeline.now child frame))) }
+    ensures sum { IfOk result
+        (λ sum. sum ≡ numbers_of (image (program timeline.now child frame))) }
+    ensures memory { OnErr result (is_mix (program timeline.now child frame) ≡ true) }
 {
     let picture = match show_at(alloc, timeline, clock, child, frame) {
         Ok(picture) => picture,
@@ -76,7 +80,8 @@ pub fn child_sum(
     requires few { count_all timeline.now.tracks.children < 2 ^ 32 }
     requires sound { IsFaultless timeline.now }
     requires there { child < length (items_of timeline.now.tracks.children) }
-    ensures { IfOk result (λ sum. sum ≡ sums.child_sum timeline.now child first count) }
+    ensures sum { IfOk result (λ sum. sum ≡ sums.child_sum timeline.now child first count) }
+    ensures memory { OnErr result (StopsChild timeline.now child first count) }
 {
     let clock = clock_of(timeline);
     let mut total: i128 = 0;
@@ -96,7 +101,9 @@ pub fn child_sum(
 pub fn back_sum(alloc: Global, timeline: &Timeline) -> Result<i128, AllocError>
     requires few { count_all timeline.now.tracks.children < 2 ^ 32 }
     requires sound { IsFaultless timeline.now }
-    ensures { IfOk result (λ sum. sum ≡ sums.back_sum timeline.now) }
+    ensures sum { IfOk result (λ sum. sum ≡ sums.back_sum timeline.now) }
+    ensures memory { OnErr result
+        (StopsChild timeline.now 0 (first_frame timeline.now) (sums.frames_of timeline.now)) }
 {
     if timeline.tracks.children.len() == 0 {
         return Ok(0);

@@ -1,5 +1,5 @@
 -- The child that holds an instant, by its index and its start.
-use Rattle.std.proofs.Common.{◌≡◌, refl, sym, subst, ap, ap₂, ◌∙◌, ℕ, zero, suc, ◌+◌, ◌<◌}
+use Rattle.std.proofs.Common.{◌≡◌, refl, sym, subst, ap, ap₂, ◌∙◌, ℕ, zero, suc, ◌+◌}
 use Rattle.std.proofs.Common.{ℤ, pos, ◌+ℤ◌, ◌-ℤ◌, ◌≤ℤ◌, ◌<ℤ◌, Bool, true, false, arith}
 use Rattle.std.proofs.Common.{List, [], ◌∷◌, Option, Some, None, take, drop}
 use Rattle.std.specs.Prelude.{int_lt, int_le, ◌&&◌, ◌%◌, ◌==◌, ◌*ℤ◌, unsigned_abs, option_map}

@@ -5,6 +5,7 @@ pub mod Further
 pub mod Holding
 pub mod LongLemmas
 pub mod ZoneLemmas
+pub mod EndLemmas
 pub mod Floors
 pub mod Steps
 pub mod Places

@@ -35,6 +35,7 @@ mod totals;
 mod touched_children;
 mod tracks;
 mod whole_tick_cuts;
+mod zone_ends;
 
 pub use clamps::is_zero;
 pub use descent::down;

@@ -11,8 +11,9 @@ ghost use Rattle.edits.specs.Narrow as narrow;
 ghost use Rattle.pieces.specs.Short.{AreCuttable};
 
 use crate::stretches::touched_stretch;
+use crate::zone_ends::{zone_back, zone_front};
 use otio_model::{Children, Item};
-use pieces::{RangedFault, add_copy, back_items, front_items, is_stripped, sound_ticks};
+use pieces::{RangedFault, add_copy, is_stripped, sound_ticks};
 use std::alloc::{AllocError, Global};
 use tick_time::Rate;
 
@@ -58,34 +59,6 @@ fn joined(front: Vec<Item>, put: Vec<Item>, back: Vec<Item>) -> Result<Vec<Item>
     put.append(&mut back)?;
     all.append(&mut put)?;
     Ok(all)
-}
-
-// The front of a list up to a zone, what is put, and the back of the list from the zone's end on.
-fn between(
-    alloc: Global,
-    list: &[Item],
-    zone: Zone,
-    put: Vec<Item>,
-    rate: Rate,
-) -> Result<Vec<Item>, RangedFault>
-    requires faultless { AreCuttable list.now }
-    ensures made { IfOk result (λ all. (n : List Child) → all_made rate n ≡ Some put.items →
-        all_made rate (cuts.put_between list.now zone.from n zone.to) ≡ Some all.items) }
-    ensures far { IfErr result (λ fault. fault ≡ RangedFault.Range → (n : List Child) →
-        has_far (cuts.put_between list.now zone.from n zone.to) ≡ true) }
-{
-    let front = match front_items(alloc, list, zone.from, rate) {
-        Ok(front) => front,
-        Err(fault) => return Err(fault),
-    };
-    let back = match back_items(alloc, list, zone.to, rate) {
-        Ok(back) => back,
-        Err(_) => return Err(RangedFault::Memory),
-    };
-    match joined(front, put, back) {
-        Ok(all) => Ok(all),
-        Err(_) => Err(RangedFault::Memory),
-    }
 }
 
 /// Copies of these children without the transitions that a zone strips: those whose overlap has an
@@ -147,18 +120,20 @@ pub fn fill_zone(
         zone.from n zone.to) ≡ true) }
 {
     let (stretch, inner) = touched_stretch(children, zone);
-    let list = match kept(alloc, children, stretch, inner.from, inner.to) {
-        Ok(list) => list,
+    let front = match zone_front(alloc, children, stretch, inner, rate) {
+        Ok(front) => front,
+        Err(fault) => return Err(fault),
+    };
+    let back = match zone_back(alloc, children, stretch, inner, rate) {
+        Ok(back) => back,
         Err(_) => return Err(RangedFault::Memory),
     };
-    let between = between(alloc, list.as_slice(), inner, put, rate);
-    drop(list);
-    match between {
-        Ok(put) => Ok(Middle {
+    match joined(front, put, back) {
+        Ok(all) => Ok(Middle {
             at: stretch.at,
             count: stretch.count,
-            put,
+            put: all,
         }),
-        Err(fault) => Err(fault),
+        Err(_) => Err(RangedFault::Memory),
     }
 }

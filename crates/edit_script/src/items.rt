@@ -116,7 +116,7 @@ fn media_of(alloc: Global, row: &MediaRow) -> Result<Media, AllocError>
 fn references_of(alloc: Global, media: Media) -> Result<MediaMap, AllocError>
     ensures { IfOk result (λ map. map ≡ (codes "DEFAULT_MEDIA", media) ∷ []) }
 {
-    NamedValues::one(alloc, "DEFAULT_MEDIA", media)
+    MediaMap::one(alloc, "DEFAULT_MEDIA", media)
 }
 
 // The clip of a name that shows so much of a row's media.

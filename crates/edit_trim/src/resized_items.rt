@@ -20,7 +20,7 @@ ghost use Rattle.edit_trim.specs.Changes.{IsChange, Leaves};
 use coord::speed;
 use edit_plans::{is_gap, is_zero};
 use otio_model::{Item, copy_item};
-use pieces::{RangedFault, new_gap, ranged, sound_ticks, start_ticks};
+use pieces::{RangedFault, new_gap, ranged, sound_ticks, start_ticks, with_last};
 use std::alloc::Global;
 use tick_time::Rate;
 
@@ -143,15 +143,7 @@ fn alone(alloc: Global, item: Item) -> Result<Vec<Item>, RangedFault>
     ensures made { IfOk result (λ list. list.items ≡ item ∷ []) }
     ensures far { IfErr result (λ fault. fault ≡ RangedFault.Memory) }
 {
-    let mut list = Vec::new(alloc);
-    match list.push(item) {
-        Ok(()) => Ok(list),
-        Err(refused) => {
-            drop(refused);
-            drop(list);
-            Err(RangedFault::Memory)
-        }
-    }
+    with_last(Vec::new(alloc), item)
 }
 
 // How long a gap is that grows by so much.

@@ -158,7 +158,7 @@ fn name_of(alloc: Global, side: &Side, reel: &Text) -> Result<Text, AllocError>
 fn references_of(alloc: Global, reference: Media) -> Result<MediaMap, AllocError>
     ensures { IfOk result (λ map. map ≡ (codes "DEFAULT_MEDIA", reference) ∷ []) }
 {
-    NamedValues::one(alloc, "DEFAULT_MEDIA", reference)
+    MediaMap::one(alloc, "DEFAULT_MEDIA", reference)
 }
 
 /// The clip of a side of a reel, so many frames of the record long.

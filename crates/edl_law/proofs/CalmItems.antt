@@ -1,6 +1,6 @@
 -- Items of a track in which no two transitions stand side by side and no offset is negative.
-use Rattle.std.proofs.Common.{◌≡◌, refl, ap, ◌∙◌, ℕ, zero, suc, ℤ, pos, ◌≤ℤ◌, ◌&&◌, ◌||◌, subst, Bool, true, false, List, [], ◌∷◌, Option, Some, None, slice_get, arith}
-use Rattle.std.specs.Prelude.{int_lt, option_and_then}
+use Rattle.std.proofs.Common.{◌≡◌, refl, ap, ◌∙◌, ℕ, zero, suc, pos, ◌≤ℤ◌, ◌&&◌, ◌||◌, subst, Bool, true, false, List, [], ◌∷◌, Option, Some, None, slice_get, arith}
+use Rattle.std.specs.Prelude.{option_and_then}
 use Rattle.std.proofs.lemmas.Int.{ints}
 use Rattle.limits.proofs.IntegerTests.{int_lt-false}
 use Rattle.tick_time.specs.declared.times.Time.{Time}

@@ -7,7 +7,8 @@ use Rattle.otio_model.specs.declared.compositions.ItemOf.{ItemOf}
 use Rattle.otio_model.specs.declared.compositions.Listed.{Listed}
 use Rattle.otio_model.specs.declared.timelines.Timeline.{Timeline}
 use Rattle.otio_model.specs.Trees.{items_of}
-use Rattle.coord.specs.Programs.{start_frame}
+use Rattle.coord.specs.Keys.{frame_rate}
+use Rattle.coord.specs.Programs.{record_rate, start_frame}
 use Rattle.coord.specs.Soundness.{IsCalm}
 use Rattle.edl_list.specs.declared.list.Channel.{Channel}
 use Rattle.edl_list.specs.declared.list.Side.{Side}
@@ -40,7 +41,7 @@ numbered_hold Q z (e ∷ es) h = (
 )
 
 -- the events of a track, from its start on
-track_holds : (Q : Bool → Side → ℤ → Type 0) (rate : Rate) (first : ℤ) (media : MediaRows)
+pub track_holds : (Q : Bool → Side → ℤ → Type 0) (rate : Rate) (first : ℤ) (media : MediaRows)
     (drop wide : Bool) → SidesHold Q (job rate first media drop wide) → (c : Channel)
     (l : List (ItemOf Listed)) → AreCalm l
     → AreFree (job rate first media drop wide) c (pos 0) head l
@@ -58,18 +59,18 @@ track_holds Q rate first media drop wide sides c l calm free =
     (λ lap e. sides.black_out (frames_in (job rate first media drop wide) (lap.end -ℤ lap.begin))))
 
 -- what holds of the events of each track that may be written, and of none, holds of a channel's
-pub per_channel : (t : Timeline) (list : EventList) (media : MediaRows) (drop wide : Bool)
-    → IsCalm t → not_carried t media drop wide ≡ None → IsListOf t media drop wide list
+pub per_channel : (t : Timeline) (rate : Rate) (media : MediaRows) (drop wide : Bool)
+    → IsCalm t → not_carried t media drop wide ≡ None → frame_rate rate ≡ record_rate t
     → (P : List Event → Type 0) (c : Channel) → P []
     → ((l : List (ItemOf Listed)) → AreCalm l
-    → AreFree (job list.rate (start_frame t) media drop wide) c (pos 0) head l
-    → P (track_events (job list.rate (start_frame t) media drop wide) c l))
+    → AreFree (job rate (start_frame t) media drop wide) c (pos 0) head l
+    → P (track_events (job rate (start_frame t) media drop wide) c l))
     → P (events_on (job_of t media drop wide) c (channel_track c (items_of t.tracks.children)))
-per_channel t list media drop wide calm carried i P c none track =
+per_channel t rate media drop wide calm carried same P c none track =
     by (channel_track c (items_of t.tracks.children)) refl
   where
-    rate_is : job_of t media drop wide ≡ job list.rate (start_frame t) media drop wide
-    rate_is = same_job t list.rate media drop wide i.rate
+    rate_is : job_of t media drop wide ≡ job rate (start_frame t) media drop wide
+    rate_is = same_job t rate media drop wide same
 
     none_said : first_said (examine_all (job_of t media drop wide) 0 []
         (items_of t.tracks.children)) ≡ None
@@ -103,6 +104,6 @@ channels_hold Q t list media drop wide sides calm carried i = λ c. (
   start_frame t,
   numbered_hold Q (start_frame t) (on_channel c list.events)
       (subst (λ es. EventsHold Q (start_frame t) es) (sym (i.events c))
-      (per_channel t list media drop wide calm carried i (λ es. EventsHold Q (start_frame t) es) c tt
+      (per_channel t list.rate media drop wide calm carried i.rate (λ es. EventsHold Q (start_frame t) es) c tt
       (λ l a f. track_holds Q list.rate (start_frame t) media drop wide sides c l a f))),
 )

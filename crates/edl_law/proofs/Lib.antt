@@ -46,6 +46,8 @@ pub mod ListDays
 pub mod SameLists
 pub mod WorkedTracks
 pub mod OneList
+pub mod MergedEvents
+pub mod MadeLists
 pub mod OneReason
 pub mod FewItems
 pub mod WritableItems

@@ -153,6 +153,6 @@ list_is_good t list media drop wide day calm rows long h carried i =
     days c = numbered_day (job list.rate (start_frame t) media drop wide) (on_channel c list.events)
         (subst (λ es. All (InDay (job list.rate (start_frame t) media drop wide)) es)
         (sym (i.events c))
-        (per_channel t list media drop wide calm carried i (λ es. All (InDay (job list.rate (start_frame t) media drop wide)) es) c
+        (per_channel t list.rate media drop wide calm carried i.rate (λ es. All (InDay (job list.rate (start_frame t) media drop wide)) es) c
         (λ k d l. absurd (omega (arith, l)))
         (λ l a f. all_in_day (job list.rate (start_frame t) media drop wide) c (pos 0) head l f)))

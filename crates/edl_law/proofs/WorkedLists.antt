@@ -10,7 +10,7 @@ facts_24 =
     subst (λ n. RateFacts n (pos 1)) clock.1.num
     (subst (λ d. RateFacts clock.0.rate.num d) clock.1.den (rate_facts clock.0.rate))
 
-abbrev exact_24 : Rate
+abbrev pub exact_24 : Rate
 exact_24 = built_rate (pos 24) (pos 1) facts_24
 
 worked_24 : AreWorkedLists exact_24

@@ -103,6 +103,13 @@ pub fn lists_are_fine()
         IsListOf t media drop wide list → IsFine list media drop wide }
 {}
 
+/// Law: each timeline that is carried has a list, for each media list, mode and layout.
+pub fn lists_are_there()
+    ensures { (t : Timeline) (media : MediaRows) (drop wide : Bool) → IsCalm t →
+        not_carried t media drop wide ≡ None →
+        (list : EventList) × IsListOf t media drop wide list }
+{}
+
 /// Law: a timeline has one list at most.
 pub fn lists_of_timelines_are_one()
     ensures { (t : Timeline) (media : MediaRows) (drop wide : Bool) (a b : EventList) →

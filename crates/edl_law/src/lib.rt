@@ -25,7 +25,7 @@ mod written_laws;
 pub use frame_laws::{
     conform_faults_are_one, conformed_timelines_are_calm, conformed_timelines_are_one,
     conformed_timelines_are_there, conformed_timelines_show_lists, frames_are_kept, lists_are_fine,
-    lists_are_worked, lists_of_timelines_are_one, lists_show_timelines,
+    lists_are_there, lists_are_worked, lists_of_timelines_are_one, lists_show_timelines,
     narrow_lists_have_few_items, reasons_are_one, timelines_have_counts, tracks_are_worked,
 };
 pub use written_laws::written_lists_keep_frames;

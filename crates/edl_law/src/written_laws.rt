@@ -15,16 +15,16 @@ ghost use Rattle.edl_law.specs.Premises.{AreListed};
 ghost use Rattle.edl_law.specs.Kept.{KeepsFrames};
 
 /// Law: the text of a sound timeline's list, of no more bytes than a reader takes, keeps the
-/// timeline's frames: it is read as one list and no other, the media list holds that list, and each
-/// timeline that it conforms to shows what the timeline shows. In the narrow layout that list makes
-/// no more items than a timeline may have. The title and the names of the list are UTF-8, as each
-/// text is.
+/// timeline's frames: it is read as one list and no other, the media list holds that list, it
+/// conforms to a timeline, and each such timeline shows what the first one shows. In the narrow
+/// layout that list makes no more items than a timeline may have. The title and the names of the
+/// list are UTF-8, as each text is.
 pub fn written_lists_keep_frames()
     ensures kept { (t : Timeline) (media : MediaRows) (drop wide : Bool) (list : EventList) →
         IsSound t → AreListed media → not_carried t media drop wide ≡ None →
         IsListOf t media drop wide list → IsUtf8 list.title → All HasNames list.events →
         length (spelling list drop wide) ≤ most_bytes →
-        KeepsFrames t media (spelling list drop wide) }
+        KeepsFrames t media wide (spelling list drop wide) }
     ensures few { (t : Timeline) (media : MediaRows) (drop : Bool) (list read : EventList) →
         IsCalm t → AreListed media → not_carried t media drop false ≡ None →
         IsListOf t media drop false list → IsUtf8 list.title → All HasNames list.events →

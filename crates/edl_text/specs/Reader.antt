@@ -1,5 +1,5 @@
 -- What a reader of a list was fed.
-use Rattle.std.specs.Prelude.{◌≡◌, ◌≤◌, ℕ, List, [], ◌++◌, length, Some, None}
+use Rattle.std.specs.Prelude.{◌≡◌, ◌⊎◌, ◌≤◌, ℕ, List, [], ◌++◌, length, Some, None}
 use Rattle.limits.specs.Limits.{most_bytes}
 use Rattle.text_lines.specs.First.{HasNone}
 use Rattle.text_lines.specs.Lines.{ended_lines, last_line}
@@ -36,3 +36,8 @@ StaysLive piece old = (rate : Rate) (bytes : List ℕ) → HasRead rate bytes ol
 -- The reader met this fault.
 abbrev pub HasFailed : EdlFault → EdlReader → Type 0
 HasFailed fault reader = reader.fault ≡ Some fault
+
+-- The reader was fed bytes of a list at some rate and met no fault, or it met a fault.
+abbrev pub HasReadOrFailed : EdlReader → Type 0
+HasReadOrFailed reader = ((rate : Rate) × (bytes : List ℕ) × HasRead rate bytes reader)
+    ⊎ ((fault : EdlFault) × HasFailed fault reader)

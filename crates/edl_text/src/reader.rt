@@ -36,7 +36,7 @@ impl EdlReader {
     ghost use Rattle.edl_list.specs.Formed.{IsWellFormed};
     ghost use Rattle.edl_text.specs.Lines.{HasFirstFault};
     ghost use Rattle.edl_text.specs.Lists.{IsList, IsEarlyFault, IsFault};
-    ghost use Rattle.edl_text.specs.Reader.{HasRead, HasFailed, GoesOn, StaysLive};
+    ghost use Rattle.edl_text.specs.Reader.{HasRead, HasFailed, HasReadOrFailed, GoesOn, StaysLive};
 
     /// A reader of a list at that rate that was fed nothing. It takes no memory.
     pub fn new(alloc: Global, rate: Rate) -> EdlReader
@@ -56,7 +56,7 @@ impl EdlReader {
     /// The first fault that shows in all bytes so far: that of the first line that has one, where
     /// its line feed has come, or [`EdlFault::Large`] where there are more bytes than a list may
     /// have and no line that ends within that many has a fault. Any later call answers the same
-    /// fault again, want of memory included.
+    /// fault again, out of memory included.
     pub fn feed(&mut self, piece: &[u8]) -> Result<(), EdlFault>
         ensures read { OnOk result ((rate : RateSaid) (bytes : List ℕ)
             → HasRead rate bytes self.old → HasRead rate (bytes ++ piece.now) self.new) }
@@ -69,6 +69,7 @@ impl EdlReader {
             ⊎ IsEarlyFault rate (bytes ++ piece.now) fault) }
         ensures failed { IfErr result (λ fault. HasFailed fault self.new) }
         ensures again { (fault : EdlFault) → HasFailed fault self.old → result ≡ Err fault }
+        ensures stands { HasReadOrFailed self.old → HasReadOrFailed self.new }
     {
         if let Some(fault) = self.fault {
             return Err(fault);

@@ -157,7 +157,7 @@ pub record IsAll (l : List Timeline) (t : Timeline) (r : Rate) (ps : List Part) 
   pub stretched : AreStretched (frame r.num r.den) ps
   pub slots : ss ≡ J.slots [] (lists_of ps)
 
-first_of : (l : List Timeline) (t : Timeline) → slice_get l 0 ≡ Some t
+pub first_of : (l : List Timeline) (t : Timeline) → slice_get l 0 ≡ Some t
     → (more : List Timeline) × (l ≡ t ∷ more)
 first_of [] t e = absurd (cc e)
 first_of (q ∷ l) t e = (l, ap (λ (z : Timeline). z ∷ l) (same_some q t e))

@@ -1,29 +1,25 @@
 -- What inputs give to a joined track.
-use Rattle.std.proofs.Common.{◌≡◌, refl, sym, subst, ap, ap₂, ◌∙◌, ℕ, zero, suc, ◌+◌, ◌<◌, ◌≤◌, ◌^◌, ℤ, pos, ◌≤ℤ◌, ◌<ℤ◌, ◌||◌, Bool, true, false, cond, Option, Some, None, List, [], ◌∷◌, ◌++◌, length, drop, append_assoc, arith}
-use Rattle.std.specs.Prelude.{slice_get, nat_lt, not}
+use Rattle.std.proofs.Common.{◌≡◌, refl, sym, subst, ap, ◌∙◌, ℕ, zero, suc, ◌+◌, ◌<◌, ◌≤◌, ◌^◌, ℤ, pos, ◌≤ℤ◌, ◌<ℤ◌, Bool, true, false, cond, Option, Some, None, List, [], ◌∷◌, ◌++◌, length, drop, append_assoc, arith}
+use Rattle.std.specs.Prelude.{slice_get, nat_lt, not, option_map}
 use Rattle.std.proofs.lemmas.Bool.Decides.{nat_tests}
-use Rattle.std.proofs.lemmas.Int.{ints}
 use Rattle.std.proofs.lemmas.List.{append-nil}
-use Rattle.limits.specs.Limits.{most_ticks}
 use Rattle.tick_time.specs.declared.rates.Rate.{Rate}
 use Rattle.otio_model.specs.declared.compositions.ItemOf.{ItemOf}
 use Rattle.otio_model.specs.declared.compositions.ItemOf.TheVariants.{Clip, Gap, Transition, Stack, Track}
 use Rattle.otio_model.specs.declared.compositions.Listed.{Listed}
 use Rattle.otio_model.specs.Counts.{count}
 use Rattle.otio_model.specs.Edits.{deeper}
-use Rattle.otio_model.specs.Trees.{children_of, is_track, items_of, listed}
+use Rattle.otio_model.specs.Trees.{children_of, is_track, items_of}
 use Rattle.coord.proofs.Members.{child_few, next, none_left, same_some}
-use Rattle.edits.specs.Finest.{in_range}
-use Rattle.edits.specs.Children.{Child, all_made, made, new_gap, is_far, with_first}
+use Rattle.edits.specs.Children.{Child, all_made, made, new_gap, with_first}
 use Rattle.edits.specs.Cuts.{olds}
 use Rattle.flat.specs.Joined.{Slot, joined_with, own_items, pad, track_of}
-use Rattle.flat.specs.Roots.{is_empty}
-use Rattle.flat_law.proofs.Exists.{range_yes}
+use Rattle.flat.specs.Roots.{is_empty, items_in}
 use Rattle.flat_law.proofs.Fit.{kth_at}
 use Rattle.pieces.specs.Short.{AreCuttable}
 use Rattle.pieces.proofs.Inner.{root_faultless, inner_few, inner_cuttable}
 use Rattle.flat_stack.specs.declared.inputs.Part.{Part}
-use Rattle.flat_stack.specs.Inputs.{IsPreparedInput, IsAdded, as_enabled, given, list_of, pad_behind, piece, children_from, track_from, tracks_from, with_front}
+use Rattle.flat_stack.specs.Inputs.{IsPreparedInput, IsAdded, given, list_of, pad_behind, piece, children_from, track_from, tracks_from, with_front}
 use Rattle.limits.proofs.IntegerTests.{below-int_lt, above-int_lt}
 
 -- ---- the children of an input's track
@@ -214,22 +210,34 @@ tracks_end r ps ss rest done a e =
 
 -- ---- the track itself
 
--- a track with other children, enabled
-pub track_joined : (x y z : ItemOf Listed) (c : Listed) (m : List (ItemOf Listed))
-    → is_track x ≡ true → c ≡ listed m → y ≡ deeper (λ l. c) x → z ≡ as_enabled y
-    → z ≡ joined_with x m
-track_joined (Clip x) y z c m h e f g = absurd (cc h)
-track_joined (Gap x) y z c m h e f g = absurd (cc h)
-track_joined (Transition x) y z c m h e f g = absurd (cc h)
-track_joined (Stack x) y z c m h e f g = absurd (cc h)
-track_joined (Track x) y z c m h e f g =
-    g ∙ ap as_enabled f ∙ ap (λ l. Track (record x { enabled = true; children = l })) e
+-- a track with other children is joined as itself
+pub track_bare : (x y : ItemOf Listed) (c : Listed) (m : List (ItemOf Listed)) → is_track x ≡ true
+    → y ≡ deeper (λ l. c) x → joined_with y m ≡ joined_with x m
+track_bare (Clip x) y c m h f = absurd (cc h)
+track_bare (Gap x) y c m h f = absurd (cc h)
+track_bare (Transition x) y c m h f = absurd (cc h)
+track_bare (Stack x) y c m h f = absurd (cc h)
+track_bare (Track x) y c m h f = ap (λ z. joined_with z m) f
 
--- another item is joined to nothing
-pub other_joined : (x y : ItemOf Listed) (m : List (ItemOf Listed)) → is_track x ≡ false → y ≡ x
-    → y ≡ joined_with x m
-other_joined (Clip x) y m h e = e
-other_joined (Gap x) y m h e = e
-other_joined (Transition x) y m h e = e
-other_joined (Stack x) y m h e = e
-other_joined (Track x) y m h e = absurd (cc h)
+pub other_bare : (x y : ItemOf Listed) (m : List (ItemOf Listed)) → y ≡ x
+    → joined_with y m ≡ joined_with x m
+other_bare x y m e = ap (λ z. joined_with z m) e
+
+pub planned_is : (o : Option (List (ItemOf Listed))) (first track : ItemOf Listed)
+    (l : List (ItemOf Listed)) → o ≡ Some l
+    → ((m : List (ItemOf Listed)) → joined_with track m ≡ joined_with first m)
+    → option_map (joined_with first) o ≡ Some (joined_with track l)
+planned_is o first track l e f = ap (option_map (joined_with first)) e ∙ ap Some (sym (f l))
+
+-- an item that gives its children has them
+pub own_in : (x : ItemOf Listed) (c : Listed) → children_of x ≡ Some c
+    → items_of c ≡ own_items (Some x) → items_in x ≡ own_items (Some x)
+own_in (Clip x) c e h = absurd (cc e)
+own_in (Gap x) c e h = absurd (cc e)
+own_in (Transition x) c e h = absurd (cc e)
+own_in (Stack x) c e h = none x.enabled []
+  where
+    none : (b : Bool) (l : List (ItemOf Listed)) → l ≡ cond b l l
+    none true l = refl
+    none false l = refl
+own_in (Track x) c e h = ap items_of (same_some x.children c e) ∙ h

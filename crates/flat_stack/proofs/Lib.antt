@@ -36,3 +36,5 @@ pub mod Ending
 pub mod OneStep
 pub mod OneGathered
 pub mod OneOutcome
+pub mod PortionLemmas
+pub mod MoveLemmas

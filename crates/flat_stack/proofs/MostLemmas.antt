@@ -1,5 +1,5 @@
 -- The greatest number of tracks of each kind that one of the inputs so far has.
-use Rattle.std.proofs.Common.{◌≡◌, refl, sym, subst, ap, ◌∙◌, ℕ, zero, suc, ◌+◌, ◌<◌, ◌≤◌, ◌&&◌, max, Bool, true, false, cond, Some, None, List, [], ◌∷◌, ◌++◌, length, take, length-append, append_assoc, arith}
+use Rattle.std.proofs.Common.{◌≡◌, refl, sym, subst, ap, ◌∙◌, ℕ, zero, suc, ◌+◌, ◌≤◌, ◌&&◌, max, Bool, true, false, cond, Some, List, [], ◌∷◌, ◌++◌, length, take, length-append, append_assoc, arith}
 use Rattle.std.specs.Prelude.{filter, slice_get, is_none, nat_le}
 use Rattle.std.specs.BTreeMap.{get_by, is_at}
 use Rattle.std.specs.Map.{lookup}
@@ -16,7 +16,7 @@ use Rattle.otio_model.specs.Lengths.{or_zero}
 use Rattle.coord.specs.Programs.{kind_of}
 use Rattle.coord.proofs.Members.{same_some}
 use Rattle.edits_law.proofs.Splice.{cases}
-use Rattle.flat.specs.Joined.{Slot, is_new, slots_in, track_of}
+use Rattle.flat.specs.Joined.{Slot, is_new, slots_in}
 use Rattle.flat.specs.Roots.{ArePlainTracks, is_of, is_track}
 use Rattle.flat_stack.specs.declared.inputs.Part.{Part}
 use Rattle.flat_stack.specs.declared.inputs.Seat.{Seat}

@@ -13,14 +13,14 @@ use Rattle.otio_model.specs.declared.timelines.Timeline.{Timeline}
 use Rattle.otio_model.specs.Timelines.{bare}
 use Rattle.otio_model.specs.Trees.{items_of, is_transition}
 use Rattle.coord.specs.Soundness.{AreFaultless, IsFaultlessItem}
-use Rattle.edits.specs.Children.{ticks, made, new_gap, with_first, is_far}
+use Rattle.edits.specs.Children.{ticks, made, new_gap, with_first}
 use Rattle.edits.specs.After.{rate_of}
 use Rattle.edits_law.proofs.Parted.{added_low}
 use Rattle.flat.specs.Roots.{is_of, is_enabled, is_layer, is_track, items_in, roots, with_roots}
 use Rattle.flat.specs.Pieces.{Giver, giver, longest, Piece, AreLongest, no_more, one_more, up_to, from_on, piece_item, piece_items, cuts_at}
 use Rattle.flat.specs.Flattened.{flat_track, has_kind, in_place, put_flat, IsFlattened, changed}
 use Rattle.flat_law.proofs.Built.{given_start}
-use Rattle.flat_law.proofs.Exists.{range_yes, sound_one}
+use Rattle.flat_law.proofs.Exists.{sound_one}
 use Rattle.flat_law.proofs.Firsts.{giver_at}
 use Rattle.flat_law.proofs.Givers.{giver_given}
 use Rattle.std.proofs.lemmas.Bool.{and_parts}

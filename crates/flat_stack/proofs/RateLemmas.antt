@@ -1,9 +1,7 @@
 -- The record rate as a rate.
-use Rattle.std.proofs.Common.{◌≡◌, sym, ap, ◌∙◌}
+use Rattle.std.proofs.Common.{◌≡◌, sym, ◌∙◌}
 use Rattle.tick_time.specs.declared.rates.Rate.{Rate}
-use Rattle.tick_time.proofs.SameValues.{same_rate}
 use Rattle.otio_model.specs.declared.timelines.Timeline.{Timeline}
-use Rattle.coord.specs.Looks.{FrameRate}
 use Rattle.coord.specs.Keys.{frame_rate}
 use Rattle.coord.specs.Programs.{record_rate}
 use Rattle.edits.specs.After.{rate_of}

@@ -1,5 +1,5 @@
 -- The earlier of two places.
-use Rattle.std.proofs.Common.{◌≡◌, refl, sym, subst, ◌∙◌, ◌⊎◌, inl, inr, ℕ, ◌<◌, ◌≤◌, ◌==◌, ◌&&◌, ◌||◌, Bool, true, false, cond, Option, Some, None, List, [], ◌∷◌, arith}
+use Rattle.std.proofs.Common.{◌≡◌, refl, sym, subst, ◌∙◌, ◌⊎◌, inl, inr, ℕ, ◌<◌, ◌≤◌, ◌==◌, ◌&&◌, Bool, true, false, cond, Option, Some, None, List, [], ◌∷◌, arith}
 use Rattle.std.specs.Prelude.{nat_lt, IfSome}
 use Rattle.coord.specs.Soundness.{Precedes}
 use Rattle.flat.specs.declared.faults.Cause.{Cause}

@@ -1,5 +1,6 @@
 -- Children that are copied one after another, those of a track without its transitions.
-use Rattle.std.proofs.Common.{◌≡◌, refl, sym, ap, ◌∙◌, Bool, true, false, ◌&&◌, cond, map, List, [], ◌∷◌, ◌++◌, append_assoc}
+use Rattle.std.proofs.Common.{◌≡◌, refl, sym, ap, ◌∙◌, ℕ, ◌+◌, ◌≤◌, Bool, true, false, ◌&&◌, cond, map, List, [], ◌∷◌, ◌++◌, length, append_assoc, arith}
+use Rattle.std.specs.Prelude.{reverse}
 use Rattle.otio_model.specs.declared.compositions.ItemOf.{ItemOf}
 use Rattle.otio_model.specs.declared.compositions.ItemOf.TheVariants.{Clip, Gap, Transition, Stack, Track}
 use Rattle.otio_model.specs.declared.compositions.Listed.{Listed}
@@ -9,7 +10,10 @@ use Rattle.flat.specs.Straight.{without}
 use Rattle.flat_law.proofs.Flat.{items-listed}
 use Rattle.flat_law.proofs.Straight.{whole_item, straight-items, step_out, step_in}
 use Rattle.flat_stack.specs.Straighten.{straight_children, straight_items}
-use Rattle.std.proofs.lemmas.List.{append-nil}
+use Rattle.std.proofs.lemmas.List.{append-nil, reverse-append, reverse-reverse}
+use Rattle.otio_model.specs.Counts.{count, count_of, counts_by}
+use Rattle.otio_model.specs.Falls.{count-listed}
+use Rattle.otio_model.specs.declared.compositions.Listed.TheViews.{roll-out-Listed}
 
 -- with the copies so far and those of the rest all are copied
 abbrev pub Copied : Bool → List (ItemOf Listed) → List (ItemOf Listed) → List (ItemOf Listed)
@@ -26,15 +30,6 @@ copied_more b c done new rest more all x y k r e f g n =
     ap (λ l. l ++ straight_items b more) n
     ∙ append_assoc done (y ∷ []) (straight_items b more)
     ∙ ap (λ z. done ++ (z ∷ straight_items b more)) g
-    ∙ ap (λ d. done ++ cond d (straight_items b more) (whole_item x ∷ straight_items b more))
-    (sym (sym e ∙ f))
-    ∙ ap (λ l. done ++ straight_items b l) (sym r) ∙ k
-
-pub copied_less : (b c : Bool) (done new rest more all : List (ItemOf Listed)) (x : ItemOf Listed)
-    → Copied b done rest all → rest ≡ x ∷ more → c ≡ (b && is_transition x) → c ≡ true
-    → new ≡ done → Copied b new more all
-copied_less b c done new rest more all x k r e f n =
-    ap (λ l. l ++ straight_items b more) n
     ∙ ap (λ d. done ++ cond d (straight_items b more) (whole_item x ∷ straight_items b more))
     (sym (sym e ∙ f))
     ∙ ap (λ l. done ++ straight_items b l) (sym r) ∙ k
@@ -70,3 +65,28 @@ pub copied_all : (b : Bool) (done rest : List (ItemOf Listed)) (l made : Listed)
 copied_all b done rest l made k r e =
     e ∙ ap listed (sym (append-nil done) ∙ ap (λ m. done ++ straight_items b m) (sym r) ∙ k)
     ∙ whole_children b l
+
+-- ---- children that move, the last one of a list in the other order first
+
+pub turned_next : {A : Type 0} (left rest : List A) (x : A) → left ≡ rest ++ x ∷ []
+    → reverse left ≡ x ∷ reverse rest
+turned_next left rest x e = ap reverse e ∙ reverse-append rest (x ∷ [])
+
+pub turned_back : {A : Type 0} (new old : List A) → new ≡ reverse old → reverse new ≡ old
+turned_back new old e = ap reverse e ∙ reverse-reverse old
+
+pub none_left : {A : Type 0} (left : List A) → length left ≡ 0 → reverse left ≡ []
+none_left [] e = refl
+none_left (x ∷ left) e = absurd (omega (arith, e))
+
+pub all_small : (l : Listed) (left : List (ItemOf Listed)) → left ≡ items_of l
+    → counts_by count left ≤ count l
+all_small l left e =
+    omega (arith, ap (counts_by count) e, count-listed (items_of l), ap count (roll-out-Listed l))
+
+pub next_small : (n : ℕ) (left rest : List (ItemOf Listed)) (x : ItemOf Listed)
+    → counts_by count left ≤ n → left ≡ x ∷ rest
+    → (count_of x ≤ n) × (counts_by count rest ≤ n)
+next_small n left rest x h e =
+    let k : counts_by count left ≡ count_of x + counts_by count rest = ap (counts_by count) e in
+    (omega (arith, h, k), omega (arith, h, k))

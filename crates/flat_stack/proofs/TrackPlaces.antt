@@ -1,5 +1,5 @@
 -- Where a flat track goes.
-use Rattle.std.proofs.Common.{◌≡◌, refl, sym, ap, ap₂, ◌∙◌, ℕ, zero, suc, ◌+◌, ◌||◌, Bool, true, false, Some, List, [], ◌∷◌, ◌++◌, take, drop, append_assoc, arith}
+use Rattle.std.proofs.Common.{◌≡◌, refl, sym, ap, ap₂, ◌∙◌, ℕ, zero, suc, ◌+◌, true, false, Some, List, [], ◌∷◌, ◌++◌, take, drop, append_assoc, arith}
 use Rattle.std.specs.Prelude.{slice_get, filter, not}
 use Rattle.std.proofs.lemmas.List.{append-nil}
 use Rattle.otio_model.specs.declared.compositions.ItemOf.{ItemOf}

@@ -1,5 +1,5 @@
 -- Inputs with their tracks by kind, and the tracks that they are joined to, as the code keeps them.
-use Rattle.std.specs.Prelude.{◌≡◌, ℕ, suc, ◌+◌, ◌<◌, ◌^◌, ◌-ℤ◌, pos, ◌≤ℤ◌, ◌≤◌, max, length, cond, not, Bool, true, List, [], ◌∷◌, ◌++◌, filter, map, Option, Some, None, slice_get, option_map}
+use Rattle.std.specs.Prelude.{◌≡◌, ℕ, suc, ◌+◌, ◌<◌, ◌^◌, ◌-ℤ◌, pos, ◌≤ℤ◌, ◌≤◌, max, length, cond, not, Bool, List, [], ◌∷◌, ◌++◌, filter, map, Option, Some, None, slice_get, option_map}
 use Rattle.std.specs.BTreeMap.{BTreeMap, get_by}
 use Rattle.std.specs.Cmp.Lexicographic.{slice_cmp}
 use Rattle.std.specs.Map.{update}
@@ -11,8 +11,6 @@ use denote.Ref.{Bor}
 use Rattle.limits.specs.Limits.{most_ticks}
 use Rattle.tick_time.specs.declared.rates.Rate.{Rate}
 use Rattle.otio_model.specs.declared.compositions.ItemOf.{ItemOf}
-use Rattle.otio_model.specs.declared.compositions.ItemOf.TheVariants.{Clip, Gap, Transition, Stack}
-use Rattle.otio_model.specs.declared.compositions.ItemOf.TheVariants.{Track}
 use Rattle.otio_model.specs.declared.compositions.Listed.{Listed}
 use Rattle.otio_model.specs.declared.timelines.Timeline.{Timeline}
 use Rattle.otio_model.specs.Timelines.{bare}
@@ -33,23 +31,29 @@ use Rattle.flat_stack.specs.declared.inputs.Seat.{Seat}
 -- ---- tracks by their kind
 
 abbrev pub Tracks : Type 0
-Tracks = BTreeMap (Bor (List ℕ)) (Vec (Bor (ItemOf Listed)) Global)
+Tracks = BTreeMap (Bor (List ℕ)) (Vec ℕ Global)
 
--- the items that are borrowed
-abbrev pub lent : Option (Vec (Bor (ItemOf Listed)) Global) → List (ItemOf Listed)
-lent None = []
-lent (Some v) = map (λ b. b.now) v.items
+-- the numbers that are kept
+abbrev pub held : Option (Vec ℕ Global) → List ℕ
+held None = []
+held (Some v) = v.items
 
 -- those of a kind
-abbrev pub tracks_at : List ℕ → Tracks → List (ItemOf Listed)
-tracks_at kind m = lent (get_by (λ k. slice_cmp nat_cmp kind k.now) m)
+abbrev pub numbers_at : List ℕ → Tracks → List ℕ
+numbers_at kind m = held (get_by (λ k. slice_cmp nat_cmp kind k.now) m)
 
--- the map has the tracks of each kind, in their order
+-- the numbers of the tracks of a kind, where the first item has number i
+abbrev pub positions : List ℕ → ℕ → List (ItemOf Listed) → List ℕ
+positions kind i [] = []
+positions kind i (x ∷ l) =
+    cond (is_of kind x) (i ∷ positions kind (suc i) l) (positions kind (suc i) l)
+
+-- the map has the numbers of the tracks of each kind, in their order
 abbrev pub Knows : Tracks → List (ItemOf Listed) → Type 0
-Knows m l = (kind : List ℕ) → tracks_at kind m ≡ filter (is_of kind) l
+Knows m l = (kind : List ℕ) → numbers_at kind m ≡ positions kind 0 l
 
 -- at one kind the new map has these, and at all others what the old one has
-abbrev pub Updates : List ℕ → Option (Vec (Bor (ItemOf Listed)) Global) → Tracks → Tracks → Type 0
+abbrev pub Updates : List ℕ → Option (Vec ℕ Global) → Tracks → Tracks → Type 0
 Updates kind o old new = (q : List ℕ) → get_by (λ k. slice_cmp nat_cmp q k.now) new
     ≡ update bytes_eq (λ ds. get_by (λ k. slice_cmp nat_cmp ds k.now) old) kind o q
 
@@ -138,14 +142,6 @@ children_from s (p ∷ ps) = piece s p (not (is_empty ps)) ++ children_from s ps
 abbrev pub with_front : List (ItemOf Listed) → Option (List (ItemOf Listed))
     → Option (List (ItemOf Listed))
 with_front l o = option_map (λ m. l ++ m) o
-
--- the item, enabled where it is a track
-abbrev pub as_enabled : ItemOf Listed → ItemOf Listed
-as_enabled (Clip c) = Clip c
-as_enabled (Gap g) = Gap g
-as_enabled (Transition t) = Transition t
-as_enabled (Stack s) = Stack s
-as_enabled (Track t) = Track (record t { enabled = true })
 
 -- what is added to a list: what children are made
 pub record IsAdded (r : Rate) (c : List Child) (old new : List (ItemOf Listed)) : Type 0 where

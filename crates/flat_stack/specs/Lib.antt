@@ -18,3 +18,4 @@ pub mod Ready
 pub mod Gathered
 pub mod Shaped
 pub mod Tooled
+pub mod Portions

@@ -25,12 +25,12 @@ use std::alloc::Global;
 /// The timelines one after another, track by track, with at most 100 000 items. An error tells the
 /// first input that can't be joined ([`ToolFault::At`]), or else [`ToolFault::Items`]; or it is
 /// [`ToolFault::Memory`] where memory runs out. Whether what comes of them is sound isn't asked.
-pub fn concatenated(alloc: Global, inputs: &[Timeline]) -> Result<Timeline, ToolFault>
-    requires some { inputs.now ≢ [] }
-    requires ready { All IsReady inputs.now }
-    ensures joined { IfOk result (IsConcat inputs.now) }
+pub fn concatenated(alloc: Global, inputs: Vec<Timeline>) -> Result<Timeline, ToolFault>
+    requires some { inputs.items ≢ [] }
+    requires ready { All IsReady inputs.items }
+    ensures joined { IfOk result (IsConcat inputs.items) }
     ensures written { IfOk result IsTimeline }
-    ensures fault { IfErr result (Told (IsConcatFault inputs.now)) }
+    ensures fault { IfErr result (Told (IsConcatFault inputs.items)) }
 {
     match join_within(alloc, inputs, MOST_ITEMS as u64) {
         Ok(Some(joined)) => Ok(joined),
@@ -56,13 +56,13 @@ fn checked(alloc: Global, timeline: Timeline) -> Result<Timeline, ToolFault>
 }
 
 // The timelines one after another, where that is sound.
-fn concatenated_soundly(alloc: Global, inputs: &[Timeline]) -> Result<Timeline, ToolFault>
-    requires some { inputs.now ≢ [] }
-    requires ready { All IsReady inputs.now }
-    ensures joined { IfOk result (Then IsConcat IsChecked inputs.now) }
+fn concatenated_soundly(alloc: Global, inputs: Vec<Timeline>) -> Result<Timeline, ToolFault>
+    requires some { inputs.items ≢ [] }
+    requires ready { All IsReady inputs.items }
+    ensures joined { IfOk result (Then IsConcat IsChecked inputs.items) }
     ensures ready { IfOk result IsReady }
     ensures fault { IfErr result
-        (Told (Stops IsConcat IsConcatFault IsCheckFault inputs.now)) }
+        (Told (Stops IsConcat IsConcatFault IsCheckFault inputs.items)) }
 {
     match concatenated(alloc, inputs) {
         Ok(joined) => match checked(alloc, joined) {
@@ -93,15 +93,16 @@ fn are_many(inputs: &[Timeline]) -> bool
 }
 
 // The timelines above each other, with at most 100 000 items. Their items are counted before
-// anything is copied.
-fn stacked(alloc: Global, inputs: &[Timeline]) -> Result<Timeline, ToolFault>
-    requires some { inputs.now ≢ [] }
-    requires ready { All IsReady inputs.now }
-    ensures stacked { IfOk result (IsStack inputs.now) }
+// anything moves.
+fn stacked(alloc: Global, inputs: Vec<Timeline>) -> Result<Timeline, ToolFault>
+    requires some { inputs.items ≢ [] }
+    requires ready { All IsReady inputs.items }
+    ensures stacked { IfOk result (IsStack inputs.items) }
     ensures ready { IfOk result IsReady }
-    ensures fault { IfErr result (Told (IsStackFault inputs.now)) }
+    ensures fault { IfErr result (Told (IsStackFault inputs.items)) }
 {
-    if are_many(inputs) {
+    if are_many(inputs.as_slice()) {
+        drop(inputs);
         return Err(ToolFault::Items);
     }
     match pile(alloc, inputs) {
@@ -120,12 +121,12 @@ fn the_one(inputs: Vec<Timeline>) -> Timeline
 }
 
 // The timelines as one, one after another or above each other.
-fn joined_by(alloc: Global, inputs: &[Timeline], joining: Joining) -> Result<Timeline, ToolFault>
-    requires some { inputs.now ≢ [] }
-    requires ready { All IsReady inputs.now }
-    ensures gathered { IfOk result (IsGathered (Some joining) inputs.now) }
+fn joined_by(alloc: Global, inputs: Vec<Timeline>, joining: Joining) -> Result<Timeline, ToolFault>
+    requires some { inputs.items ≢ [] }
+    requires ready { All IsReady inputs.items }
+    ensures gathered { IfOk result (IsGathered (Some joining) inputs.items) }
     ensures ready { IfOk result IsReady }
-    ensures fault { IfErr result (Told (IsUngathered (Some joining) inputs.now)) }
+    ensures fault { IfErr result (Told (IsUngathered (Some joining) inputs.items)) }
 {
     match joining {
         Joining::Concat => concatenated_soundly(alloc, inputs),
@@ -147,11 +148,7 @@ pub(crate) fn gathered(
     ensures fault { IfErr result (Told (IsUngathered joining inputs.items)) }
 {
     match joining {
-        Some(joining) => {
-            let all = joined_by(alloc, inputs.as_slice(), joining);
-            drop(inputs);
-            all
-        }
+        Some(joining) => joined_by(alloc, inputs, joining),
         None => Ok(the_one(inputs)),
     }
 }

@@ -9,7 +9,7 @@ ghost use Rattle.flat_stack.specs.Inputs.{piece, slot_of, slots_of, track_count,
 
 use crate::input_tracks::{part_at, seat_at};
 use crate::inputs::{Part, Seat};
-use crate::joined_tracks::{own_children, pad_ticks};
+use crate::planned_tracks::{own_track, pad_ticks};
 
 // How many items an input gives to a joined track, at all levels.
 fn own_count<'a>(part: &Part<'a>, seat: Seat<'a>) -> usize
@@ -17,8 +17,8 @@ fn own_count<'a>(part: &Part<'a>, seat: Seat<'a>) -> usize
     ensures value { result ≡ counts_by count (given (slot_of seat.entry) part.now) }
     ensures high { result < 2 ^ 32 }
 {
-    match own_children(part, seat) {
-        Some(children) => children.items_below(),
+    match own_track(part, seat) {
+        Some(own) => own.children.items_below(),
         None => 0,
     }
 }

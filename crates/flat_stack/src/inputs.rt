@@ -1,8 +1,7 @@
 //! Inputs with their tracks by kind.
 
 ghost use Rattle.std.specs.Prelude.{◌≡◌, ◌<◌, ◌^◌, ◌++◌, ◌∷◌, [], filter, IfOk, length, List, None};
-ghost use Rattle.std.specs.Prelude.{option_map, slice_get, Some, true};
-ghost use Rattle.std.specs.Option.{option_copied};
+ghost use Rattle.std.specs.Prelude.{slice_get, Some, true};
 ghost use Rattle.tick_time.specs.Rates.{frame};
 ghost use Rattle.otio_model.specs.declared.compositions.ItemOf.{ItemOf as AnyItemOf};
 ghost use Rattle.otio_model.specs.declared.compositions.Listed.{Listed};
@@ -13,7 +12,8 @@ ghost use Rattle.coord.specs.Soundness.{AreFaultless};
 ghost use Rattle.flat.specs.Joined as joined;
 ghost use Rattle.flat.specs.Roots as roots;
 ghost use Rattle.flat.specs.Roots.{ArePlainTracks};
-ghost use Rattle.flat_stack.specs.Inputs.{IsPreparedInput, Knows, Updates, lent, tracks_at};
+ghost use Rattle.flat_stack.specs.Inputs.{IsPreparedInput, Knows, Updates, held, numbers_at};
+ghost use Rattle.flat_stack.specs.Inputs.{positions};
 
 use crate::lengths::stretch_of;
 use otio_model::{Children, Item, Timeline};
@@ -21,8 +21,8 @@ use std::alloc::{AllocError, Global};
 use std::collections::BTreeMap;
 use tick_time::Rate;
 
-/// The tracks of an input by their kind, in their order.
-pub(crate) type Tracks<'a> = BTreeMap<&'a str, Vec<&'a Item>>;
+/// The numbers of an input's tracks among its root children, by their kind and in their order.
+pub(crate) type Tracks<'a> = BTreeMap<&'a str, Vec<usize>>;
 
 /// A track of an input, and how many of its kind stand before it there.
 #[derive(Clone, Copy)]
@@ -42,24 +42,24 @@ pub(crate) struct Part<'a> {
     pub(crate) stretch: i128,
 }
 
-// The item of an index that isn't past the end.
+// The number of an index that isn't past the end.
 #[tactic(auto, using(crate::proofs::RunLemmas::at_index))]
-fn item_at<'b, 'a>(items: &'b [&'a Item], index: usize) -> &'b &'a Item
-    requires { index < length items.now }
-    ensures { slice_get items.now index ≡ Some result.now }
+fn number_at(numbers: &[usize], index: usize) -> usize
+    requires { index < length numbers.now }
+    ensures { slice_get numbers.now index ≡ Some result }
 {
-    &items[index]
+    numbers[index]
 }
 
-/// The track of a kind that has so many of its kind before it.
-pub(crate) fn track_at<'b, 'a>(tracks: &'b Tracks<'a>, kind: &str, index: usize) -> Option<&'b Item>
+/// The number of the track of a kind that has so many of its kind before it.
+pub(crate) fn track_at<'a>(tracks: &Tracks<'a>, kind: &str, index: usize) -> Option<usize>
     ensures { (l : List (AnyItemOf Listed)) → Knows tracks.now l →
-        option_copied result ≡ joined.track_of kind.now index l }
+        result ≡ slice_get (positions kind.now 0 l) index }
 {
     match tracks.get(kind) {
         Some(of_kind) => {
             if index < of_kind.len() {
-                return Some(*item_at(of_kind.as_slice(), index));
+                return Some(number_at(of_kind.as_slice(), index));
             }
             None
         }
@@ -67,9 +67,9 @@ pub(crate) fn track_at<'b, 'a>(tracks: &'b Tracks<'a>, kind: &str, index: usize)
     }
 }
 
-// Takes the tracks of a kind out.
-fn taken<'a>(alloc: Global, tracks: &mut Tracks<'a>, kind: &str) -> Vec<&'a Item>
-    ensures value { lent (Some result) ≡ tracks_at kind.now tracks.old }
+// Takes the numbers of a kind out.
+fn taken<'a>(alloc: Global, tracks: &mut Tracks<'a>, kind: &str) -> Vec<usize>
+    ensures value { held (Some result) ≡ numbers_at kind.now tracks.old }
     ensures gone { Updates kind.now None tracks.old tracks.new }
 {
     match tracks.remove(kind) {
@@ -78,21 +78,22 @@ fn taken<'a>(alloc: Global, tracks: &mut Tracks<'a>, kind: &str) -> Vec<&'a Item
     }
 }
 
-// Adds a track after those of its kind, and says how many these are.
+// Adds a track of a number after those of its kind, and says how many these are.
 fn add_track<'a>(
     alloc: Global,
     tracks: &mut Tracks<'a>,
     item: &'a Item,
+    number: usize,
 ) -> Result<usize, AllocError>
     requires { roots.is_track item.now ≡ true }
     ensures { IfOk result (λ index. (l : List (AnyItemOf Listed)) → Knows tracks.old l →
-        (index ≡ length (filter (roots.is_of (programs.kind_of item.now)) l)) ×
+        number ≡ length l → (index ≡ length (filter (roots.is_of (programs.kind_of item.now)) l)) ×
         Knows tracks.new (l ++ item.now ∷ [])) }
 {
     let kind = item.root_kind();
     let mut of_kind = taken(alloc, tracks, kind);
     let index = of_kind.len();
-    of_kind.push(item)?;
+    of_kind.push(number)?;
     tracks.insert(kind, of_kind)?;
     Ok(index)
 }
@@ -114,9 +115,9 @@ pub(crate) fn part_of<'a>(
     let children = &input.tracks.children;
     let mut tracks: Tracks<'a> = BTreeMap::new(alloc);
     let mut seats: Vec<Seat<'a>> = Vec::new(alloc);
-    'children: for index in 0..children.len() {
-        let first = children.child(index);
-        let index = add_track(alloc, &mut tracks, first)?;
+    'children: for number in 0..children.len() {
+        let first = children.child(number);
+        let index = add_track(alloc, &mut tracks, first, number)?;
         seats.push(Seat { first, index })?;
     }
     Ok(Part {

@@ -1,224 +1,232 @@
-//! What inputs give to a joined track.
+//! Joined tracks, into which the children of the inputs move.
 
-ghost use Rattle.std.specs.Prelude.{◌≡◌, ◌++◌, ◌<◌, ◌^◌, ◌≤ℤ◌, ◌<ℤ◌, ◌-ℤ◌, ◌+◌, [], IfNone, IfOk};
-ghost use Rattle.std.specs.Prelude.{IfSome, length, nat_lt, OnOk, pos, slice_get, Some};
-ghost use Rattle.limits.specs.Limits.{most_ticks};
-ghost use Rattle.otio_model.specs.Counts.{count};
-ghost use Rattle.otio_model.specs.Trees.{children_of, items_of};
-ghost use Rattle.edits.specs.Children as children;
-ghost use Rattle.edits.specs.Edges.{added};
+ghost use Rattle.std.specs.Prelude.{◌≡◌, ◌≢◌, ◌++◌, ◌∷◌, [], ℕ, IfOk, IfSome, List, map, OnOk};
+ghost use Rattle.std.specs.Prelude.{slice_get, Some};
+ghost use Rattle.otio_model.specs.declared.compositions.ItemOf.{ItemOf as AnyItemOf};
+ghost use Rattle.otio_model.specs.declared.compositions.Listed.{Listed};
+ghost use Rattle.otio_model.specs.declared.timelines.Timeline.{Timeline as AnyTimeline};
+ghost use Rattle.otio_model.specs.Timelines.{bare};
 ghost use Rattle.flat.specs.Joined as joined;
-ghost use Rattle.pieces.specs.Short.{AreCuttable};
-ghost use Rattle.flat_stack.specs.declared.inputs.Part.{Part as AnyPart};
-ghost use Rattle.flat_stack.specs.Inputs.{AreParts, IsAdded, IsPreparedInput, as_enabled};
-ghost use Rattle.flat_stack.specs.Inputs.{children_from, given};
-ghost use Rattle.flat_stack.specs.Inputs.{pad_behind, piece, slot_of, slots_of, track_from};
-ghost use Rattle.flat_stack.specs.Inputs.{tracks_from};
+ghost use Rattle.flat.specs.Roots as roots;
+ghost use Rattle.flat_stack.specs.Portions as portions;
+ghost use Rattle.flat_stack.specs.Portions.{AreRoots, IsPlanned, flat, planned_track};
+ghost use Rattle.flat_stack.specs.Portions.{portion_items, portions_items, root_at};
 
-use crate::input_tracks::{part_at, seat_at};
-use crate::inputs::{Part, Seat, track_at};
-use crate::lengths::total_ticks;
-use crate::part_copies::copy_behind;
-use crate::root_children::enabled_children;
-use otio_model::{Children, Item, ItemOf, Items, copy_item, copy_item_with};
-use pieces::short_gap;
+use crate::part_copies::{move_roots, take_children, take_first, with_roots};
+use crate::planned_tracks::{PlannedTrack, Portion};
+use otio_model::{Children, Item, ItemOf, Items, Timeline};
 use std::alloc::{AllocError, Global};
-use tick_time::Rate;
 
-/// The children that an input gives to a joined track.
-pub(crate) fn own_children<'b, 'a>(part: &'b Part<'a>, seat: Seat<'a>) -> Option<&'b Children>
-    requires { IsPreparedInput part.now }
-    ensures some { IfSome result (λ c. items_of c.now ≡
-        given (slot_of seat.entry) part.now) }
-    ensures none { IfNone result
-        (given (slot_of seat.entry) part.now ≡ []) }
-    ensures few { IfSome result (λ c. count c.now < 2 ^ 32) }
-    ensures cuttable { IfSome result (λ c. AreCuttable (items_of c.now)) }
+/// The root children of an input, each until it is taken.
+type Roots = Vec<Option<Item>>;
+
+// Items that are all there.
+fn all_there(alloc: Global, items: Vec<Item>) -> Result<Roots, AllocError>
+    ensures { IfOk result (λ there. there.items ≡ portions.all_there items.items) }
 {
-    match track_at(&part.tracks, seat.first.root_kind(), seat.index) {
-        Some(track) => match enabled_children(track) {
-            Some(children) => Some(children),
-            None => None,
+    let mut left = items;
+    left.reverse();
+    let mut there: Roots = Vec::new(alloc);
+    'left: while let Some(item) = left.pop() {
+        there.push(Some(item))?;
+    }
+    Ok(there)
+}
+
+// Takes the root children out of an input.
+fn take_roots(alloc: Global, input: &mut Timeline) -> Result<Roots, AllocError>
+    ensures roots { IfOk result (λ taken.
+        taken.items ≡ portions.all_there (roots.roots input.old)) }
+    ensures rest { OnOk result ((l : List (AnyItemOf Listed)) →
+        bare (roots.with_roots l input.new) ≡ bare (roots.with_roots l input.old)) }
+{
+    let mut items: Vec<Item> = Vec::new(alloc);
+    move_roots(alloc, input, &mut items)?;
+    let taken = all_there(alloc, items)?;
+    Ok(taken)
+}
+
+// Takes the root child of a number out; `None` where it is gone.
+fn take_child(roots: &mut Roots, child: usize) -> Option<Item>
+    ensures taken { result ≡ flat (slice_get roots.old.items child) }
+    ensures left { (c : ℕ) (x : AnyItemOf Listed) → flat (slice_get roots.new.items c) ≡ Some x →
+        flat (slice_get roots.old.items c) ≡ Some x }
+{
+    if child < roots.len() {
+        return roots[child].take();
+    }
+    None
+}
+
+// Takes a root child of an input out; `None` where it is gone.
+fn take_root(all: &mut Vec<Roots>, input: usize, child: usize) -> Option<Item>
+    ensures taken { (inputs : List AnyTimeline) → AreRoots all.old.items inputs →
+        IfSome result (λ x. root_at inputs input child ≡ Some x) }
+    ensures left { (inputs : List AnyTimeline) → AreRoots all.old.items inputs →
+        AreRoots all.new.items inputs }
+{
+    if input < all.len() {
+        return take_child(&mut all[input], child);
+    }
+    None
+}
+
+// Moves the children of a track to the end of a list; another item has none.
+fn move_children(alloc: Global, track: Item, all: &mut Vec<Item>) -> Result<(), AllocError>
+    ensures { OnOk result (all.new.items ≡ all.old.items ++ roots.items_in track) }
+{
+    match track {
+        ItemOf::Track(mut track) => {
+            let children = take_children(alloc, &mut track.children)?;
+            children.move_into(all)
+        }
+        _ => Ok(()),
+    }
+}
+
+// Moves what stands next in a joined track to the end of a list. An error also comes where that is
+// gone, which no plan of a join leads to.
+fn move_portion(
+    alloc: Global,
+    portion: Portion,
+    inputs: &mut Vec<Roots>,
+    all: &mut Vec<Item>,
+) -> Result<(), AllocError>
+    ensures moved { OnOk result ((l : List AnyTimeline) → AreRoots inputs.old.items l →
+        all.new.items ≡ all.old.items ++ portion_items l portion) }
+    ensures left { OnOk result ((l : List AnyTimeline) → AreRoots inputs.old.items l →
+        AreRoots inputs.new.items l) }
+{
+    match portion {
+        Portion::Made(item) => {
+            all.push(item)?;
+            Ok(())
+        }
+        Portion::Moved { input, child } => match take_root(inputs, input, child) {
+            Some(track) => {
+                move_children(alloc, track, all)?;
+                Ok(())
+            }
+            None => Err(AllocError),
         },
-        None => None,
     }
 }
 
-// How long the children are that an input gives, in ticks.
-fn own_ticks<'a>(part: &Part<'a>, seat: Seat<'a>) -> i128
-    requires { IsPreparedInput part.now }
-    ensures value { result ≡
-        added (given (slot_of seat.entry) part.now) }
-    ensures low { pos 0 ≤ℤ result }
-    ensures high { result ≤ℤ pos 10000000000000000000000000000000000 }
-{
-    match own_children(part, seat) {
-        Some(children) => total_ticks(children),
-        None => 0,
-    }
-}
-
-/// How long the gap is after what an input gives, in ticks; there is none where this isn't above 0.
-pub(crate) fn pad_ticks<'a>(part: &Part<'a>, seat: Seat<'a>) -> i128
-    requires { IsPreparedInput part.now }
-    ensures value { result ≡ (part.now.stretch -ℤ
-        added (given (slot_of seat.entry) part.now)) }
-    ensures low { (pos 0 -ℤ pos 10000000000000000000000000000000000) ≤ℤ result }
-    ensures high { result ≤ℤ pos most_ticks }
-{
-    part.stretch - own_ticks(part, seat)
-}
-
-// Adds copies of what an input gives.
-fn put_own<'a>(
+// Moves what stands in a joined track to a list.
+fn move_portions(
     alloc: Global,
-    part: &Part<'a>,
-    seat: Seat<'a>,
-    all: &mut Vec<Item>,
-) -> Result<(), AllocError>
-    requires { IsPreparedInput part.now }
-    ensures { OnOk result (all.new.items ≡ all.old.items ++
-        given (slot_of seat.entry) part.now) }
-{
-    match own_children(part, seat) {
-        Some(children) => copy_behind(alloc, children, all),
-        None => Ok(()),
-    }
-}
-
-// Adds the gap after what an input gives, up to the next input.
-fn put_pad<'a>(
-    alloc: Global,
-    part: &Part<'a>,
-    seat: Seat<'a>,
-    rate: Rate,
-    all: &mut Vec<Item>,
-) -> Result<(), AllocError>
-    requires { IsPreparedInput part.now }
-    ensures { OnOk result (IsAdded rate
-        (pad_behind (slot_of seat.entry) part.now) all.old.items
-        all.new.items) }
-{
-    let ticks = pad_ticks(part, seat);
-    if ticks <= 0 {
-        return Ok(());
-    }
-    all.push(short_gap(alloc, ticks, rate))?;
-    Ok(())
-}
-
-/// A track that is joined.
-#[derive(Clone, Copy)]
-struct JoinedTrack<'a> {
-    /// The first track of an input that it is made of.
-    seat: Seat<'a>,
-    /// The record rate, at which its gaps are counted.
-    rate: Rate,
-}
-
-// Adds what the input of an index gives, and the gap after it where more inputs follow.
-fn put_part<'a>(
-    alloc: Global,
-    parts: &[Part<'a>],
-    index: usize,
-    track: JoinedTrack<'a>,
-    all: &mut Vec<Item>,
-) -> Result<(), AllocError>
-    requires parts { AreParts parts.now }
-    requires there { index < length parts.now }
-    ensures { OnOk result ((part : AnyPart) → slice_get parts.now index ≡ Some part →
-        IsAdded track.entry.rate
-        (piece (slot_of track.entry.seat) part (nat_lt (index + 1) (length parts.now)))
-        all.old.items all.new.items) }
-{
-    let part = part_at(parts, index);
-    put_own(alloc, part, track.seat, all)?;
-    if index + 1 < parts.len() {
-        put_pad(alloc, part, track.seat, track.rate, all)?;
-        return Ok(());
-    }
-    Ok(())
-}
-
-// The children of a joined track.
-fn seat_items<'a>(
-    alloc: Global,
-    parts: &[Part<'a>],
-    track: JoinedTrack<'a>,
+    portions: Vec<Portion>,
+    inputs: &mut Vec<Roots>,
 ) -> Result<Vec<Item>, AllocError>
-    requires { AreParts parts.now }
-    ensures { IfOk result (λ items. children.all_made track.entry.rate
-        (children_from (slot_of track.entry.seat) parts.now) ≡ Some items.items) }
+    ensures moved { IfOk result (λ all. (l : List AnyTimeline) → AreRoots inputs.old.items l →
+        all.items ≡ portions_items l portions.items) }
+    ensures left { OnOk result ((l : List AnyTimeline) → AreRoots inputs.old.items l →
+        AreRoots inputs.new.items l) }
 {
+    let mut left = portions;
+    left.reverse();
     let mut all: Vec<Item> = Vec::new(alloc);
-    'parts: for index in 0..parts.len() {
-        put_part(alloc, parts, index, track, &mut all)?;
+    'left: while let Some(portion) = left.pop() {
+        move_portion(alloc, portion, inputs, &mut all)?;
     }
     Ok(all)
 }
 
-// The item, enabled where it is a track.
-fn enabled(item: Item) -> Item
-    ensures { result ≡ as_enabled item }
+// A track with other children, enabled; another item stays as it is.
+fn joined_with(alloc: Global, track: Item, items: Vec<Item>) -> Result<Item, AllocError>
+    ensures { IfOk result (λ made. made ≡ joined.joined_with track items.items) }
 {
-    match item {
-        ItemOf::Clip(clip) => ItemOf::Clip(clip),
-        ItemOf::Gap(gap) => ItemOf::Gap(gap),
-        ItemOf::Transition(transition) => ItemOf::Transition(transition),
-        ItemOf::Stack(stack) => ItemOf::Stack(stack),
+    match track {
+        ItemOf::Clip(clip) => Ok(ItemOf::Clip(clip)),
+        ItemOf::Gap(gap) => Ok(ItemOf::Gap(gap)),
+        ItemOf::Transition(transition) => Ok(ItemOf::Transition(transition)),
+        ItemOf::Stack(stack) => Ok(ItemOf::Stack(stack)),
         ItemOf::Track(mut track) => {
+            track.children = Children::of(alloc, Items::of(items))?;
             track.enabled = true;
-            ItemOf::Track(track)
+            Ok(ItemOf::Track(track))
         }
     }
 }
 
-// A copy of a track, enabled, with other children; its own aren't copied.
-#[tactic(auto, using(crate::proofs::JoinedTracks::track_joined, crate::proofs::JoinedTracks::other_joined))]
-fn joined_with(alloc: Global, first: &Item, items: Vec<Item>) -> Result<Item, AllocError>
-    ensures { IfOk result (λ track. track ≡ joined.joined_with first.now items.items) }
-{
-    if !first.is_track() {
-        drop(items);
-        let copy = copy_item(alloc, first)?;
-        return Ok(copy);
-    }
-    let children = Children::of(alloc, Items::of(items))?;
-    let track = copy_item_with(alloc, first, children)?;
-    Ok(enabled(track))
-}
-
-// The joined track of a seat.
-fn seat_track<'a>(
+// A joined track, into which its children move.
+fn joined_track(
     alloc: Global,
-    parts: &[Part<'a>],
-    seat: Seat<'a>,
-    rate: Rate,
+    planned: PlannedTrack,
+    inputs: &mut Vec<Roots>,
 ) -> Result<Item, AllocError>
-    requires { AreParts parts.now }
-    ensures { IfOk result (λ track.
-        track_from rate parts.now (slot_of seat.entry) ≡ Some track) }
+    ensures made { IfOk result (λ track. (l : List AnyTimeline) → AreRoots inputs.old.items l →
+        track ≡ planned_track l planned) }
+    ensures left { OnOk result ((l : List AnyTimeline) → AreRoots inputs.old.items l →
+        AreRoots inputs.new.items l) }
 {
-    let items = seat_items(alloc, parts, JoinedTrack { seat, rate })?;
-    let track = joined_with(alloc, seat.first, items)?;
-    Ok(track)
+    let PlannedTrack { track, portions } = planned;
+    let items = move_portions(alloc, portions, inputs)?;
+    let joined = joined_with(alloc, track, items)?;
+    Ok(joined)
 }
 
-/// The joined tracks of seats.
-pub(crate) fn seat_tracks<'a>(
+// All joined tracks, into which their children move.
+fn joined_tracks(
     alloc: Global,
-    parts: &[Part<'a>],
-    seats: &[Seat<'a>],
-    rate: Rate,
+    plans: Vec<PlannedTrack>,
+    inputs: Vec<Roots>,
 ) -> Result<Vec<Item>, AllocError>
-    requires { AreParts parts.now }
-    ensures { IfOk result (λ tracks.
-        tracks_from rate parts.now (slots_of seats.now) ≡ Some tracks.items) }
+    ensures { IfOk result (λ tracks. (l : List AnyTimeline) → AreRoots inputs.items l →
+        tracks.items ≡ map (planned_track l) plans.items) }
 {
+    let mut inputs = inputs;
+    let mut left = plans;
+    left.reverse();
     let mut all: Vec<Item> = Vec::new(alloc);
-    'seats: for index in 0..seats.len() {
-        let track = seat_track(alloc, parts, seat_at(seats, index), rate)?;
+    'left: while let Some(planned) = left.pop() {
+        let track = joined_track(alloc, planned, &mut inputs)?;
         all.push(track)?;
     }
     Ok(all)
+}
+
+/// The first input, and the root children of all.
+#[derive(Drop)]
+struct Opened {
+    /// It has no root children any more.
+    first: Timeline,
+    all: Vec<Roots>,
+}
+
+// Takes the root children out of all inputs; of the others than the first nothing else is kept.
+fn open_inputs(alloc: Global, inputs: Vec<Timeline>) -> Result<Opened, AllocError>
+    requires { inputs.items ≢ [] }
+    ensures roots { IfOk result (λ opened. AreRoots opened.all.items inputs.items) }
+    ensures first { IfOk result (λ opened. (t : AnyTimeline) (more : List AnyTimeline) →
+        inputs.items ≡ t ∷ more → (l : List (AnyItemOf Listed)) →
+        bare (roots.with_roots l opened.first) ≡ bare (roots.with_roots l t)) }
+{
+    let mut left = inputs;
+    let mut first = take_first(&mut left);
+    let mut all: Vec<Roots> = Vec::new(alloc);
+    let taken = take_roots(alloc, &mut first)?;
+    all.push(taken)?;
+    'left: while let Some(mut input) = left.pop() {
+        let taken = take_roots(alloc, &mut input)?;
+        all.push(taken)?;
+    }
+    Ok(Opened { first, all })
+}
+
+/// The inputs joined as it is planned; the children of their tracks move. An error comes where
+/// memory runs out.
+pub(crate) fn joined_as(
+    alloc: Global,
+    inputs: Vec<Timeline>,
+    plans: Vec<PlannedTrack>,
+) -> Result<Timeline, AllocError>
+    requires some { inputs.items ≢ [] }
+    ensures { IfOk result (IsPlanned inputs.items plans.items) }
+{
+    let opened = open_inputs(alloc, inputs)?;
+    let Opened { first, all } = opened;
+    let tracks = joined_tracks(alloc, plans, all)?;
+    let joined = with_roots(alloc, first, tracks)?;
+    Ok(joined)
 }

@@ -7,15 +7,15 @@ ghost use Rattle.otio_model.specs.declared.timelines.Timeline.{Timeline as AnyTi
 ghost use Rattle.otio_model.specs.Counts.{count};
 ghost use Rattle.edits.specs.After.{rate_of};
 ghost use Rattle.flat.specs.Answers.{AreFree, AreSound, JoinRefused, Joins};
-ghost use Rattle.flat_stack.specs.Inputs.{AreParts, AreStretched, IsJoinedOf, IsWithin};
-ghost use Rattle.flat_stack.specs.Inputs.{inputs_of, slots_of};
+ghost use Rattle.flat_stack.specs.Inputs.{AreParts, AreStretched, IsWithin, inputs_of};
+ghost use Rattle.flat_stack.specs.Portions.{ArePlans};
 
 use crate::counting::are_few;
 use crate::faults::{first_fault, input_at};
 use crate::input_tracks::all_seats;
-use crate::inputs::{Part, Seat, part_of};
-use crate::joined_tracks::seat_tracks;
-use crate::part_copies::copy_with;
+use crate::inputs::{Part, part_of};
+use crate::joined_tracks::joined_as;
+use crate::planned_tracks::{PlannedTrack, planned_tracks};
 use crate::root_children::flat_rate;
 use flat::{FlatAt, FlatFault};
 use otio_model::Timeline;
@@ -48,34 +48,19 @@ fn parts_of<'a>(
     Ok(parts)
 }
 
-// The inputs joined, from what is kept of them.
-fn joined_of<'a>(
-    alloc: Global,
-    first: &Timeline,
-    parts: &[Part<'a>],
-    seats: &[Seat<'a>],
-    rate: Rate,
-) -> Result<Timeline, AllocError>
-    requires { AreParts parts.now }
-    ensures { IfOk result (λ joined. IsJoinedOf rate first.now parts.now (slots_of seats.now)
-        joined) }
-{
-    let tracks = seat_tracks(alloc, parts, seats, rate)?;
-    copy_with(alloc, first, tracks)
-}
-
-// The inputs joined, where that has so many items at most; `None` where it has more.
-fn joined_within(
+// The tracks by which inputs are joined, where the joined timeline has so many items at most;
+// `None` where it has more.
+fn plans_within(
     alloc: Global,
     inputs: &[Timeline],
     most: usize,
-) -> Result<Option<Timeline>, AllocError>
+) -> Result<Option<Vec<PlannedTrack>>, AllocError>
     requires some { inputs.now ≢ [] }
     requires few { (i : ℕ) (t : AnyTimeline) → slice_get inputs.now i ≡ Some t →
         count t.tracks.children < 2 ^ 32 }
     requires sound { AreSound inputs.now }
     requires free { AreFree true inputs.now }
-    ensures { IfOk result (IsWithin inputs.now most) }
+    ensures { IfOk result (ArePlans inputs.now most) }
 {
     let first = input_at(inputs, 0);
     let rate = flat_rate(first);
@@ -92,9 +77,40 @@ fn joined_within(
     if !are_few(parts, seats, most) {
         return Ok(None);
     }
-    match joined_of(alloc, first, parts, seats, rate) {
-        Ok(joined) => Ok(Some(joined)),
+    match planned_tracks(alloc, parts, seats, rate) {
+        Ok(plans) => Ok(Some(plans)),
         Err(error) => Err(error),
+    }
+}
+
+// The inputs joined, where that has so many items at most; `None` where it has more.
+fn joined_within(
+    alloc: Global,
+    inputs: Vec<Timeline>,
+    most: usize,
+) -> Result<Option<Timeline>, AllocError>
+    requires some { inputs.items ≢ [] }
+    requires few { (i : ℕ) (t : AnyTimeline) → slice_get inputs.items i ≡ Some t →
+        count t.tracks.children < 2 ^ 32 }
+    requires sound { AreSound inputs.items }
+    requires free { AreFree true inputs.items }
+    ensures { IfOk result (IsWithin inputs.items most) }
+{
+    match plans_within(alloc, inputs.as_slice(), most) {
+        Ok(found) => match found {
+            Some(plans) => match joined_as(alloc, inputs, plans) {
+                Ok(joined) => Ok(Some(joined)),
+                Err(error) => Err(error),
+            },
+            None => {
+                drop(inputs);
+                Ok(None)
+            }
+        },
+        Err(error) => {
+            drop(inputs);
+            Err(error)
+        }
     }
 }
 
@@ -117,25 +133,28 @@ fn no_memory() -> FlatAt
 /// place in document order: [`FlatFault::Nested`] for a root child that is no track or has a
 /// source_range or effects, or [`FlatFault::Transition`] for a transition of an enabled track that
 /// reaches an end of its track at which another input stands. [`FlatFault::Memory`] comes where
-/// memory runs out, and then the input is 0.
+/// memory runs out, and then the input is 0. The children of the inputs' tracks move.
 pub fn join_within(
     alloc: Global,
-    inputs: &[Timeline],
+    inputs: Vec<Timeline>,
     most: u64,
 ) -> Result<Option<Timeline>, FlatAt>
-    requires some { inputs.now ≢ [] }
-    requires few { (i : ℕ) (t : AnyTimeline) → slice_get inputs.now i ≡ Some t →
+    requires some { inputs.items ≢ [] }
+    requires few { (i : ℕ) (t : AnyTimeline) → slice_get inputs.items i ≡ Some t →
         count t.tracks.children < 2 ^ 32 }
-    requires sound { AreSound inputs.now }
+    requires sound { AreSound inputs.items }
     ensures joined { IfOk result (λ joined. IfSome joined
-        (λ r. Joins inputs.now r × (count r.tracks.children ≤ most))) }
-    ensures large { IfOk result (λ joined. IfNone joined (AreFree true inputs.now ×
-        ((r : AnyTimeline) → Joins inputs.now r → most < count r.tracks.children))) }
-    ensures refused { IfErr result (JoinRefused inputs.now) }
+        (λ r. Joins inputs.items r × (count r.tracks.children ≤ most))) }
+    ensures large { IfOk result (λ joined. IfNone joined (AreFree true inputs.items ×
+        ((r : AnyTimeline) → Joins inputs.items r → most < count r.tracks.children))) }
+    ensures refused { IfErr result (JoinRefused inputs.items) }
     ensures memory { IfErr result (λ at. at.fault ≡ FlatFault.Memory → at.input ≡ 0) }
 {
-    match first_fault(alloc, inputs) {
-        Some(fault) => Err(fault),
+    match first_fault(alloc, inputs.as_slice()) {
+        Some(fault) => {
+            drop(inputs);
+            Err(fault)
+        }
         None => match joined_within(alloc, inputs, most as usize) {
             Ok(joined) => Ok(joined),
             Err(_) => Err(no_memory()),
@@ -146,13 +165,13 @@ pub fn join_within(
 /// The inputs one after another, as [`join_within`] says it, however many items there are. The
 /// fault is [`FlatFault::Nested`] or [`FlatFault::Transition`] of the first input that has one, as
 /// there, or [`FlatFault::Memory`] where memory runs out, and then the input is 0.
-pub fn join(alloc: Global, inputs: &[Timeline]) -> Result<Timeline, FlatAt>
-    requires some { inputs.now ≢ [] }
-    requires few { (i : ℕ) (t : AnyTimeline) → slice_get inputs.now i ≡ Some t →
+pub fn join(alloc: Global, inputs: Vec<Timeline>) -> Result<Timeline, FlatAt>
+    requires some { inputs.items ≢ [] }
+    requires few { (i : ℕ) (t : AnyTimeline) → slice_get inputs.items i ≡ Some t →
         count t.tracks.children < 2 ^ 32 }
-    requires sound { AreSound inputs.now }
-    ensures joined { IfOk result (Joins inputs.now) }
-    ensures refused { IfErr result (JoinRefused inputs.now) }
+    requires sound { AreSound inputs.items }
+    ensures joined { IfOk result (Joins inputs.items) }
+    ensures refused { IfErr result (JoinRefused inputs.items) }
     ensures memory { IfErr result (λ at. at.fault ≡ FlatFault.Memory → at.input ≡ 0) }
 {
     match join_within(alloc, inputs, u64::MAX) {

@@ -1,8 +1,8 @@
 -- What stands in a JSON string for bytes, run by run.
-use Rattle.std.proofs.Common.{◌≡◌, ◌<◌, ◌≤◌, ◌+◌, ◌-◌, ◌⊎◌, inl, inr, ℕ, zero, suc, Bool, true, false, cond, List, [], ◌∷◌, ◌++◌, Some, None, take, drop, length, position, get_or, refl, sym, ap, ap₂, ◌∙◌, subst, add-one, arith}
+use Rattle.std.proofs.Common.{◌≡◌, ◌<◌, ◌≤◌, ◌+◌, ◌-◌, ◌⊎◌, inl, inr, ℕ, zero, suc, true, false, cond, List, [], ◌∷◌, ◌++◌, Some, None, take, drop, length, position, get_or, refl, sym, ap, ap₂, ◌∙◌, subst, append-nil, take-append-drop, arith}
 use Rattle.std.specs.Prelude.{nat_lt}
-use Rattle.std.proofs.lemmas.List.{get_or-drop, get_or-take, length-drop, length-take}
-use Rattle.std.proofs.lemmas.Grind.{common_steps}
+use Rattle.std.proofs.lemmas.List.{get_or-drop, get_or-take, length-drop, length-take, take_more}
+use Rattle.std.proofs.lemmas.Grind.{common_steps, flat_map-append}
 use Rattle.std.proofs.lemmas.Bool.Decides.{nat_tests}
 use Rattle.std.specs.List.{position_or_len}
 use Rattle.std.proofs.lemmas.List.Quantifiers.{position-Some}
@@ -14,20 +14,36 @@ use Rattle.json_text.proofs.Utf8Lemmas.{order}
 pub escape_plain : (b : ℕ) → needs_escape b ≡ false → escape b ≡ b ∷ []
 escape_plain b h = grind (arith, nat_tests)
 
--- bytes before the first that needs an escape stand as they are
-before_first : (bytes : List ℕ) (i : ℕ) → i < length bytes → ((k : ℕ) → k < i → needs_escape (get_or bytes k 0) ≡ false)
-    → escaped bytes ≡ take i bytes ++ (escape (get_or bytes i 0) ++ escaped (drop (suc i) bytes))
-before_first [] i h plain = absurd (omega arith)
-before_first (b ∷ bytes) zero h plain = refl
-before_first (b ∷ bytes) (suc i) h plain =
+-- so many bytes that need no escape stand as they are
+plain_front : (bytes : List ℕ) (i : ℕ) → i < length bytes → ((k : ℕ) → k < i → needs_escape (get_or bytes k 0) ≡ false)
+    → escaped bytes ≡ take i bytes ++ escaped (drop i bytes)
+plain_front [] i h plain = absurd (omega arith)
+plain_front (b ∷ bytes) zero h plain = refl
+plain_front (b ∷ bytes) (suc i) h plain =
     ap₂ (λ x y. x ++ y) (escape_plain b (plain 0 (omega arith)))
-    (before_first bytes i (omega arith) (λ k below. plain (suc k) (omega arith)))
+    (plain_front bytes i (omega arith) (λ k below. plain (suc k) (omega arith)))
 
+-- the bytes before the first that needs an escape, and those from it on
 pub escaped-Some : (bytes : List ℕ) (i : ℕ) → Some i ≡ position needs_escape bytes
-    → escaped bytes ≡ take i bytes ++ (escape (get_or bytes i 0) ++ escaped (drop (i + 1) bytes))
+    → (i < length bytes) × (escaped bytes ≡ take i bytes ++ escaped (drop i bytes))
 escaped-Some bytes i h =
     let p = position-Some needs_escape bytes i 0 (sym h) in
-    rw add-one (before_first bytes i p.0 p.2)
+    (p.0, plain_front bytes i p.0 p.2)
+
+-- so many bytes, and the others
+pub escaped-parts : (bytes : List ℕ) (n : ℕ)
+    → escaped bytes ≡ escaped (take n bytes) ++ escaped (drop n bytes)
+escaped-parts bytes n =
+    ap (λ (x : List ℕ). escaped x) (sym (take-append-drop n bytes))
+    ∙ flat_map-append escape (take n bytes) (drop n bytes)
+
+-- one byte more
+pub escaped-next : (bytes : List ℕ) (i : ℕ) → i < length bytes
+    → escaped (take (i + 1) bytes) ≡ escaped (take i bytes) ++ escape (get_or bytes i 0)
+escaped-next bytes i h =
+    ap (λ (x : List ℕ). escaped x) (take_more bytes i 0 h)
+    ∙ flat_map-append escape (take i bytes) (get_or bytes i 0 ∷ [])
+    ∙ ap (λ x. escaped (take i bytes) ++ x) (append-nil (escape (get_or bytes i 0)))
 
 all_plain : (bytes : List ℕ) → ((k : ℕ) → k < length bytes → needs_escape (get_or bytes k 0) ≡ false) → escaped bytes ≡ bytes
 all_plain [] plain = refl

@@ -1,5 +1,5 @@
 -- What a reader of JSON text was fed.
-use Rattle.std.specs.Prelude.{◌≡◌, ℕ, ◌≤◌, List, [], ◌++◌, Some, None, Ok, length}
+use Rattle.std.specs.Prelude.{◌≡◌, ◌⊎◌, ℕ, ◌≤◌, List, [], ◌++◌, Some, None, Ok, length}
 use Rattle.limits.specs.Limits.{most_bytes}
 use Rattle.json_text.specs.declared.faults.JsonFault.{JsonFault}
 use Rattle.json_text.specs.declared.reader.JsonReader.{JsonReader}
@@ -27,3 +27,8 @@ StaysLive old piece = (bytes : List ℕ) → HasRead bytes old
 -- The reader met this fault.
 abbrev pub HasFailed : JsonFault → JsonReader → Type 0
 HasFailed fault reader = reader.fault ≡ Some fault
+
+-- The reader was fed bytes and met no fault, or it met a fault.
+abbrev pub HasReadOrFailed : JsonReader → Type 0
+HasReadOrFailed reader = ((bytes : List ℕ) × HasRead bytes reader)
+    ⊎ ((fault : JsonFault) × HasFailed fault reader)

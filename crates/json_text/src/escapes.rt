@@ -6,7 +6,7 @@ ghost use Rattle.std.specs.Char as chars;
 ghost use Rattle.std.specs.Char.{IsScalar};
 ghost use Rattle.arrayvec.specs.ArrayVec.{array_vec_len};
 ghost use Rattle.json_text.specs.Grammar as grammar;
-ghost use Rattle.json_text.specs.State.Runs.{StandsFor, IsEscape, IsCode, IsFirstHalf, IsSecondHalf};
+ghost use Rattle.json_text.specs.State.Runs.{StandsFor, IsEscape, IsCode, IsFirstHalf, IsNumber, IsSecondHalf};
 
 use crate::bytes::{after, digit_value, escaped, is_open, of_digits16};
 use crate::strings::joined;
@@ -128,13 +128,10 @@ fn first_half(a: u8, b: u8, c: u8, d: u8) -> Option<u16>
     if digit_value(b) >= 12 {
         return None;
     }
-    if digit_value(c) >= 16 {
-        return None;
+    match number(a, b, c, d) {
+        Some(half) => Some(half as u16),
+        None => None,
     }
-    if digit_value(d) >= 16 {
-        return None;
-    }
-    Some(of_digits16(a, b, c, d) as u16)
 }
 
 // The second half of a character, of that code.
@@ -147,21 +144,22 @@ fn second_half(a: u8, b: u8, c: u8, d: u8) -> Option<u32>
     if digit_value(b) < 12 {
         return None;
     }
-    if digit_value(b) >= 16 {
-        return None;
-    }
-    if digit_value(c) >= 16 {
-        return None;
-    }
-    if digit_value(d) >= 16 {
-        return None;
-    }
-    Some(of_digits16(a, b, c, d))
+    number(a, b, c, d)
 }
 
 // The character of that code.
 fn code(a: u8, b: u8, c: u8, d: u8) -> Option<char>
     ensures { IfSome result (IsCode a b c d) }
+{
+    match number(a, b, c, d) {
+        Some(code) => char::from_u32(code),
+        None => None,
+    }
+}
+
+// The number of four digits of base 16.
+fn number(a: u8, b: u8, c: u8, d: u8) -> Option<u32>
+    ensures { IfSome result (IsNumber a b c d) }
 {
     if digit_value(a) >= 16 {
         return None;
@@ -175,10 +173,7 @@ fn code(a: u8, b: u8, c: u8, d: u8) -> Option<char>
     if digit_value(d) >= 16 {
         return None;
     }
-    match char::from_u32(of_digits16(a, b, c, d)) {
-        Some(character) => Some(character),
-        None => None,
-    }
+    Some(of_digits16(a, b, c, d))
 }
 
 // Adds the character in UTF-8.

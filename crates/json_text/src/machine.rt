@@ -1,6 +1,6 @@
 //! The steps of the machine that reads JSON text, but for those inside a string.
 
-ghost use Rattle.std.specs.Prelude.{◌≡◌, ◌++◌, ◌∷◌, [], List, ℕ, IfOk, OnOk, Some, None, length};
+ghost use Rattle.std.specs.Prelude.{◌≡◌, ◌++◌, ◌∷◌, [], List, ℕ, IfOk, IsTrue, OnOk, Some, None, length, nat_lt, reverse};
 ghost use Rattle.json_text.specs.State.Machine as spec;
 
 use crate::bytes::{ends, is_whitespace, next_place, text_from};
@@ -73,33 +73,16 @@ impl Machine {
     pub(crate) fn place(&mut self, value: Json) -> Result<(), AllocError>
         ensures { OnOk result (state_of self.new ≡ spec.placed (levels_of self.old) value) }
     {
-        let none = no_name();
         match &mut self.inner {
             None => {
                 self.root = value;
                 self.hand = Hand::Done;
                 return Ok(());
             }
-            Some(level) => add(level, value, none)?,
+            Some(level) => add(level, value)?,
         }
         self.hand = Hand::Behind;
         Ok(())
-    }
-
-    // Opens a list or an object.
-    fn open(&mut self, level: Unclosed, hand: Hand) -> Result<Taken, AllocError>
-        ensures { IfOk result (λ taken. IsTaken taken
-            (spec.opened 127 (levels_of self.old) level
-            (hand_of hand self.old.text.items self.old.root)) (state_of self.new)) }
-    {
-        if self.depth() >= LEVELS {
-            return Ok(Taken::Stops(Stop::Depth));
-        }
-        match self.inner.replace(level) {
-            Some(around) => self.outer.push(around)?,
-            None => self.outer.clear(),
-        }
-        Ok(self.goes(hand))
     }
 
     // Opens a list.
@@ -108,8 +91,11 @@ impl Machine {
             (spec.opened 127 (levels_of self.old) (Unclosed.List []) spec.first_item)
             (state_of self.new)) }
     {
-        let items = empty(self.alloc, self.lists.pop());
-        self.open(Unclosed::List(items), Hand::FirstItem)
+        if !self.go_inside()? {
+            return Ok(Taken::Stops(Stop::Depth));
+        }
+        self.inner = Some(Unclosed::List(empty(self.alloc, self.lists.pop())));
+        Ok(self.goes(Hand::FirstItem))
     }
 
     // Opens an object.
@@ -118,8 +104,39 @@ impl Machine {
             (spec.opened 127 (levels_of self.old) (Unclosed.Map [] []) spec.first_name)
             (state_of self.new)) }
     {
-        let pairs = empty(self.alloc, self.maps.pop());
-        self.open(Unclosed::Map(pairs, no_name()), Hand::FirstName)
+        if !self.go_inside()? {
+            return Ok(Taken::Stops(Stop::Depth));
+        }
+        self.inner = Some(Unclosed::Map(empty(self.alloc, self.maps.pop()), no_name()));
+        Ok(self.goes(Hand::FirstName))
+    }
+
+    // Makes the innermost list or object one of those around the next, unless that were one too
+    // many.
+    fn go_inside(&mut self) -> Result<bool, AllocError>
+        ensures few { IfOk result (λ inside. inside ≡ nat_lt (length (levels_of self.old)) 127) }
+        ensures around { IfOk result (λ inside. IsTrue inside
+            → reverse self.new.outer.items ≡ levels_of self.old) }
+    {
+        if self.depth() >= LEVELS {
+            return Ok(false);
+        }
+        match &mut self.inner {
+            Some(level) => set_aside(self.alloc, level, &mut self.outer)?,
+            None => self.outer.clear(),
+        }
+        Ok(true)
+    }
+
+    // Makes the latest of those around the innermost one.
+    fn go_outside(&mut self)
+        ensures { levels_of self.new ≡ reverse self.old.outer.items }
+    {
+        match self.outer.pop() {
+            Some(Unclosed::List(items)) => self.inner = Some(Unclosed::List(items)),
+            Some(Unclosed::Map(pairs, name)) => self.inner = Some(Unclosed::Map(pairs, name)),
+            None => self.inner = None,
+        }
     }
 
     // How many lists and objects are open.
@@ -217,8 +234,8 @@ impl Machine {
         let Some(level) = self.inner.take() else {
             return Ok(Taken::Stops(Stop::Syntax));
         };
-        self.inner = self.outer.pop();
         let value = self.whole(level)?;
+        self.go_outside();
         self.place(value)?;
         Ok(Taken::Goes)
     }
@@ -228,6 +245,7 @@ impl Machine {
     fn whole(&mut self, level: Unclosed) -> Result<Json, AllocError>
         ensures value { IfOk result (λ value. value ≡ spec.whole level) }
         ensures levels { levels_of self.new ≡ levels_of self.old }
+        ensures outer { self.new.outer ≡ self.old.outer }
     {
         match level {
             Unclosed::List(mut items) => {
@@ -382,15 +400,36 @@ impl Machine {
     }
 }
 
-// Adds a value to a list, or to an object under the name at hand, which `none` replaces.
-fn add(level: &mut Unclosed, value: Json, none: Text) -> Result<(), AllocError>
-    requires { none ≡ [] }
+// Adds a value to a list, or to an object under the name at hand.
+fn add(level: &mut Unclosed, value: Json) -> Result<(), AllocError>
     ensures { OnOk result (level.new ≡ spec.added level.old value) }
 {
     match level {
         Unclosed::List(items) => items.push(value),
-        Unclosed::Map(pairs, name) => pairs.push((mem::replace(name, none), value)),
+        Unclosed::Map(pairs, name) => pairs.push((mem::replace(name, no_name()), value)),
     }
+}
+
+// Moves what a list or an object holds so far to the end of those around.
+fn set_aside(
+    alloc: Global,
+    level: &mut Unclosed,
+    outer: &mut Vec<Unclosed>,
+) -> Result<(), AllocError>
+    ensures { OnOk result (outer.new.items ≡ outer.old.items ++ level.old ∷ []) }
+{
+    match level {
+        Unclosed::List(items) => {
+            let items = mem::replace(items, Sequence::new(alloc));
+            outer.push(Unclosed::List(items))?;
+        }
+        Unclosed::Map(pairs, name) => {
+            let pairs = mem::replace(pairs, Sequence::new(alloc));
+            let name = mem::replace(name, no_name());
+            outer.push(Unclosed::Map(pairs, name))?;
+        }
+    }
+    Ok(())
 }
 
 // An empty list, in memory that served before if there is some.

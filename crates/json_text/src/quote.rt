@@ -1,14 +1,25 @@
 // JSON strings as they are written.
-ghost use Rattle.std.specs.Prelude.{◌≡◌, ◌<◌, ◌≤◌, ◌+◌, ◌∷◌, ◌++◌, [], false, IsTrue, drop, length, position, take};
+ghost use Rattle.std.specs.Prelude.{◌≡◌, ◌<◌, ◌≤◌, ◌+◌, ◌∷◌, ◌++◌, [], false, true, IsTrue, MatchOption, drop, length, position, take};
+ghost use Rattle.arrayvec.specs.ArrayVec.{array_vec_len};
 ghost use Rattle.std.specs.Char.{digit_char};
 ghost use Rattle.dev_io.specs.Buffer.{HandsOver};
 ghost use Rattle.json_text.specs.StringTexts.{IsPlain, code_escape, escape, escaped, quoted, needs_escape};
 
 use crate::bytes::larger;
+use arrayvec::ArrayVec;
 use dev_io::{Out, OutBuffer};
 
 // The bytes of a block, which are looked at together.
 const BLOCK: usize = 64;
+
+// How many bytes are gathered at most.
+const ROOM: usize = 64;
+
+// So many bytes leave room for one more escape.
+const MOST: usize = 58;
+
+// As many bytes between two escapes are too many to be gathered with them.
+const NEAR: usize = 8;
 
 /// Hands these bytes over as a JSON string (RFC 8259, section 7): between `"`, with `"` and `\`
 /// behind a `\`, the control characters below U+0020 as `\b`, `\f`, `\n`, `\r`, `\t` or `\u00xx`,
@@ -39,9 +50,11 @@ pub fn put_escaped<W: Out>(buffer: &mut OutBuffer, out: &mut W, bytes: &[u8])
 {
     let mut rest = bytes;
     'runs: while let Some(index) = first_escaped(rest) {
-        buffer.put(out, rest.split_at(index).0);
-        put_escape(buffer, out, rest[index]);
-        rest = rest.split_at(index + 1).1;
+        let (plain, behind) = rest.split_at(index);
+        buffer.put(out, plain);
+        let (count, made) = gathered(behind);
+        buffer.put(out, made.as_slice());
+        rest = behind.split_at(count).1;
     }
     buffer.put(out, rest);
 }
@@ -111,38 +124,72 @@ fn escaped_in(bytes: &[u8]) -> Option<usize>
         .position(|byte| *byte < b' ' || *byte == b'"' || *byte == b'\\')
 }
 
-// Hands over what stands for this byte in a JSON string.
-fn put_escape<W: Out>(buffer: &mut OutBuffer, out: &mut W, byte: u8)
-    ensures { HandsOver W.known W.faults out.old out.new buffer.old buffer.new (escape byte) }
+// What stands for the first bytes in a JSON string, and how many they are: escapes that stand close
+// to one another, and what is between them.
+fn gathered(bytes: &[u8]) -> (usize, ArrayVec<u8, ROOM>)
+    requires { 0 < length bytes.now }
+    ensures some { 0 < result.0 }
+    ensures within { result.0 ≤ length bytes.now }
+    ensures made { result.1.items ≡ escaped (take result.0 bytes.now) }
 {
-    match byte {
-        b'"' => buffer.put(out, b"\\\""),
-        b'\\' => buffer.put(out, b"\\\\"),
-        0x08 => buffer.put(out, b"\\b"),
-        0x0c => buffer.put(out, b"\\f"),
-        b'\n' => buffer.put(out, b"\\n"),
-        b'\r' => buffer.put(out, b"\\r"),
-        b'\t' => buffer.put(out, b"\\t"),
-        0x00..=0x1f => put_code(buffer, out, byte),
-        _ => buffer.put(out, &[byte]),
+    let mut made = ArrayVec::new();
+    add_escape(&mut made, bytes[0]);
+    let mut at = 1;
+    let mut plain: usize = 0;
+    'bytes: while at < bytes.len() && made.len() < MOST && plain < NEAR {
+        add_escape(&mut made, bytes[at]);
+        plain = if is_escaped(bytes[at]) { 0 } else { plain + 1 };
+        at += 1;
+    }
+    (at, made)
+}
+
+// Adds what stands for this byte in a JSON string.
+fn add_escape(made: &mut ArrayVec<u8, ROOM>, byte: u8)
+    requires { array_vec_len made.old < 58 }
+    ensures { made.new.items ≡ made.old.items ++ escape byte }
+{
+    if !is_escaped(byte) {
+        made.push(byte);
+        return;
+    }
+    match letter(byte) {
+        Some(letter) => made.try_extend_from_slice(&[b'\\', letter]).unwrap(),
+        None => add_code(made, byte),
     }
 }
 
-// Hands over the escape of a byte by its code.
-fn put_code<W: Out>(buffer: &mut OutBuffer, out: &mut W, byte: u8)
-    ensures { HandsOver W.known W.faults out.old out.new buffer.old buffer.new (code_escape byte) }
+// What stands behind the backslash of a byte's escape of two characters, if it has one.
+fn letter(byte: u8) -> Option<u8>
+    requires { needs_escape byte ≡ true }
+    ensures { MatchOption result (escape byte ≡ code_escape byte)
+        (λ letter. escape byte ≡ 92 ∷ letter ∷ []) }
 {
-    buffer.put(
-        out,
-        &[
-            b'\\',
-            b'u',
-            b'0',
-            b'0',
-            hex_digit(byte / 16),
-            hex_digit(byte % 16),
-        ],
-    );
+    match byte {
+        0x08 => Some(b'b'),
+        b'\t' => Some(b't'),
+        b'\n' => Some(b'n'),
+        0x0c => Some(b'f'),
+        b'\r' => Some(b'r'),
+        0..=31 => None,
+        _ => Some(byte),
+    }
+}
+
+// Adds the escape of a byte by its code.
+fn add_code(made: &mut ArrayVec<u8, ROOM>, byte: u8)
+    requires { array_vec_len made.old < 58 }
+    ensures { made.new.items ≡ made.old.items ++ code_escape byte }
+{
+    made.try_extend_from_slice(&[
+        b'\\',
+        b'u',
+        b'0',
+        b'0',
+        hex_digit(byte / 16),
+        hex_digit(byte % 16),
+    ])
+    .unwrap();
 }
 
 // The lower case hexadecimal digit of a number below 16.

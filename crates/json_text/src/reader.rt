@@ -32,7 +32,7 @@ pub struct JsonReader {
 impl JsonReader {
     ghost use Rattle.json_text.specs.Grammar.{text_of};
     ghost use Rattle.json_text.specs.Faults.{Names};
-    ghost use Rattle.json_text.specs.Reader.{HasRead, HasFailed, ReadsOn, StaysLive};
+    ghost use Rattle.json_text.specs.Reader.{HasRead, HasFailed, HasReadOrFailed, ReadsOn, StaysLive};
 
     /// A reader that was fed nothing. It takes no memory.
     pub fn new(alloc: Global) -> JsonReader
@@ -55,15 +55,18 @@ impl JsonReader {
             Names fault (bytes ++ piece.now)) }
         ensures failed { IfErr result (λ fault. HasFailed fault self.new) }
         ensures again { (fault : JsonFault) → HasFailed fault self.old → result ≡ Err fault }
+        ensures stands { HasReadOrFailed self.old → HasReadOrFailed self.new }
     {
         if let Some(fault) = self.fault {
             return Err(fault);
         }
-        let taken = self.take(piece);
-        if let Err(fault) = taken {
-            self.fault = Some(fault);
+        match self.take(piece) {
+            Ok(()) => Ok(()),
+            Err(fault) => {
+                self.fault = Some(fault);
+                Err(fault)
+            }
         }
-        taken
     }
 
     // Reads the next bytes where no fault came before.

@@ -13,6 +13,7 @@ mod faults;
 mod fields;
 mod list;
 mod reader;
+mod reels;
 mod rows;
 mod table;
 mod words;
@@ -21,6 +22,7 @@ pub use faults::MediaFault;
 pub use list::MediaList;
 pub use media_rows::MediaRow;
 pub use reader::MediaReader;
+pub use reels::row_of;
 
 /// Law: bytes are one media list at most, or have one fault at most, and never both. It does
 /// nothing.

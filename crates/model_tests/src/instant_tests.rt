@@ -28,9 +28,7 @@ fn missing(alloc: Global, available_range: Option<Span>) -> Media {
 }
 
 fn media(alloc: Global, available_range: Option<Span>) -> Result<MediaMap, AllocError> {
-    let mut media = MediaMap::new(alloc);
-    media.put(Text::empty(), missing(alloc, available_range))?;
-    Ok(media)
+    MediaMap::one(alloc, "", missing(alloc, available_range))
 }
 
 fn clip(alloc: Global, source_range: Option<Span>, media_references: MediaMap) -> Item

@@ -3,6 +3,8 @@
 #![tactic(auto)]
 
 #[cfg(test)]
+mod copy_tests;
+#[cfg(test)]
 mod instant_tests;
 #[cfg(test)]
 mod row_tests;

@@ -1,9 +1,9 @@
 //! Lengths, places and copies of leaves, speeds of effects, and searches over children.
 
-use crate::trees::{FRAME, frames, gap, played, rate_24, span, warps};
+use crate::trees::{FRAME, copied, frames, gap, played, rate_24, span, warps};
 use otio_model::{
     Children, Clip, Effects, External, Item, ItemOf, Items, Media, MediaMap, Place, Transition,
-    copy_item, copy_place,
+    copy_place,
 };
 use sequences::{NamedValues, Text};
 use std::alloc::{AllocError, Global};
@@ -33,9 +33,7 @@ fn external(alloc: Global, available_range: Option<Span>) -> Result<Media, Alloc
 
 // The media that are one, under that key.
 fn media_of(alloc: Global, key: Text, medium: Media) -> Result<MediaMap, AllocError> {
-    let mut media = MediaMap::new(alloc);
-    media.put(key, medium)?;
-    Ok(media)
+    MediaMap::one(alloc, key.as_str(), medium)
 }
 
 // A clip with one medium, under that key, that uses those of the key `m`.
@@ -101,6 +99,16 @@ fn media_are_those_of_the_key(rt: HostRuntime) -> Result<(), Fail> {
     Ok(())
 }
 
+#[test]
+fn kept_places_change_no_value(rt: HostRuntime) -> Result<(), Fail> {
+    let range = span(10, 100);
+    let clip = clip_under(rt.alloc(), "m", range)?.with_places("cmx_3600", "reel");
+    let has_list = clip.metadata_value("cmx_3600").is_some();
+    assert!(rt; !has_list);
+    has_medium(&rt, clip, (true, range));
+    Ok(())
+}
+
 // A place of one index.
 fn place_one(alloc: Global, first: u32) -> Result<Place, AllocError> {
     let mut place = Place::new(alloc);
@@ -126,14 +134,6 @@ fn places_keep_indexes(rt: HostRuntime) -> Result<(), Fail> {
     drop(copy);
     assert!(rt; found == (2, Some(4_294_967_295), None));
     Ok(())
-}
-
-// A copy of an item, once that is made.
-fn copied(alloc: Global, made: Result<Item, AllocError>) -> Result<Item, AllocError> {
-    let item = made?;
-    let copy = copy_item(alloc, &item);
-    drop(item);
-    copy
 }
 
 #[test]

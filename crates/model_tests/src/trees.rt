@@ -5,7 +5,7 @@ ghost use Rattle.otio_model.specs.Counts.{count, count_of};
 
 use otio_model::{
     Children, Clip, Effect, Effects, Gap, Item, ItemOf, Items, Markers, MediaMap, Stack, StackOf,
-    Timeline, TrackOf, Warp,
+    Timeline, TrackOf, Warp, copy_item,
 };
 use owned::Owned;
 use sequences::{NamedValues, Text};
@@ -91,7 +91,16 @@ pub fn gap(alloc: Global, source_range: Option<Span>) -> Item
     })
 }
 
-fn warp(alloc: Global, time_scalar: Scalar) -> Result<Effect, AllocError> {
+/// The copy of an item, once that is made.
+pub fn copied(alloc: Global, made: Result<Item, AllocError>) -> Result<Item, AllocError> {
+    let item = made?;
+    let copy = copy_item(alloc, &item);
+    drop(item);
+    copy
+}
+
+/// A change of speed.
+pub fn warp(alloc: Global, time_scalar: Scalar) -> Result<Effect, AllocError> {
     let warp = Warp {
         time_scalar,
         metadata: NamedValues::new(alloc),

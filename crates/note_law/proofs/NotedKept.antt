@@ -26,7 +26,7 @@ noted_text t media drop wide list notes sound rows carried i title names spelled
 
 pub noted_frames_kept : (t : Timeline) (media : MediaRows) (drop wide : Bool) (list : EventList) (notes : List Note) → IsSound t → AreListed media → not_carried t media drop wide ≡ None
     → IsListOf t media drop wide list → IsUtf8 list.title → All HasNames list.events → AllSpelled list.rate drop notes → length (noted_spelling list notes drop wide) ≤ most_bytes
-    → KeepsFrames t media (noted_spelling list notes drop wide)
+    → KeepsFrames t media wide (noted_spelling list notes drop wide)
 noted_frames_kept t media drop wide list notes sound rows carried i title names spelled small =
     let again = read_again list notes drop wide (noted_text t media drop wide list notes sound rows carried i title names spelled small) in
     frames_kept_by t media drop wide list sound rows carried i (noted_spelling list notes drop wide) again.read again.reads again.same again.only

@@ -61,8 +61,8 @@ pub fn noted_round_trip()
 
 /// Law: the text of a sound timeline's list with notes that have texts, of no more bytes than a
 /// reader takes, keeps the timeline's frames: it is read as one list and no other, the media list
-/// holds that list, and each timeline that it conforms to shows what the timeline shows. It does
-/// nothing.
+/// holds that list, it conforms to a timeline, and each such timeline shows what the first one
+/// shows. It does nothing.
 pub fn noted_lists_keep_frames()
     ensures { (t : Timeline) (media : MediaRows) (drop wide : Bool) (list : EventList)
         (notes : List Note) → IsSound t → AreListed media →
@@ -70,7 +70,7 @@ pub fn noted_lists_keep_frames()
         IsUtf8 list.title → All HasNames list.events →
         All (λ note. IsSpelled list.rate drop note.said) notes →
         length (noted_spelling list notes drop wide) ≤ most_bytes →
-        KeepsFrames t media (noted_spelling list notes drop wide) }
+        KeepsFrames t media wide (noted_spelling list notes drop wide) }
 {}
 
 /// Law: with notes of a well formed list a timeline is one, the memory that it keeps to spare

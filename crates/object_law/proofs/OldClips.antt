@@ -29,7 +29,7 @@ use Rattle.schema_up.specs.Names.{schema_named}
 use Rattle.schema_up.specs.UpgradeRows.{row_of}
 use Rattle.schema_up.specs.Upgrades.{Pairs, upgraded, upgraded_at, items_at, pairs_at, renewed, without, medium_in, media_of, second_marker, second_clip}
 use Rattle.schema_rows.specs.Schemas.{schema_key, rows_of, text_of, name_of, version_of, named}
-use Rattle.schema_rows.specs.Families.{is_row, others, member}
+use Rattle.schema_rows.specs.Families.{is_row, others}
 use Rattle.schema_up.proofs.PutLemmas.{Lacks}
 use Rattle.schema_up.proofs.Levels.{upgraded_at-Map, upgraded_at-List, kept_same}
 use Rattle.schema_write.specs.Objects.{span_json, effects_json, mark_json, old_mark_json, marker_by, markers_by, marker_json, markers_json, medium_json, reference_json, old_clip_json, newer, older, gap_in, transition_json}

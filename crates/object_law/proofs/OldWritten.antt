@@ -6,7 +6,6 @@ use Rattle.json_value.specs.declared.Json.{Json, Str, Map, Null, Bool as JsonOfB
 use Rattle.otio_model.specs.declared.compositions.Listed.{Listed}
 use Rattle.otio_model.specs.declared.compositions.ItemOf.{ItemOf}
 use Rattle.otio_model.specs.declared.compositions.ItemOf.TheVariants as I
-use Rattle.otio_model.specs.declared.compositions.Clip.{Clip}
 use Rattle.otio_model.specs.declared.compositions.Gap.{Gap}
 use Rattle.otio_model.specs.declared.compositions.Transition.{Transition}
 use Rattle.otio_model.specs.declared.compositions.StackOf.{StackOf}

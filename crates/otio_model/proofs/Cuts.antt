@@ -1,10 +1,10 @@
 -- Pieces that are made one after another.
 use Rattle.std.proofs.Common.{◌≡◌, ℕ, ◌<◌, ◌+◌, ◌*◌, ◌≤◌, zero, suc, List, [], ◌∷◌, ◌++◌, ◌⊎◌, inl}
-use Rattle.std.proofs.Common.{inr, refl, ap, sym, ◌∙◌, length, take, get_or, subst, arith}
+use Rattle.std.proofs.Common.{inr, refl, ap, sym, ◌∙◌, length, take, drop, get_or, subst, arith}
 use Rattle.std.proofs.Common.{length-append, append_assoc, append-nil}
 use Rattle.std.specs.Prelude.{reverse}
 use Rattle.std.specs.Vec.{vec_capacity}
-use Rattle.std.proofs.lemmas.List.{take_more, reverse-reverse, reverse-append}
+use Rattle.std.proofs.lemmas.List.{take_more, take-append-drop, reverse-append}
 use Rattle.otio_model.specs.declared.compositions.ItemOf.{ItemOf}
 use Rattle.otio_model.specs.declared.compositions.Listed.{Listed}
 use Rattle.otio_model.specs.declared.lists.Piece.{Piece}
@@ -27,15 +27,6 @@ length_more ps i p h e =
     ∙ ap length (all_items-last (take i ps) p)
     ∙ length-append (all_items (take i ps)) p.items.items
 
-all-last : (ps : List Piece) (p : Piece) → AllPieces ps → IsPiece p → AllPieces (ps ++ p ∷ [])
-all-last [] p a h = (h, tt)
-all-last (q ∷ ps) p a h = (a.0, all-last ps p a.1 h)
-
-full-last : (ps : List Piece) (p : Piece) → AllFull ps → 32 ≤ length p.items.items
-    → AllFull (ps ++ p ∷ [])
-full-last [] p a h = (h, tt)
-full-last (q ∷ ps) p a h = (a.0, full-last ps p a.1 h)
-
 last-fresh : (ps : List Piece) (p : Piece) → AllFresh (ps ++ p ∷ []) → IsFresh p × AllFresh ps
 last-fresh [] p a = (a.0, tt)
 last-fresh (q ∷ ps) p a = let r = last-fresh ps p a.1 in (r.0, (a.0, r.1))
@@ -44,25 +35,29 @@ pub fresh_last : (old new : List Piece) (p : Piece) → old ≡ new ++ p ∷ [] 
     → IsFresh p × AllFresh new
 fresh_last old new p e a = last-fresh new p (subst AllFresh e a)
 
-pub items_next : (xs mid rest q : List (ItemOf Listed)) (made : List Piece) (p : Piece)
-    → xs ≡ all_items made ++ reverse mid → mid ≡ rest ++ reverse q → p.items.items ≡ q
-    → xs ≡ all_items (made ++ p ∷ []) ++ reverse rest
-items_next xs mid rest q made p e f g =
-    let turned : reverse mid ≡ q ++ reverse rest = ap reverse f ∙ reverse-append rest (reverse q)
-    ∙ ap (λ l. l ++ reverse rest) (reverse-reverse q) in
+-- one more piece is made before the others, which stand in the other order
+turned_next : (made new : List Piece) (p : Piece) → new ≡ made ++ p ∷ []
+    → p ∷ reverse made ≡ reverse new
+turned_next made new p e = sym (ap reverse e ∙ reverse-append made (p ∷ []))
+
+pub items_next : (xs mid rest got : List (ItemOf Listed)) (made new : List Piece) (p : Piece) (n : ℕ)
+    → xs ≡ mid ++ all_items (reverse made) → rest ≡ take n mid → got ≡ drop n mid
+    → p.items.items ≡ got → new ≡ made ++ p ∷ [] → xs ≡ rest ++ all_items (reverse new)
+items_next xs mid rest got made new p n e f g h k =
+    let both : mid ≡ rest ++ p.items.items = sym (take-append-drop n mid)
+    ∙ ap (λ l. l ++ drop n mid) (sym f) ∙ ap (λ l. rest ++ l) (sym (h ∙ g)) in
     e
-    ∙ ap (λ l. all_items made ++ l) turned
-    ∙ sym (append_assoc (all_items made) q (reverse rest))
-    ∙ ap (λ l. (all_items made ++ l) ++ reverse rest) (sym g)
-    ∙ ap (λ l. l ++ reverse rest) (sym (all_items-last made p))
+    ∙ ap (λ l. l ++ all_items (reverse made)) both
+    ∙ append_assoc rest p.items.items (all_items (reverse made))
+    ∙ ap (λ l. rest ++ all_items l) (turned_next made new p k)
 
-pub all_next : (made new : List Piece) (p : Piece) → new ≡ made ++ p ∷ [] → AllPieces made
-    → IsPiece p → AllPieces new
-all_next made new p e a h = subst AllPieces (sym e) (all-last made p a h)
+pub all_next : (made new : List Piece) (p : Piece) → new ≡ made ++ p ∷ []
+    → AllPieces (reverse made) → IsPiece p → AllPieces (reverse new)
+all_next made new p e a h = subst AllPieces (turned_next made new p e) (h, a)
 
-pub full_next : (made new : List Piece) (p : Piece) → new ≡ made ++ p ∷ [] → AllFull made
-    → 32 ≤ length p.items.items → AllFull new
-full_next made new p e a h = subst AllFull (sym e) (full-last made p a h)
+pub full_next : (made new : List Piece) (p : Piece) → new ≡ made ++ p ∷ []
+    → AllFull (reverse made) → 32 ≤ length p.items.items → AllFull (reverse new)
+full_next made new p e a h = subst AllFull (turned_next made new p e) (h, a)
 
 pub rest_after : (mid count left : ℕ) → left + count ≡ mid → (mid ≡ 0) ⊎ (32 ≤ mid)
     → (32 ≤ mid → count < mid → 32 + count ≤ mid) → (left ≡ 0) ⊎ (32 ≤ left)

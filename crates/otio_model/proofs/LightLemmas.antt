@@ -2,7 +2,8 @@
 use Rattle.std.proofs.Common.{◌≡◌, ℕ, zero, suc, ◌+◌, ◌-◌, ◌≤◌, ◌<◌, ◌^◌, max, min, List, [], ◌∷◌}
 use Rattle.std.proofs.Common.{◌++◌, ◌⊎◌, inl, inr, Bool, true, false, Option, Some, None, refl, ap}
 use Rattle.std.proofs.Common.{sym, ◌∙◌, take, drop, length, get_or, map, arith}
-use Rattle.std.specs.Prelude.{◌&&◌, ◌||◌, slice_get, pos, int_lt, option_map}
+use Rattle.std.specs.Prelude.{◌||◌, slice_get, pos, int_lt, option_map}
+use Rattle.std.proofs.lemmas.Bool.{and_left, and_right}
 use Rattle.std.proofs.lemmas.Int.{ints}
 use Rattle.std.proofs.lemmas.Option.{slice_get_past}
 use Rattle.limits.proofs.IntegerTests.{above-int_lt, below-int_lt}
@@ -83,20 +84,13 @@ index_within f xs i e h = one (below_or_not i (length xs))
     one (inr k) =
         let both : false ≡ true = sym (ap f (slice_get_past xs i k) ∙ e) ∙ h in absurd (cc both)
 
-or_first : (p q : Bool) → (p || q) ≡ false → p ≡ false
+pub or_first : (p q : Bool) → (p || q) ≡ false → p ≡ false
 or_first true q e = e
 or_first false q e = refl
 
-or_second : (p q : Bool) → (p || q) ≡ false → q ≡ false
+pub or_second : (p q : Bool) → (p || q) ≡ false → q ≡ false
 or_second true q e = absurd (cc e)
 or_second false q e = e
-
-and_first : (p q : Bool) → p ≡ false → (p && q) ≡ false
-and_first p q e = rw e refl
-
-and_second : (p q : Bool) → q ≡ false → (p && q) ≡ false
-and_second true q e = e
-and_second false q e = refl
 
 -- ---- the first with a clip
 
@@ -214,7 +208,7 @@ no_lit_in : (xs : List (ItemOf Listed)) (at : ℕ) → any_lit_by any_lit xs ≡
 no_lit_in [] at e zero = refl
 no_lit_in [] at e (suc j) = refl
 no_lit_in (x ∷ xs) at e zero =
-    and_first (is_lit x) (int_lt (pos at) (pos (or_zero (length_of x))))
+    and_left (is_lit x) (int_lt (pos at) (pos (or_zero (length_of x))))
     (or_first (is_lit x) (any_lit_by any_lit xs) e)
 no_lit_in (x ∷ xs) at e (suc j) =
     no_lit_in xs at (or_second (is_lit x) (any_lit_by any_lit xs) e) j
@@ -229,7 +223,7 @@ short_in : (xs : List (ItemOf Listed)) (at : ℕ) → greatest (map length_of xs
 short_in [] at h zero = refl
 short_in [] at h (suc j) = refl
 short_in (x ∷ xs) at h zero =
-    and_second (is_lit x) (int_lt (pos at) (pos (or_zero (length_of x))))
+    and_right (is_lit x) (int_lt (pos at) (pos (or_zero (length_of x))))
     (above-int_lt (pos at) (pos (or_zero (length_of x)))
     (omega (arith, ints, h, greatest-first (length_of x) (map length_of xs))))
 short_in (x ∷ xs) at h (suc j) =

@@ -1,8 +1,9 @@
 -- Items that a zone doesn't reach, in parts and in the whole.
 use Rattle.std.proofs.Common.{◌≡◌, ℕ, zero, suc, ◌+◌, ◌-◌, ◌≤◌, ◌<◌, List, [], ◌∷◌, ◌++◌}
-use Rattle.std.proofs.Common.{ℤ, pos, ◌-ℤ◌, ◌<ℤ◌, Bool, true, false, ◌&&◌, take, drop, length}
+use Rattle.std.proofs.Common.{ℤ, pos, ◌-ℤ◌, ◌<ℤ◌, Bool, false, ◌&&◌, take, drop, length}
 use Rattle.std.proofs.Common.{refl, ap, ap₂, sym, ◌∙◌, arith, subst, length-append, take-add}
 use Rattle.std.specs.Prelude.{◌||◌, int_le, int_lt}
+use Rattle.std.proofs.lemmas.Bool.{and_left, and_right}
 use Rattle.std.proofs.lemmas.Int.{ints}
 use Rattle.limits.proofs.IntegerTests.{above-int_le, above-int_lt}
 use Rattle.otio_model.specs.declared.compositions.ItemOf.{ItemOf}
@@ -26,13 +27,6 @@ use Rattle.otio_model.proofs.SeekLemmas.{added-total, lens-append, start-total}
 use Rattle.otio_model.proofs.SeekLemmas.{total-append, total-take_le}
 use Rattle.otio_model.proofs.Windows.{one_more_poured, three}
 
-and_first : (p q : Bool) → p ≡ false → (p && q) ≡ false
-and_first p q e = rw e refl
-
-and_second : (p q : Bool) → q ≡ false → (p && q) ≡ false
-and_second true q e = e
-and_second false q e = refl
-
 or_none : (p q : Bool) → p ≡ false → q ≡ false → (p || q) ≡ false
 or_none p q e f = rw (e, f) refl
 
@@ -42,7 +36,7 @@ late_crosses (Clip c) a b h = refl
 late_crosses (Gap g) a b h = refl
 late_crosses (Transition t) a b h =
     let n = offset_near t.out_offset in
-    and_second (int_lt (pos 0 -ℤ offset_of t.in_offset) b) (int_lt a (offset_of t.out_offset))
+    and_right (int_lt (pos 0 -ℤ offset_of t.in_offset) b) (int_lt a (offset_of t.out_offset))
     (above-int_lt a (offset_of t.out_offset) (omega (arith, ints, h, n)))
 late_crosses (Stack s) a b h = refl
 late_crosses (Track t) a b h = refl
@@ -53,7 +47,7 @@ early_crosses (Clip c) a b h = refl
 early_crosses (Gap g) a b h = refl
 early_crosses (Transition t) a b h =
     let n = offset_near t.in_offset in
-    and_first (int_lt (pos 0 -ℤ offset_of t.in_offset) b) (int_lt a (offset_of t.out_offset))
+    and_left (int_lt (pos 0 -ℤ offset_of t.in_offset) b) (int_lt a (offset_of t.out_offset))
     (above-int_lt (pos 0 -ℤ offset_of t.in_offset) b (omega (arith, ints, h, n)))
 early_crosses (Stack s) a b h = refl
 early_crosses (Track t) a b h = refl
@@ -63,7 +57,7 @@ late_unreached : (x : ItemOf Listed) (a b : ℤ) → pos (after_of x) <ℤ a
 late_unreached x a b h k =
     or_none (crosses x a b) (int_le (pos 0) b && int_le a (pos (or_zero (length_of x))))
     (late_crosses x a b h)
-    (and_second (int_le (pos 0) b) (int_le a (pos (or_zero (length_of x))))
+    (and_right (int_le (pos 0) b) (int_le a (pos (or_zero (length_of x))))
     (above-int_le a (pos (or_zero (length_of x))) k))
 
 early_unreached : (x : ItemOf Listed) (a b : ℤ) → b <ℤ (pos 0 -ℤ pos (before_of x))
@@ -71,7 +65,7 @@ early_unreached : (x : ItemOf Listed) (a b : ℤ) → b <ℤ (pos 0 -ℤ pos (be
 early_unreached x a b h =
     or_none (crosses x a b) (int_le (pos 0) b && int_le a (pos (or_zero (length_of x))))
     (early_crosses x a b h)
-    (and_first (int_le (pos 0) b) (int_le a (pos (or_zero (length_of x))))
+    (and_left (int_le (pos 0) b) (int_le a (pos (or_zero (length_of x))))
     (above-int_le (pos 0) b (omega (arith, ints, h))))
 
 none_late : (xs : List (ItemOf Listed)) (a b : ℤ) → pos (total (lens xs) + after_in xs) <ℤ a

@@ -1,21 +1,25 @@
 //! The effects of an item, with the speed that they come to.
 
-ghost use Rattle.std.specs.Prelude.{◌≡◌, ◌++◌, ◌∷◌, [], pos, IfSome, OnErr, OnOk};
+ghost use Rattle.std.specs.Prelude.{◌≡◌, ◌++◌, ◌∷◌, [], pos, IfOk, IfSome, OnErr, OnOk};
 ghost use Rattle.tick_time.specs.Times.{IsSpeed};
 ghost use Rattle.otio_model.specs.Speeds.{kept_speed};
 
 use crate::effect_types::Effect;
+use crate::field_copies::copy_effect_list;
 use crate::speeds;
+use owned::Shared;
 use sequences::Sequence;
 use std::alloc::{AllocError, Global};
 use std::marker::Model;
+use std::mem;
 
 /// The effects of an item, in order. Contracts see the list of them; the speed that they come to is
-/// kept beside it, so that no call looks at each of them again.
+/// kept beside it, so that no call looks at each of them again. A copy of a copy shares the list.
 pub struct Effects {
-    list: Sequence<Effect>,
+    list: Shared<Sequence<Effect>>,
     /// The speed after them, in millionths; `None` where it passes 1000 times on the way.
     speed: Option<i64>,
+    alloc: Global,
 }
 
 impl Model for Effects {
@@ -43,8 +47,9 @@ impl Effects {
         ensures { result ≡ [] }
     {
         Effects {
-            list: Sequence::new(alloc),
+            list: Shared::own(Sequence::new(alloc)),
             speed: Some(1_000_000),
+            alloc,
         }
     }
 
@@ -52,26 +57,35 @@ impl Effects {
     pub fn of(list: Vec<Effect>) -> Effects
         ensures { result ≡ list.items }
     {
+        let alloc = *list.allocator();
         let speed = speeds::kept_speed(list.as_slice());
         Effects {
-            list: Sequence::of(list),
+            list: Shared::own(Sequence::of(list)),
             speed,
+            alloc,
         }
     }
 
-    /// The effects, in the same memory.
-    pub fn into_vec(self) -> Vec<Effect>
-        ensures { result.items ≡ self }
+    /// Equal effects, in memory that copies of them share. An error comes where memory runs out.
+    pub(crate) fn copied(&self, alloc: Global) -> Result<Effects, AllocError>
+        ensures { IfOk result (λ copy. copy ≡ self.now) }
     {
-        let Effects { list, speed: _ } = self;
-        list.into_vec()
+        let list = match self.list.share()? {
+            Some(list) => list,
+            None => shared_list(alloc, self.list.get().as_slice())?,
+        };
+        Ok(Effects {
+            list,
+            speed: self.speed,
+            alloc,
+        })
     }
 
     /// The effects, in order.
     pub fn as_slice(&self) -> &[Effect]
         ensures { result.now ≡ self.now }
     {
-        self.list.as_slice()
+        self.list.get().as_slice()
     }
 
     /// Puts `effect` behind the others. An error comes where memory runs out, and the effects are
@@ -80,9 +94,14 @@ impl Effects {
         ensures added { OnOk result (self.new ≡ self.old ++ effect ∷ []) }
         ensures unchanged { OnErr result (self.new ≡ self.old) }
     {
-        self.list.push(effect)?;
-        self.speed = speeds::kept_speed(self.list.as_slice());
-        Ok(())
+        let mut list = match taken(self.alloc, &mut self.list) {
+            Ok(list) => list,
+            Err(fault) => return Err(fault),
+        };
+        let added = list.push(effect);
+        self.speed = speeds::kept_speed(list.as_slice());
+        self.list = Shared::own(list);
+        added
     }
 
     /// The speed after these effects, in millionths. `None` exactly where it passes 1000 times,
@@ -96,10 +115,44 @@ impl Effects {
     }
 }
 
+// Equal effects, in memory that copies of them share.
+fn shared_list(alloc: Global, list: &[Effect]) -> Result<Shared<Sequence<Effect>>, AllocError>
+    ensures { IfOk result (λ copy. copy ≡ list.now) }
+{
+    let copies = Sequence::of(copy_effect_list(alloc, list)?);
+    if copies.len() == 0 {
+        return Ok(Shared::own(copies));
+    }
+    Shared::of(alloc, copies)
+}
+
+// Takes the list out, a copy of it where others share it. An error comes where memory runs out,
+// and the list is then as it was.
+fn taken(alloc: Global, list: &mut Shared<Sequence<Effect>>) -> Result<Sequence<Effect>, AllocError>
+    ensures taken { IfOk result (λ taken. taken ≡ list.old) }
+    ensures unchanged { OnErr result (list.new ≡ list.old) }
+{
+    let held = mem::replace(list, Shared::own(Sequence::new(alloc)));
+    match held.into_own() {
+        Ok(own) => Ok(own),
+        Err(shared) => match copy_effect_list(alloc, shared.get().as_slice()) {
+            Ok(copies) => Ok(Sequence::of(copies)),
+            Err(fault) => {
+                *list = shared;
+                Err(fault)
+            }
+        },
+    }
+}
+
 // Drops are written out: a derived one is proved anew in each crate that drops such a value.
 
 impl Drop for Effects {
     fn drop(self) {
-        let Effects { list: _, speed: _ } = self;
+        let Effects {
+            list: _,
+            speed: _,
+            alloc: _,
+        } = self;
     }
 }

@@ -1,6 +1,7 @@
 //! The last child before another one that may show something at an instant, found by the pieces.
 
-ghost use Rattle.std.specs.Prelude.{◌≡◌, ◌<◌, ◌≤◌, ◌^◌, pos, ◌≤ℤ◌, int_lt, IfNone, IfSome, length};
+ghost use Rattle.std.specs.Prelude.{◌≡◌, ◌-◌, ◌<◌, ◌≤◌, ◌^◌, pos, ◌≤ℤ◌, int_lt, IfNone, IfSome};
+ghost use Rattle.std.specs.Prelude.{length, min};
 ghost use Rattle.otio_model.specs.Lengths.{length_of, or_zero};
 ghost use Rattle.otio_model.specs.Lights.{HasNoLit, IsLastLit, may_show};
 ghost use Rattle.otio_model.specs.Pieces.{AllPieces, AreNumbered, IsPiece, all_items, front};
@@ -60,6 +61,13 @@ fn lit_in_piece(piece: &Piece, end: usize, at: u128) -> Option<usize>
     lit_among(&piece.items, end, at)
 }
 
+// How many of a piece's items stand before an item of all pieces.
+fn most_before(piece: &Piece, end: usize) -> usize
+    ensures { result ≡ min (length piece.now.items.items) (end - piece.now.start.items) }
+{
+    piece.items.len().min(end.saturating_sub(piece.start.items))
+}
+
 // The same in all pieces.
 fn lit_in_pieces(pieces: &[Piece], end: usize, at: u128) -> Option<usize>
     requires pieces { AllPieces pieces.now }
@@ -75,7 +83,7 @@ fn lit_in_pieces(pieces: &[Piece], end: usize, at: u128) -> Option<usize>
     let (last, _) = locate(pieces, end - 1);
     'pieces: for number in (0..last + 1).rev() {
         let piece = numbered_piece(pieces, number);
-        let most = piece.items.len().min(end.saturating_sub(piece.start.items));
+        let most = most_before(piece, end);
         if let Some(index) = lit_in_piece(piece, most, at) {
             return Some(piece.start.items + index);
         }

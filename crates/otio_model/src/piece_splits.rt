@@ -1,7 +1,7 @@
 //! Items into pieces, and out of them.
 
 ghost use Rattle.std.specs.Prelude.{◌≡◌, ◌+◌, ◌-◌, ◌*◌, ◌<◌, ◌≤◌, ◌^◌, ◌++◌, [], IfOk, take};
-ghost use Rattle.std.specs.Prelude.{drop, reverse, vec_len, length};
+ghost use Rattle.std.specs.Prelude.{drop, length, vec_len};
 ghost use Rattle.std.specs.Vec.{vec_capacity};
 ghost use Rattle.otio_model.specs.Edits.{replaced};
 ghost use Rattle.otio_model.specs.Pieces.{all_items, AllFresh, AreMade, ArePieces, IsCut, IsEnd};
@@ -35,6 +35,19 @@ fn pour(pieces: &mut Vec<Piece>, first: usize, end: usize, mid: &mut Vec<Item>)
     }
 }
 
+/// Moves the items of pieces to the end of a list that has room for them. Each piece goes once its
+/// items have moved.
+pub(crate) fn pour_all(pieces: Vec<Piece>, all: &mut Vec<Item>)
+    requires room { vec_len all.old + length (all_items pieces.items) ≤ vec_capacity all.old }
+    ensures { all.new.items ≡ all.old.items ++ all_items pieces.items }
+{
+    let mut left = pieces;
+    left.reverse();
+    'left: while let Some(mut piece) = left.pop() {
+        all.append(&mut piece.items).unwrap();
+    }
+}
+
 // How many of so many items go into the next piece.
 fn piece_size(all: usize) -> usize
     ensures least { 0 < all → 0 < result }
@@ -53,7 +66,7 @@ fn piece_size(all: usize) -> usize
     }
 }
 
-/// Cuts items into pieces.
+/// Cuts items into pieces, from the last one on.
 pub(crate) fn cut(mid: &mut Vec<Item>, made: &mut Vec<Piece>, fresh: &mut Vec<Piece>)
     requires empty { made.old.items ≡ [] }
     requires fresh { AllFresh fresh.old.items }
@@ -65,16 +78,16 @@ pub(crate) fn cut(mid: &mut Vec<Item>, made: &mut Vec<Piece>, fresh: &mut Vec<Pi
     ensures room { vec_capacity made.old ≤ vec_capacity made.new }
     ensures used { vec_len made.new + vec_len fresh.new ≡ vec_len fresh.old }
 {
-    mid.reverse();
     'cuts: while mid.len() > 0 {
-        let count = piece_size(mid.len());
+        let rest = mid.len() - piece_size(mid.len());
         let Some(mut piece) = fresh.pop() else {
             unreachable!()
         };
-        vec_moves::take_last(mid, count, &mut piece.items);
+        vec_moves::move_tail(mid, rest, &mut piece.items);
         piece.mend();
         vec_moves::push_in_room(made, piece);
     }
+    made.reverse();
 }
 
 // The piece in which a replacement begins: the one that has the item of this number, or the last

@@ -1,6 +1,6 @@
 //! What is kept of a list of items, so that later calls needn't look at each of them.
 
-ghost use Rattle.std.specs.Prelude.{◌≡◌, max};
+ghost use Rattle.std.specs.Prelude.{◌≡◌, ◌-◌, ◌≤◌, max, true};
 ghost use Rattle.otio_model.specs.Kept.{joined, joined_totals, offset_reach};
 
 use crate::length_sums::{NOTHING, Totals};
@@ -50,20 +50,53 @@ fn join_totals(one: Totals, other: Totals) -> Totals
     }
 }
 
+// Whether of two lists no overlap of one reaches out of the other, nor further from its cut in the
+// second than in the first.
+fn stay_within(one: &Kept, other: &Kept) -> bool
+    ensures reach { result ≡ true → other.now.reach ≤ one.now.reach }
+    ensures before { result ≡ true → other.now.before ≤ one.now.lengths.ticks }
+    ensures after { result ≡ true → one.now.after ≤ other.now.lengths.ticks }
+{
+    if other.reach > one.reach {
+        return false;
+    }
+    if other.before > one.lengths.ticks {
+        return false;
+    }
+    one.after <= other.lengths.ticks
+}
+
+// How far the overlaps of two lists together reach from their cuts, before the start and after the
+// end.
+fn join_reaches(one: &Kept, other: &Kept) -> (u128, u128, u128)
+    ensures reach { result.0 ≡ max one.now.reach other.now.reach }
+    ensures before { result.1 ≡ max one.now.before (other.now.before - one.now.lengths.ticks) }
+    ensures after { result.2 ≡ max other.now.after (one.now.after - other.now.lengths.ticks) }
+{
+    if stay_within(one, other) {
+        return (one.reach, one.before, other.after);
+    }
+    (
+        one.reach.max(other.reach),
+        one.before
+            .max(other.before.saturating_sub(one.lengths.ticks)),
+        other
+            .after
+            .max(one.after.saturating_sub(other.lengths.ticks)),
+    )
+}
+
 /// What is kept of two lists together.
 pub(crate) fn join(one: Kept, other: Kept) -> Kept
     ensures { result ≡ joined one other }
 {
+    let (reach, before, after) = join_reaches(&one, &other);
     Kept {
         lengths: join_totals(one.lengths, other.lengths),
         transitions: one.transitions.saturating_add(other.transitions),
-        reach: one.reach.max(other.reach),
-        before: one
-            .before
-            .max(other.before.saturating_sub(one.lengths.ticks)),
-        after: other
-            .after
-            .max(one.after.saturating_sub(other.lengths.ticks)),
+        reach,
+        before,
+        after,
         items: one.items.saturating_add(other.items),
         clips: one.clips || other.clips,
         lit: one.lit || other.lit,

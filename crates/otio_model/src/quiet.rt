@@ -54,9 +54,9 @@ fn is_quiet(piece: &Piece, from: u128, to: u128) -> bool
     false
 }
 
-// The pieces from one on that a zone doesn't reach: how many items they have, and how long they are
-// together.
-fn quiet_pieces(pieces: &[Piece], first: usize, from: u128, to: u128) -> (usize, u128)
+// The pieces from one on that a zone doesn't reach, up to the first that starts further after the
+// zone than `reach`: how many items they have, and how long they are together.
+fn quiet_pieces(pieces: &[Piece], first: usize, from: u128, to: u128, reach: u128) -> (usize, u128)
     requires pieces { ArePieces pieces.now }
     requires numbered { AreNumbered front pieces.now }
     requires fits { total (lens (all_items pieces.now)) < 2 ^ 127 }
@@ -70,6 +70,9 @@ fn quiet_pieces(pieces: &[Piece], first: usize, from: u128, to: u128) -> (usize,
     let mut ticks = 0;
     'pieces: for number in first..pieces.len() {
         let piece = read_piece(pieces, number);
+        if to.saturating_add(reach) < piece.start.ticks {
+            return (count, ticks);
+        }
         if !is_quiet(piece, from, to) {
             return (count, ticks);
         }
@@ -84,7 +87,8 @@ impl Children {
     /// Some of the children from an index on, one after another, none of which is reached by the
     /// zone of instants from `from` up to `to`, in ticks from the start of the list: the zone has
     /// no instant in common with the child, the ends of both included, and crosses no overlap. How
-    /// many they are isn't said: in practice whole pieces, and it takes no step for each child.
+    /// many they are isn't said: in practice whole pieces, up to one that starts further after the
+    /// zone than any overlap reaches, and it takes no step for each child.
     pub fn quiet(&self, index: usize, from: i128, to: i128) -> Quiet
         requires few { count self.now < 2 ^ 32 }
         ensures { IsQuiet self.now index from to result }
@@ -103,7 +107,14 @@ impl Children {
         if offset != 0 {
             return NONE;
         }
-        let (count, ticks) = quiet_pieces(pieces, number, from.unsigned_abs(), to.unsigned_abs());
+        let reach = self.overlap_reach();
+        let (count, ticks) = quiet_pieces(
+            pieces,
+            number,
+            from.unsigned_abs(),
+            to.unsigned_abs(),
+            reach,
+        );
         so_many(count, ticks)
     }
 }

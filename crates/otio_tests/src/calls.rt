@@ -26,6 +26,7 @@ fn schemas_are_found_in_their_family(rt: HostRuntime) {
     let images = "ImageSequenceReference";
     finds(&rt, &MEDIA, images, Some(Schema::Images));
     assert!(rt; Schema::Clip.text() == "Clip.2");
+    assert!(rt; Schema::FirstClip.text() == "Clip.1");
     assert!(rt; Schema::Track.version() == 1);
 }
 
@@ -54,14 +55,14 @@ fn count_of(values: Result<Vec<Value>, SchemaFault>) -> usize {
     count
 }
 
-// How many values the table of collections gives of a value that is an object.
-fn row_count(alloc: Global, value: &Json) -> usize
+// How many values a schema's table gives of a value that is an object.
+fn row_count(alloc: Global, schema: Schema, value: &Json) -> usize
     requires { HasNumerals value.now }
 {
     match value {
         Json::Map(_) => {
             let place = Place::new(alloc);
-            count_of(read_fields(alloc, Schema::Collection.table(), value, &place))
+            count_of(read_fields(alloc, schema.table(), value, &place))
         }
         _ => 0,
     }
@@ -71,7 +72,10 @@ fn row_count(alloc: Global, value: &Json) -> usize
 fn each_row_has_a_value(rt: HostRuntime) {
     let alloc = rt.alloc();
     match value_of(alloc, r#"{"name":"s"}"#) {
-        Some(value) => assert!(rt; row_count(alloc, &value) == 3),
+        Some(value) => {
+            assert!(rt; row_count(alloc, Schema::Collection, &value) == 3);
+            assert!(rt; row_count(alloc, Schema::FirstClip, &value) == 7);
+        }
         None => assert!(rt; false),
     }
 }

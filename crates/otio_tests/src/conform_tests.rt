@@ -24,7 +24,7 @@ M2 A1 000.0 00:00:05:00
 ";
 
 /// A cut and a dissolve of two reels.
-const FIFTEEN: &[u8] = b"TITLE: fifteen
+pub const TWO_REELS: &[u8] = b"TITLE: fifteen
 FCM: NON-DROP FRAME
 001  A1       V     C        00:00:04:04 00:00:05:18 01:00:00:00 01:00:01:14
 * FROM CLIP NAME: a
@@ -59,7 +59,7 @@ const EMPTY: &[u8] = b"{
 static FILES: [Named; 9] = [
     ("on.edl", GOES_ON),
     ("anew.edl", BEGINS_ANEW),
-    ("fifteen.edl", FIFTEEN),
+    ("fifteen.edl", TWO_REELS),
     ("empty", b"TITLE: EMPTY\n"),
     (
         "m.txt",

@@ -3,7 +3,8 @@
 ghost use Rattle.std.specs.Prelude.{◌<◌};
 
 use crate::runs::{
-    Answer, Manner, Named, WHOLE, answer_over, answer_to, done, ended, files_of, put_text, was_sent,
+    Answer, Manner, Named, Streams, WHOLE, WHOLE_BOTH, answer_over, answer_to, done, ended,
+    files_of, put_text, was_sent,
 };
 use crate::timelines::{crossed_track, one_track, three_tracks};
 use dev_io::MemFiles;
@@ -102,16 +103,18 @@ static READ: [Read; 17] = [
     ),
 ];
 
+/// A command line, its status, and what is told.
+#[derive(Clone, Copy)]
+struct Ending<'a> {
+    line: &'a str,
+    status: Status,
+    told: &'a str,
+}
+
 // Holds how a line ends over files of which that call fails, and what is told. Without a fault
 // something is sent, else nothing.
-fn check_call(
-    rt: &impl Abort,
-    alloc: Global,
-    call: u64,
-    line: &str,
-    status: Status,
-    told: &str,
-) -> Result<(), Fail> {
+fn check_call(rt: &impl Abort, alloc: Global, call: u64, ending: Ending<'_>) -> Result<(), Fail> {
+    let Ending { line, status, told } = ending;
     let mut files = some_files(alloc, call)?;
     let answered = answer_to(alloc, &mut files, line);
     drop(files);
@@ -126,23 +129,10 @@ fn check_call(
     Ok(())
 }
 
-// Holds that each call on a file is told of, where it fails, from this call on.
-fn check_file(
-    rt: &impl Abort,
-    alloc: Global,
-    first: u64,
-    line: &str,
-    told: &str,
-) -> Result<(), Fail> {
+// Holds that a line ends so whichever call on a file fails, from this call on.
+fn check_file(rt: &impl Abort, alloc: Global, first: u64, ending: Ending<'_>) -> Result<(), Fail> {
     for more in 0..FILE_CALLS {
-        check_call(
-            rt,
-            alloc,
-            first.saturating_add(more),
-            line,
-            Status::Input,
-            told,
-        )?;
+        check_call(rt, alloc, first.saturating_add(more), ending)?;
     }
     Ok(())
 }
@@ -154,12 +144,22 @@ fn check_reads(rt: &impl Abort, alloc: Global, case: &Read) -> Result<(), Fail> 
     let mut call = 1u64;
     for name in names {
         let told = format!(in alloc; "otio: {name}: read failed\n")?;
-        let held = check_file(rt, alloc, call, line, told.as_str());
+        let ending = Ending {
+            line,
+            status: Status::Input,
+            told: told.as_str(),
+        };
+        let held = check_file(rt, alloc, call, ending);
         drop(told);
         held?;
         call = call.saturating_add(FILE_CALLS);
     }
-    check_call(rt, alloc, call, line, Status::Done, "")
+    let ending = Ending {
+        line,
+        status: Status::Done,
+        told: "",
+    };
+    check_call(rt, alloc, call, ending)
 }
 
 #[test]
@@ -192,7 +192,8 @@ const JUDGED: [(&str, u64, &str); 3] = [
 #[test]
 fn no_call_is_made_behind_a_refused_file(rt: HostRuntime) -> Result<(), Fail> {
     for (line, call, told) in JUDGED {
-        check_call(&rt, rt.alloc(), call, line, Status::Refused, told)?;
+        let status = Status::Refused;
+        check_call(&rt, rt.alloc(), call, Ending { line, status, told })?;
     }
     Ok(())
 }
@@ -211,47 +212,66 @@ fn is_cut_off(rt: &impl Abort, line: &str, answer: &Answer, whole: &Answer) {
     was_sent(rt, line, &answer.err, b"otio: output failed\n");
 }
 
+/// A command line, and its answer over an output that doesn't fail.
+#[derive(Clone, Copy)]
+struct Sent<'a> {
+    line: &'a str,
+    answer: &'a Answer,
+}
+
 // Whether a line is done over an output of this manner. Holds that it is told of where it isn't,
 // behind a part of the whole.
 fn ends_behind(
     rt: &impl Abort,
     alloc: Global,
     files: &mut MemFiles,
-    line: &str,
+    whole: Sent<'_>,
     out: Manner,
-    whole: &Answer,
 ) -> Result<bool, Fail>
     requires { 0 < out.most }
 {
-    let answer = answer_over(alloc, files, line, out, WHOLE)?;
-    assert!(rt; whole.out.sent().starts_with(answer.out.sent()), "{line}");
+    let line = whole.line;
+    let answer = answer_over(alloc, files, line, Streams { out, ..WHOLE_BOTH })?;
+    assert!(rt;
+        whole.answer.out.sent().starts_with(answer.out.sent()),
+        "{line}"
+    );
     let is_done = answer.status == Status::Done;
     if is_done {
-        is_whole(rt, line, &answer, whole);
+        is_whole(rt, line, &answer, whole.answer);
     } else {
-        is_cut_off(rt, line, &answer, whole);
+        is_cut_off(rt, line, &answer, whole.answer);
     }
     drop(answer);
     Ok(is_done)
 }
 
-// The first of some calls of the output, in such pieces, that isn't made, or 0 where all are. Holds
-// how the line ends where one that is made fails.
+/// A command line whose output takes so many bytes at a time, and some calls of that output: the
+/// first, and the one behind the last.
+#[derive(Clone, Copy)]
+struct Calls<'a> {
+    line: &'a str,
+    most: usize,
+    between: [u64; 2],
+}
+
+// The first of some calls of the output that isn't made, or 0 where all are. Holds how the line
+// ends where one that is made fails.
 fn first_unmade(
     rt: &impl Abort,
     alloc: Global,
     files: &mut MemFiles,
-    line: &str,
-    most: usize,
-    calls: [u64; 2],
-    whole: &Answer,
+    calls: Calls<'_>,
+    answer: &Answer,
 ) -> Result<u64, Fail>
-    requires { 0 < most }
+    requires { 0 < calls.most }
 {
-    let [first, behind] = calls;
+    let line = calls.line;
+    let most = calls.most;
+    let [first, behind] = calls.between;
     for failing in first..behind {
         let out = Manner { most, failing };
-        if ends_behind(rt, alloc, files, line, out, whole)? {
+        if ends_behind(rt, alloc, files, Sent { line, answer }, out)? {
             return Ok(failing);
         }
     }
@@ -263,29 +283,21 @@ fn unmade_over(
     rt: &impl Abort,
     alloc: Global,
     files: &mut MemFiles,
-    line: &str,
-    most: usize,
-    calls: [u64; 2],
+    calls: Calls<'_>,
 ) -> Result<u64, Fail>
-    requires { 0 < most }
+    requires { 0 < calls.most }
 {
-    let whole = done(rt, alloc, files, line)?;
-    let found = first_unmade(rt, alloc, files, line, most, calls, &whole);
+    let whole = done(rt, alloc, files, calls.line)?;
+    let found = first_unmade(rt, alloc, files, calls, &whole);
     drop(whole);
     found
 }
 
-fn done_between(
-    rt: &impl Abort,
-    alloc: Global,
-    line: &str,
-    most: usize,
-    calls: [u64; 2],
-) -> Result<u64, Fail>
-    requires { 0 < most }
+fn done_between(rt: &impl Abort, alloc: Global, calls: Calls<'_>) -> Result<u64, Fail>
+    requires { 0 < calls.most }
 {
     let mut files = some_files(alloc, 0)?;
-    let found = unmade_over(rt, alloc, &mut files, line, most, calls);
+    let found = unmade_over(rt, alloc, &mut files, calls);
     drop(files);
     found
 }
@@ -317,7 +329,16 @@ const LONG: [&str; 7] = [
 fn check_output(rt: &impl Abort, alloc: Global, line: &str, most: usize) -> Result<(), Fail>
     requires { 0 < most }
 {
-    let unmade = done_between(rt, alloc, line, most, [1, MOST_CALLS])?;
+    let between = [1, MOST_CALLS];
+    let unmade = done_between(
+        rt,
+        alloc,
+        Calls {
+            line,
+            most,
+            between,
+        },
+    )?;
     assert!(rt; 3 < unmade, "{line}");
     Ok(())
 }
@@ -341,9 +362,20 @@ fn each_call_of_a_long_output_that_fails_leaves_a_prefix(rt: HostRuntime) -> Res
 /// A script that is undone. Its output takes some 700 calls, which are tried in four tests.
 const SCRIPT: &str = "edit --media m.txt --script undone.txt x.otio";
 
+// Some calls of its output.
+fn of_script(between: [u64; 2]) -> Calls<'static>
+    ensures { 0 < result.most }
+{
+    Calls {
+        line: SCRIPT,
+        most: 16,
+        between,
+    }
+}
+
 // Holds that all of these calls are made, and what is sent before each.
-fn are_all_made(rt: &impl Abort, alloc: Global, calls: [u64; 2]) -> Result<(), Fail> {
-    assert!(rt; done_between(rt, alloc, SCRIPT, 16, calls)? == 0);
+fn are_all_made(rt: &impl Abort, alloc: Global, between: [u64; 2]) -> Result<(), Fail> {
+    assert!(rt; done_between(rt, alloc, of_script(between))? == 0);
     Ok(())
 }
 
@@ -364,7 +396,7 @@ fn calls_400_to_599_of_a_timeline_leave_a_prefix(rt: HostRuntime) -> Result<(), 
 
 #[test]
 fn later_calls_of_a_timeline_leave_a_prefix(rt: HostRuntime) -> Result<(), Fail> {
-    assert!(rt; 600 < done_between(&rt, rt.alloc(), SCRIPT, 16, [600, MOST_CALLS])?);
+    assert!(rt; 600 < done_between(&rt, rt.alloc(), of_script([600, MOST_CALLS]))?);
     Ok(())
 }
 
@@ -463,7 +495,7 @@ fn tells_whole(rt: &impl Abort, alloc: Global, case: &Told, call: u64) -> Result
         failing: call,
     };
     let mut files = some_files(alloc, read)?;
-    let answered = answer_over(alloc, &mut files, line, out, err);
+    let answered = answer_over(alloc, &mut files, line, Streams { out, err });
     drop(files);
     let answer = answered?;
     ended(rt, line, &answer, status);

@@ -65,7 +65,7 @@ fn drills_tell_the_same_numbers_each_time(rt: HostRuntime) -> Result<(), Fail> {
 #[test]
 fn a_drill_goes_into_the_file_that_is_named(rt: HostRuntime) -> Result<(), Fail> {
     let line = "drill 0 0 -o d.txt";
-    check_target(&rt, rt.alloc(), &[], line, "d.txt", UNEDITED)
+    check_target(&rt, rt.alloc(), &[], line, &("d.txt", UNEDITED))
 }
 
 // Words that are no command line.

@@ -1,15 +1,15 @@
 //! Objects and lists that are written in the older family, `Clip.1` and `Marker.1`.
 
-use crate::object_tests::is_squeezed;
-use crate::runs::{Case, Named, check_all, done, put_output};
-use crate::texts::{OLDER, Older};
+use crate::object_tests::check_squeezed;
+use crate::runs::{Case, Named, check_all, put_output};
+use crate::texts::{CLIP, OLDER, Older};
 use dev_io::MemFiles;
 use otio_tools::Status;
 use std::alloc::Global;
 use std::process::Abort;
 use std::test::Fail;
 
-/// The clip in the older family.
+/// The bare clip in the older family.
 const OLD_CLIP: &[u8] = b"{
     \"OTIO_SCHEMA\": \"Clip.1\",
     \"metadata\": {},
@@ -24,27 +24,6 @@ const OLD_CLIP: &[u8] = b"{
         \"name\": \"\",
         \"available_range\": null
     }
-}
-";
-
-/// The same clip in the newer family.
-const NEW_CLIP: &[u8] = b"{
-    \"OTIO_SCHEMA\": \"Clip.2\",
-    \"metadata\": {},
-    \"name\": \"s\",
-    \"source_range\": null,
-    \"effects\": [],
-    \"markers\": [],
-    \"enabled\": true,
-    \"media_references\": {
-        \"DEFAULT_MEDIA\": {
-            \"OTIO_SCHEMA\": \"MissingReference.1\",
-            \"metadata\": {},
-            \"name\": \"\",
-            \"available_range\": null
-        }
-    },
-    \"active_media_reference_key\": \"DEFAULT_MEDIA\"
 }
 ";
 
@@ -109,8 +88,8 @@ static FAMILY_FILES: [Named; 8] = [
 
 static FAMILY_CASES: [Case; 10] = [
     ("convert --family 1 c.otio", Status::Done, OLD_CLIP, b""),
-    ("convert old.otio", Status::Done, NEW_CLIP, b""),
-    ("convert --family 2 old.otio", Status::Done, NEW_CLIP, b""),
+    ("convert old.otio", Status::Done, CLIP, b""),
+    ("convert --family 2 old.otio", Status::Done, CLIP, b""),
     ("convert --family 1 old.otio", Status::Done, OLD_CLIP, b""),
     ("convert --family 1 marks.otio", Status::Done, OLD_GAP, b""),
     (
@@ -258,23 +237,6 @@ static FAULTY_CASES: [Case; 11] = [
         b"otio: order.otio: Y2 Member at 0/0\n",
     ),
 ];
-
-// Holds what a command line sends, blanks and line feeds aside.
-fn check_squeezed(
-    rt: &impl Abort,
-    alloc: Global,
-    files: &mut MemFiles,
-    line: &str,
-    wanted: &str,
-) -> Result<(), Fail> {
-    let answer = done(rt, alloc, files, line)?;
-    assert!(rt;
-        is_squeezed(answer.out.sent(), wanted.as_bytes()),
-        "{wanted}"
-    );
-    drop(answer);
-    Ok(())
-}
 
 // Holds what is written of an object in the older family, and of that in the newer one.
 fn check_older(

@@ -164,7 +164,7 @@ fn all_frames_are_listed(rt: HostRuntime) -> Result<(), Fail> {
 fn rows_that_fail_leave_a_prefix(rt: HostRuntime) -> Result<(), Fail> {
     let line = "frames --start 86442 --count 1 x.otio";
     let mut files = some_files(rt.alloc())?;
-    let held = check_cut_offs(&rt, rt.alloc(), &mut files, 6, line, AT_THE_CUT);
+    let held = check_cut_offs(&rt, rt.alloc(), &mut files, 6, (line, AT_THE_CUT));
     drop(files);
     held
 }

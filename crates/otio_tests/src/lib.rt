@@ -28,6 +28,8 @@ mod note_tests;
 #[cfg(test)]
 mod note_texts;
 #[cfg(test)]
+mod noted_timelines;
+#[cfg(test)]
 mod object_tests;
 #[cfg(test)]
 mod pieces_tests;

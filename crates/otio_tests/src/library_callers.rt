@@ -22,6 +22,7 @@ ghost use Rattle.edl_frames.specs.Channels.{on};
 ghost use Rattle.edl_frames.specs.Faults.{IsConformFault};
 ghost use Rattle.edl_frames.specs.Shown.{shown};
 
+use crate::timeline_calls::first_len;
 use coord::sound;
 use dev_io::{MemOut, Out, OutputFault};
 use edit_ops::plan_list;
@@ -32,7 +33,7 @@ use edl_law::{
 use edl_list::EventList;
 use edl_text::{EdlFault, EdlReader};
 use media_list::MediaList;
-use otio_model::{Edit, EditFault, ItemOf, Place, Timeline};
+use otio_model::{Edit, EditFault, Place, Timeline};
 use show_prog::{print_show, show};
 use smpte_tc::rate_of;
 use std::alloc::{AllocError, Global};
@@ -184,14 +185,6 @@ fn check_frame(rt: &impl Abort, alloc: Global, timeline: &Timeline) -> Result<()
     assert!(rt; out.sent() == SHOWN);
     drop(out);
     Ok(())
-}
-
-// How many items the first root child has; none where it has no children.
-fn first_len(timeline: &Timeline) -> Option<usize> {
-    match timeline.tracks.children.item(0) {
-        Some(ItemOf::Track(track)) => Some(track.children.len()),
-        _ => None,
-    }
 }
 
 // Cuts the clip in two and undoes it.

@@ -2,6 +2,7 @@
 
 ghost use Rattle.std.specs.Prelude.{◌<◌};
 
+use crate::conform_tests::TWO_REELS;
 use crate::runs::{Case, Named, check_cases, files_of};
 use dev_io::MemFiles;
 use otio_tools::Status;
@@ -118,15 +119,16 @@ const TWELVE_BEFORE: &[u8] = b",
 const FIFTEEN: &[u8] = b",\"name\":\"fifteen\",
 \"global_start_time\":{\"OTIO_SCHEMA\":\"RationalTime.1\",\"rate\":24,\"value\":86400}";
 
-/// A gap of two seconds.
+/// A gap of two seconds, up to its other members.
 const GAP: &[u8] = b"{\"OTIO_SCHEMA\":\"Gap.1\",
 \"source_range\":{\"OTIO_SCHEMA\":\"TimeRange.1\",
 \"start_time\":{\"OTIO_SCHEMA\":\"RationalTime.1\",\"rate\":24,\"value\":0},
-\"duration\":{\"OTIO_SCHEMA\":\"RationalTime.1\",\"rate\":24,\"value\":48}}}";
+\"duration\":{\"OTIO_SCHEMA\":\"RationalTime.1\",\"rate\":24,\"value\":48}}";
 
 /// A part of the text of a timeline: one of those above, or another.
 #[derive(Clone, Copy)]
 enum Part {
+    Nothing,
     Track,
     Clip,
     Cross,
@@ -155,6 +157,7 @@ enum Part {
 
 fn text_of(part: Part) -> &'static [u8] {
     match part {
+        Part::Nothing => b"",
         Part::Track => TRACK,
         Part::Clip => CLIP,
         Part::Cross => CROSS,
@@ -182,128 +185,133 @@ fn text_of(part: Part) -> &'static [u8] {
     }
 }
 
-// The texts of the tracks of a timeline one after another, what else it has, and what is asked of
-// it as the file `t.otio`.
-type Film = (&'static [Part], Part, Case<'static>);
+/// The tracks of a timeline: one of these children, each of these parts up to its closing brace; or
+/// these parts one after another.
+enum Tracks {
+    One(&'static [&'static [Part]]),
+    Parts(&'static [Part]),
+}
 
-/// What isn't carried: each reason once, some of them at two kinds of children, but for that of too
-/// many events.
-static LEFT: [Film; 22] = [
+/// A gap in place of a track.
+const A_GAP: Tracks = Tracks::Parts(&[Part::Text(b"{\"OTIO_SCHEMA\":\"Gap.1\"}")]);
+
+/// The tracks of a timeline, what else it has, and the message that it can't be written as a list.
+type Left = (Tracks, Part, &'static [u8]);
+
+/// The tracks of a timeline, what else it has, and what is asked of it as the file `t.otio`.
+type Film = (Tracks, Part, Case<'static>);
+
+/// The tracks of a timeline, what else it has, a command line of it as the file `t.otio`, and the
+/// list that is sent.
+type Written = (Tracks, Part, &'static str, &'static [u8]);
+
+/// Items without a length, tracks and nested items, frames and reels that aren't carried.
+static LEFT_ITEMS: [Left; 8] = [
     (
-        &[
-            Part::Track,
-            Part::Text(b"{\"OTIO_SCHEMA\":\"Clip.2\"}"),
-            Part::Text(b"]}"),
-        ],
-        Part::Text(b""),
-        (
-            "convert --to edl t.otio",
-            Status::Refused,
-            b"",
-            b"otio: t.otio: K1 NoLength at 0\n",
-        ),
+        Tracks::One(&[&[Part::Text(b"{\"OTIO_SCHEMA\":\"Clip.2\"")]]),
+        Part::Nothing,
+        b"otio: t.otio: K1 NoLength at 0\n",
     ),
+    (A_GAP, Part::Nothing, b"otio: t.otio: N1 Tracks at 0\n"),
     (
-        &[Part::Text(b"{\"OTIO_SCHEMA\":\"Gap.1\"}")],
-        Part::Text(b""),
-        (
-            "convert --to edl t.otio",
-            Status::Refused,
-            b"",
-            b"otio: t.otio: N1 Tracks at 0\n",
-        ),
-    ),
-    (
-        &[
+        Tracks::Parts(&[
             Part::Track,
             Part::Text(b"]},"),
             Part::Track,
             Part::Text(b"]}"),
-        ],
-        Part::Text(b""),
-        (
-            "convert --to edl t.otio",
-            Status::Refused,
-            b"",
-            b"otio: t.otio: N1 Tracks at 1\n",
-        ),
+        ]),
+        Part::Nothing,
+        b"otio: t.otio: N1 Tracks at 1\n",
     ),
     (
-        &[
-            Part::Track,
-            Part::Text(b"{\"OTIO_SCHEMA\":\"Stack.1\"}"),
-            Part::Text(b"]}"),
-        ],
-        Part::Text(b""),
-        (
-            "convert --to edl t.otio",
-            Status::Refused,
-            b"",
-            b"otio: t.otio: N2 Nested at 0/0\n",
-        ),
+        Tracks::One(&[&[Part::Text(b"{\"OTIO_SCHEMA\":\"Stack.1\"")]]),
+        Part::Nothing,
+        b"otio: t.otio: N2 Nested at 0/0\n",
     ),
     (
-        &[Part::Track, Part::Text(b"]"), Part::Whole, Part::Text(b"}")],
-        Part::Text(b""),
-        (
-            "convert --to edl t.otio",
-            Status::Refused,
-            b"",
-            b"otio: t.otio: N2 Nested at 0\n",
-        ),
+        Tracks::Parts(&[Part::Track, Part::Text(b"]"), Part::Whole, Part::Text(b"}")]),
+        Part::Nothing,
+        b"otio: t.otio: N2 Nested at 0\n",
     ),
     (
-        &[
-            Part::Track,
+        Tracks::One(&[&[Part::Clip, Part::HalfLong]]),
+        Part::Nothing,
+        b"otio: t.otio: N3 OffFrame at 0/0\n",
+    ),
+    (
+        Tracks::One(&[
+            &[Part::Clip],
+            &[Part::Clip, Part::Text(b",\"metadata\":{}")],
+        ]),
+        Part::Nothing,
+        b"otio: t.otio: N4 NoReel at 0/1\n",
+    ),
+    (
+        Tracks::One(&[&[Part::Clip, Part::LongReel]]),
+        Part::Nothing,
+        b"otio: t.otio: N4 NoReel at 0/0\n",
+    ),
+];
+
+/// Rates, days, effects, speeds and dissolves that aren't carried.
+static LEFT_TIMES: [Left; 8] = [
+    (
+        Tracks::One(&[&[Part::Clip]]),
+        Part::At25,
+        b"otio: t.otio: N5 RateDiffers at 0/0\n",
+    ),
+    (
+        Tracks::One(&[&[Part::Clip, Part::Last]]),
+        Part::Nothing,
+        b"otio: t.otio: N6 SourceDay at 0/0\n",
+    ),
+    (
+        Tracks::One(&[&[
             Part::Clip,
-            Part::HalfLong,
-            Part::Text(b"}"),
-            Part::Text(b"]}"),
-        ],
-        Part::Text(b""),
-        (
-            "convert --to edl t.otio",
-            Status::Refused,
-            b"",
-            b"otio: t.otio: N3 OffFrame at 0/0\n",
-        ),
+            Part::Text(b",\"effects\":[{\"OTIO_SCHEMA\":\"Effect.1\"}]"),
+        ]]),
+        Part::Nothing,
+        b"otio: t.otio: N7 Effect at 0/0\n",
     ),
     (
-        &[
-            Part::Track,
-            Part::Clip,
-            Part::Text(b"},"),
-            Part::Clip,
-            Part::Text(b",\"metadata\":{}}"),
-            Part::Text(b"]}"),
-        ],
-        Part::Text(b""),
-        (
-            "convert --to edl t.otio",
-            Status::Refused,
-            b"",
-            b"otio: t.otio: N4 NoReel at 0/1\n",
-        ),
+        Tracks::One(&[&[Part::Clip, Part::Backward]]),
+        Part::Nothing,
+        b"otio: t.otio: N8 Speed at 0/0\n",
     ),
     (
-        &[
-            Part::Track,
-            Part::Clip,
-            Part::LongReel,
-            Part::Text(b"}"),
-            Part::Text(b"]}"),
-        ],
-        Part::Text(b""),
-        (
-            "convert --to edl t.otio",
-            Status::Refused,
-            b"",
-            b"otio: t.otio: N4 NoReel at 0/0\n",
-        ),
+        Tracks::One(&[&[Part::Clip, Part::HalfBehind, Part::Twice]]),
+        Part::Nothing,
+        b"otio: t.otio: N9 Phase at 0/0\n",
     ),
     (
-        &[Part::Track, Part::Clip, Part::Text(b"}"), Part::Text(b"]}")],
-        Part::Text(b""),
+        Tracks::One(&[&[Part::Clip], &[Part::Cross], &[Part::Clip, Part::Quarter]]),
+        Part::Nothing,
+        b"otio: t.otio: N10 Overlap at 0/1\n",
+    ),
+    (
+        Tracks::One(&[
+            &[Part::Clip],
+            &[
+                Part::Cross,
+                Part::Text(b",\"transition_type\":\"Custom_Fade\""),
+            ],
+            &[Part::Clip],
+        ]),
+        Part::Nothing,
+        b"otio: t.otio: N11 Kind at 0/1\n",
+    ),
+    (
+        Tracks::One(&[&[Part::Clip]]),
+        Part::AtEnd,
+        b"otio: t.otio: N14 RecordDay at 0/0\n",
+    ),
+];
+
+/// What isn't carried with options: with a media list, in drop-frame, with a faulty media list.
+static LEFT_ASKED: [Film; 6] = [
+    (
+        Tracks::One(&[&[Part::Clip]]),
+        Part::Nothing,
         (
             "convert --to edl --media m.txt t.otio",
             Status::Refused,
@@ -312,96 +320,11 @@ static LEFT: [Film; 22] = [
         ),
     ),
     (
-        &[Part::Track, Part::Clip, Part::Text(b"}"), Part::Text(b"]}")],
-        Part::At25,
-        (
-            "convert --to edl t.otio",
-            Status::Refused,
-            b"",
-            b"otio: t.otio: N5 RateDiffers at 0/0\n",
-        ),
-    ),
-    (
-        &[
-            Part::Track,
-            Part::Clip,
-            Part::Last,
-            Part::Text(b"}"),
-            Part::Text(b"]}"),
-        ],
-        Part::Text(b""),
-        (
-            "convert --to edl t.otio",
-            Status::Refused,
-            b"",
-            b"otio: t.otio: N6 SourceDay at 0/0\n",
-        ),
-    ),
-    (
-        &[
-            Part::Track,
-            Part::Clip,
-            Part::Text(b",\"effects\":[{\"OTIO_SCHEMA\":\"Effect.1\"}]}"),
-            Part::Text(b"]}"),
-        ],
-        Part::Text(b""),
-        (
-            "convert --to edl t.otio",
-            Status::Refused,
-            b"",
-            b"otio: t.otio: N7 Effect at 0/0\n",
-        ),
-    ),
-    (
-        &[
-            Part::Track,
-            Part::Clip,
-            Part::Backward,
-            Part::Text(b"}"),
-            Part::Text(b"]}"),
-        ],
-        Part::Text(b""),
-        (
-            "convert --to edl t.otio",
-            Status::Refused,
-            b"",
-            b"otio: t.otio: N8 Speed at 0/0\n",
-        ),
-    ),
-    (
-        &[
-            Part::Track,
-            Part::Clip,
-            Part::HalfBehind,
-            Part::Twice,
-            Part::Text(b"}"),
-            Part::Text(b"]}"),
-        ],
-        Part::Text(b""),
-        (
-            "convert --to edl t.otio",
-            Status::Refused,
-            b"",
-            b"otio: t.otio: N9 Phase at 0/0\n",
-        ),
-    ),
-    (
-        &[
-            Part::Track,
-            Part::Clip,
-            Part::First,
-            Part::Media,
-            Part::Text(b"},"),
-            Part::Cross,
-            Part::TwelveBefore,
-            Part::Text(b"},"),
-            Part::Clip,
-            Part::Second,
-            Part::OtherMedia,
-            Part::Barely,
-            Part::Text(b"}"),
-            Part::Text(b"]}"),
-        ],
+        Tracks::One(&[
+            &[Part::Clip, Part::First, Part::Media],
+            &[Part::Cross, Part::TwelveBefore],
+            &[Part::Clip, Part::Second, Part::OtherMedia, Part::Barely],
+        ]),
         Part::Fifteen,
         (
             "convert --to edl --media m.txt t.otio",
@@ -411,53 +334,8 @@ static LEFT: [Film; 22] = [
         ),
     ),
     (
-        &[
-            Part::Track,
-            Part::Clip,
-            Part::Text(b"},"),
-            Part::Cross,
-            Part::Text(b"},"),
-            Part::Clip,
-            Part::Quarter,
-            Part::Text(b"}"),
-            Part::Text(b"]}"),
-        ],
-        Part::Text(b""),
-        (
-            "convert --to edl t.otio",
-            Status::Refused,
-            b"",
-            b"otio: t.otio: N10 Overlap at 0/1\n",
-        ),
-    ),
-    (
-        &[
-            Part::Track,
-            Part::Clip,
-            Part::Text(b"},"),
-            Part::Cross,
-            Part::Text(b",\"transition_type\":\"Custom_Fade\"},"),
-            Part::Clip,
-            Part::Text(b"}"),
-            Part::Text(b"]}"),
-        ],
-        Part::Text(b""),
-        (
-            "convert --to edl t.otio",
-            Status::Refused,
-            b"",
-            b"otio: t.otio: N11 Kind at 0/1\n",
-        ),
-    ),
-    (
-        &[
-            Part::Track,
-            Part::Clip,
-            Part::Media,
-            Part::Text(b"}"),
-            Part::Text(b"]}"),
-        ],
-        Part::Text(b""),
+        Tracks::One(&[&[Part::Clip, Part::Media]]),
+        Part::Nothing,
         (
             "convert --to edl --media short.txt t.otio",
             Status::Refused,
@@ -466,18 +344,8 @@ static LEFT: [Film; 22] = [
         ),
     ),
     (
-        &[Part::Track, Part::Clip, Part::Text(b"}"), Part::Text(b"]}")],
-        Part::AtEnd,
-        (
-            "convert --to edl t.otio",
-            Status::Refused,
-            b"",
-            b"otio: t.otio: N14 RecordDay at 0/0\n",
-        ),
-    ),
-    (
-        &[Part::Text(b"{\"OTIO_SCHEMA\":\"Gap.1\"}")],
-        Part::Text(b""),
+        A_GAP,
+        Part::Nothing,
         (
             "convert --to edl --drop t.otio",
             Status::Refused,
@@ -486,8 +354,8 @@ static LEFT: [Film; 22] = [
         ),
     ),
     (
-        &[Part::Text(b"{\"OTIO_SCHEMA\":\"Gap.1\"}")],
-        Part::Text(b""),
+        A_GAP,
+        Part::Nothing,
         (
             "convert --to edl --media twice.txt t.otio",
             Status::Refused,
@@ -496,8 +364,8 @@ static LEFT: [Film; 22] = [
         ),
     ),
     (
-        &[Part::Text(b"{\"OTIO_SCHEMA\":\"Gap.1\"}")],
-        Part::Text(b""),
+        A_GAP,
+        Part::Nothing,
         (
             "convert --to edl --media gone.txt t.otio",
             Status::Input,
@@ -509,72 +377,33 @@ static LEFT: [Film; 22] = [
 
 /// What is carried: nothing, a dissolve, one into a faster clip, one into a gap, a long reel, a
 /// track that is disabled, and a clip that is.
-static WRITTEN: [Film; 7] = [
+static WRITTEN: [Written; 7] = [
     (
-        &[],
-        Part::Text(b""),
-        (
-            "convert --to edl t.otio",
-            Status::Done,
-            b"FCM: NON-DROP FRAME
+        Tracks::Parts(&[]),
+        Part::Nothing,
+        "convert --to edl t.otio",
+        b"FCM: NON-DROP FRAME
 ",
-            b"",
-        ),
     ),
     (
-        &[
-            Part::Track,
-            Part::Clip,
-            Part::First,
-            Part::Media,
-            Part::Text(b"},"),
-            Part::Cross,
-            Part::TenBefore,
-            Part::Text(b"},"),
-            Part::Clip,
-            Part::Second,
-            Part::OtherMedia,
-            Part::Text(b"}"),
-            Part::Text(b"]}"),
-        ],
+        Tracks::One(&[
+            &[Part::Clip, Part::First, Part::Media],
+            &[Part::Cross, Part::TenBefore],
+            &[Part::Clip, Part::Second, Part::OtherMedia],
+        ]),
         Part::Fifteen,
-        (
-            "convert --to edl --media m.txt t.otio",
-            Status::Done,
-            b"TITLE: fifteen
-FCM: NON-DROP FRAME
-001  A1       V     C        00:00:04:04 00:00:05:18 01:00:00:00 01:00:01:14
-* FROM CLIP NAME: a
-002  A1       V     C        00:00:05:18 00:00:05:18 01:00:01:14 01:00:01:14
-002  B1       V     D    024 00:00:07:22 00:00:10:08 01:00:01:14 01:00:04:00
-* FROM CLIP NAME: a
-* TO CLIP NAME: b
-",
-            b"",
-        ),
+        "convert --to edl --media m.txt t.otio",
+        TWO_REELS,
     ),
     (
-        &[
-            Part::Track,
-            Part::Clip,
-            Part::First,
-            Part::Media,
-            Part::Text(b"},"),
-            Part::Cross,
-            Part::TwelveBefore,
-            Part::Text(b"},"),
-            Part::Clip,
-            Part::Second,
-            Part::OtherMedia,
-            Part::Faster,
-            Part::Text(b"}"),
-            Part::Text(b"]}"),
-        ],
+        Tracks::One(&[
+            &[Part::Clip, Part::First, Part::Media],
+            &[Part::Cross, Part::TwelveBefore],
+            &[Part::Clip, Part::Second, Part::OtherMedia, Part::Faster],
+        ]),
         Part::Fifteen,
-        (
-            "convert --to edl --media m.txt t.otio",
-            Status::Done,
-            b"TITLE: fifteen
+        "convert --to edl --media m.txt t.otio",
+        b"TITLE: fifteen
 FCM: NON-DROP FRAME
 001  A1       V     C        00:00:04:04 00:00:05:16 01:00:00:00 01:00:01:12
 * FROM CLIP NAME: a
@@ -584,99 +413,87 @@ M2   B1       036.0                00:00:07:14
 * FROM CLIP NAME: a
 * TO CLIP NAME: b
 ",
-            b"",
-        ),
     ),
     (
-        &[
-            Part::Track,
-            Part::Clip,
-            Part::Text(b",\"name\":\"a\""),
-            Part::Text(b"},"),
-            Part::Cross,
-            Part::TenBefore,
-            Part::Text(b"},"),
-            Part::Gap,
-            Part::Text(b"]}"),
-        ],
-        Part::Text(b""),
-        (
-            "convert --to edl t.otio",
-            Status::Done,
-            b"FCM: NON-DROP FRAME
+        Tracks::One(&[
+            &[Part::Clip, Part::Text(b",\"name\":\"a\"")],
+            &[Part::Cross, Part::TenBefore],
+            &[Part::Gap],
+        ]),
+        Part::Nothing,
+        "convert --to edl t.otio",
+        b"FCM: NON-DROP FRAME
 001  A1       V     C        00:00:00:00 00:00:00:14 00:00:00:00 00:00:00:14
 * FROM CLIP NAME: a
 002  A1       V     C        00:00:00:14 00:00:00:14 00:00:00:14 00:00:00:14
 002  BL       V     D    024 00:00:00:00 00:00:01:00 00:00:00:14 00:00:01:14
 * FROM CLIP NAME: a
 ",
-            b"",
-        ),
     ),
     (
-        &[
-            Part::Track,
-            Part::Clip,
-            Part::LongReel,
-            Part::Text(b"}"),
-            Part::Text(b"]}"),
-        ],
-        Part::Text(b""),
-        (
-            "convert --to edl --wide t.otio",
-            Status::Done,
-            b"FCM: NON-DROP FRAME
+        Tracks::One(&[&[Part::Clip, Part::LongReel]]),
+        Part::Nothing,
+        "convert --to edl --wide t.otio",
+        b"FCM: NON-DROP FRAME
 000001  A001C003_240101                  V     C        00:00:00:00 00:00:01:00 00:00:00:00 00:00:01:00
 ",
-            b"",
-        ),
     ),
     (
-        &[
+        Tracks::Parts(&[
             Part::Track,
             Part::Clip,
-            Part::Text(b"}"),
-            Part::Text(b"],\"enabled\":false},"),
+            Part::Text(b"}],\"enabled\":false},"),
             Part::Track,
             Part::Clip,
-            Part::Text(b"}"),
-            Part::Text(b"],\"kind\":\"Audio\"}"),
-        ],
-        Part::Text(b""),
-        (
-            "convert --to edl t.otio",
-            Status::Done,
-            b"FCM: NON-DROP FRAME
+            Part::Text(b"}],\"kind\":\"Audio\"}"),
+        ]),
+        Part::Nothing,
+        "convert --to edl t.otio",
+        b"FCM: NON-DROP FRAME
 001  A1       A     C        00:00:00:00 00:00:01:00 00:00:00:00 00:00:01:00
 ",
-            b"",
-        ),
     ),
     (
-        &[
-            Part::Track,
-            Part::Clip,
-            Part::Text(b",\"enabled\":false,\"metadata\":{}},"),
-            Part::Clip,
-            Part::Text(b"}"),
-            Part::Text(b"]}"),
-        ],
-        Part::Text(b""),
-        (
-            "convert --to edl t.otio",
-            Status::Done,
-            b"FCM: NON-DROP FRAME
+        Tracks::One(&[
+            &[
+                Part::Clip,
+                Part::Text(b",\"enabled\":false,\"metadata\":{}"),
+            ],
+            &[Part::Clip],
+        ]),
+        Part::Nothing,
+        "convert --to edl t.otio",
+        b"FCM: NON-DROP FRAME
 001  A1       V     C        00:00:00:00 00:00:01:00 00:00:01:00 00:00:02:00
 ",
-            b"",
-        ),
     ),
 ];
 
-fn put_parts(text: &mut Vec<u8>, tracks: &[Part], more: Part) -> Result<(), AllocError> {
-    text.extend_from_slice(ROOT)?;
-    for part in tracks {
+fn put_parts(text: &mut Vec<u8>, parts: &[Part]) -> Result<(), AllocError> {
+    for part in parts {
         text.extend_from_slice(text_of(*part))?;
+    }
+    Ok(())
+}
+
+// A track of these children.
+fn put_track(text: &mut Vec<u8>, children: &[&'static [Part]]) -> Result<(), AllocError> {
+    text.extend_from_slice(TRACK)?;
+    let mut lead = Part::Nothing;
+    for child in children {
+        text.extend_from_slice(text_of(lead))?;
+        lead = Part::Text(b",");
+        put_parts(text, child)?;
+        text.push(b'}')?;
+    }
+    text.extend_from_slice(b"]}")
+}
+
+fn put_timeline(text: &mut Vec<u8>, tracks: &Tracks, more: Part) -> Result<(), AllocError> {
+    text.extend_from_slice(ROOT)?;
+    match tracks {
+        Tracks::One(children) => put_track(text, children)?,
+        Tracks::Parts(parts) => put_parts(text, parts)?,
     }
     text.extend_from_slice(b"]}")?;
     text.extend_from_slice(text_of(more))?;
@@ -685,9 +502,9 @@ fn put_parts(text: &mut Vec<u8>, tracks: &[Part], more: Part) -> Result<(), Allo
 }
 
 // The text of a timeline.
-fn film_of(alloc: Global, tracks: &[Part], more: Part) -> Result<Vec<u8>, AllocError> {
+fn timeline_of(alloc: Global, tracks: &Tracks, more: Part) -> Result<Vec<u8>, AllocError> {
     let mut text = Vec::new(alloc);
-    put_parts(&mut text, tracks, more)?;
+    put_timeline(&mut text, tracks, more)?;
     Ok(text)
 }
 
@@ -725,45 +542,81 @@ pub fn check_any_pieces(
     check_at_most(rt, alloc, files, 7, cases)
 }
 
-fn check_film(
-    rt: &impl Abort,
+// Adds a timeline as the file `t.otio`.
+fn put_film(
     alloc: Global,
     files: &mut MemFiles,
-    film: &Film,
-) -> Result<(), Fail> {
-    let (tracks, more, case) = film;
-    let text = film_of(alloc, tracks, *more)?;
+    tracks: &Tracks,
+    more: Part,
+) -> Result<(), AllocError> {
+    let text = timeline_of(alloc, tracks, more)?;
     let put = files.put("t.otio", &text);
     drop(text);
-    put?;
-    check_any_pieces(rt, alloc, files, from_ref(case))
+    put
 }
 
-fn check_each_film(
+fn check_each_left(
     rt: &impl Abort,
     alloc: Global,
     files: &mut MemFiles,
-    films: &[Film],
+    rows: &[Left],
 ) -> Result<(), Fail> {
-    for film in films {
-        check_film(rt, alloc, files, film)?;
+    for (tracks, more, told) in rows {
+        put_film(alloc, files, tracks, *more)?;
+        let case: Case<'_> = ("convert --to edl t.otio", Status::Refused, b"", told);
+        check_any_pieces(rt, alloc, files, from_ref(&case))?;
     }
     Ok(())
 }
 
-fn check_films(rt: &impl Abort, alloc: Global, films: &[Film]) -> Result<(), Fail> {
-    let mut files = files_of(alloc, &MEDIA_LISTS)?;
-    let held = check_each_film(rt, alloc, &mut files, films);
+fn check_left(rt: &impl Abort, alloc: Global, rows: &[Left]) -> Result<(), Fail> {
+    let mut files = MemFiles::new(alloc);
+    let held = check_each_left(rt, alloc, &mut files, rows);
+    drop(files);
+    held
+}
+
+// Holds what isn't carried with options.
+fn check_asked(rt: &impl Abort, alloc: Global, files: &mut MemFiles) -> Result<(), Fail> {
+    for (tracks, more, case) in &LEFT_ASKED {
+        put_film(alloc, files, tracks, *more)?;
+        check_any_pieces(rt, alloc, files, from_ref(case))?;
+    }
+    Ok(())
+}
+
+// Holds what is carried.
+fn check_written(rt: &impl Abort, alloc: Global, files: &mut MemFiles) -> Result<(), Fail> {
+    for (tracks, more, line, list) in &WRITTEN {
+        put_film(alloc, files, tracks, *more)?;
+        let case: Case<'_> = (line, Status::Done, list, b"");
+        check_any_pieces(rt, alloc, files, from_ref(&case))?;
+    }
+    Ok(())
+}
+
+#[test]
+fn items_that_are_not_carried_are_told(rt: HostRuntime) -> Result<(), Fail> {
+    check_left(&rt, rt.alloc(), &LEFT_ITEMS)
+}
+
+#[test]
+fn times_that_are_not_carried_are_told(rt: HostRuntime) -> Result<(), Fail> {
+    check_left(&rt, rt.alloc(), &LEFT_TIMES)
+}
+
+#[test]
+fn what_is_not_carried_with_options_is_told(rt: HostRuntime) -> Result<(), Fail> {
+    let mut files = files_of(rt.alloc(), &MEDIA_LISTS)?;
+    let held = check_asked(&rt, rt.alloc(), &mut files);
     drop(files);
     held
 }
 
 #[test]
-fn what_is_not_carried_is_told(rt: HostRuntime) -> Result<(), Fail> {
-    check_films(&rt, rt.alloc(), &LEFT)
-}
-
-#[test]
 fn timelines_are_written_as_lists(rt: HostRuntime) -> Result<(), Fail> {
-    check_films(&rt, rt.alloc(), &WRITTEN)
+    let mut files = files_of(rt.alloc(), &MEDIA_LISTS)?;
+    let held = check_written(&rt, rt.alloc(), &mut files);
+    drop(files);
+    held
 }

@@ -2,6 +2,7 @@
 
 ghost use Rattle.std.specs.Prelude.{◌<◌};
 
+use crate::conform_tests::TWO_REELS;
 use crate::runs::{Case, Named, check_all, check_case, put_text};
 use dev_io::MemFiles;
 use otio_tools::Status;
@@ -29,17 +30,6 @@ struct Rows {
 /// A log of two tapes.
 const TWO: &[u8] =
     b"Heading\nFIELD_DELIM\tTABS\nFPS\t24\n\nColumn\nName\tTape\tStart\tEnd\n\nData\nk1\tA1\t00:00:00:00\t00:00:10:00\nk2\tB1\t00:00:00:00\t00:00:41:16\nk3\tA1\t00:00:20:00\t00:00:41:16\n";
-
-/// A cut and a dissolve of its tapes.
-const FIFTEEN: &[u8] = b"TITLE: fifteen
-FCM: NON-DROP FRAME
-001  A1       V     C        00:00:04:04 00:00:05:18 01:00:00:00 01:00:01:14
-* FROM CLIP NAME: a
-002  A1       V     C        00:00:05:18 00:00:05:18 01:00:01:14 01:00:01:14
-002  B1       V     D    024 00:00:07:22 00:00:10:08 01:00:01:14 01:00:04:00
-* FROM CLIP NAME: a
-* TO CLIP NAME: b
-";
 
 /// Whole logs.
 static LOGS: [Log; 30] = [
@@ -326,7 +316,7 @@ static FILES: [Named; 6] = [
         b"A1\t24.0\t0\t1000\ttape:A1\nB1\t24.0\t0\t1000\ttape:B1\n",
     ),
     ("bare.ale", b"Heading\nColumn\n"),
-    ("fifteen.edl", FIFTEEN),
+    ("fifteen.edl", TWO_REELS),
 ];
 
 /// What the dissolve shows, with the log and with the list of its rows.

@@ -3,12 +3,12 @@
 
 ghost use Rattle.std.specs.Prelude.{◌<◌};
 
-use crate::note_texts::{Clip, FAST, FORMS, KEPT, MARKED, Mark, Marked, Noted, OLDER, RED, WORKED};
-use crate::object_tests::is_squeezed;
+use crate::note_texts::{Clip, FAST, FORMS, KEPT, MARKED, Noted, RED};
+use crate::noted_timelines::{Family, NEWER, OLDER, timeline_of, worked};
+use crate::object_tests::check_squeezed;
 use crate::runs::{
-    Case, Named, check_case, check_cases, check_usages, done, files_of, put_output, put_text,
+    Case, Named, check_case, check_cases, check_usages, files_of, put_output, put_text,
 };
-use crate::timelines::put_parts;
 use dev_io::MemFiles;
 use otio_tools::Status;
 use std::alloc::{AllocError, Global};
@@ -332,19 +332,16 @@ FCM: NON-DROP FRAME
 001  TAPE1    V     C        01:00:00:00 01:00:02:00 00:00:10:00 00:00:12:00
 ";
 
-static FILES: [Named; 8] = [
+static FILES: [Named; 6] = [
     ("far.edl", FAR),
     ("a.edl", LIST),
     ("bare.edl", BARE),
     ("outside.edl", OUTSIDE),
-    ("x.otio", WORKED),
-    ("old.otio", OLDER),
     ("one.json", b"1"),
     ("bad.edl", b"* ASC_SAT: 1\n1 A\n"),
 ];
 
-static CASES: [Case; 13] = [
-    ("convert a.edl --notes --family 1", Status::Done, OLDER, b""),
+static CASES: [Case; 12] = [
     ("convert --notes --to edl x.otio", Status::Done, LISTED, b""),
     (
         "convert --notes --to edl old.otio",
@@ -429,6 +426,9 @@ static TO_WORKED: [&str; 4] = [
     "convert --notes old.otio",
 ];
 
+/// One that sends it in the older family.
+static TO_OLDER: [&str; 1] = ["convert a.edl --notes --family 1"];
+
 /// Words that are no command line.
 static OTHER: [&str; 12] = [
     "convert --notes",
@@ -444,112 +444,6 @@ static OTHER: [&str; 12] = [
     "pull --notes a.edl",
     "media --notes a.edl",
 ];
-
-fn put_mark(text: &mut String, mark: &Mark) -> Result<(), AllocError> {
-    let (name, start, members) = *mark;
-    put_parts(
-        text,
-        &[
-            r#"{"OTIO_SCHEMA":"Marker.2","metadata":{},"name":""#,
-            name,
-            r#"","marked_range":{"OTIO_SCHEMA":"TimeRange.1","duration":"#,
-            r#"{"OTIO_SCHEMA":"RationalTime.1","rate":24.0,"value":1.0},"start_time":"#,
-            r#"{"OTIO_SCHEMA":"RationalTime.1","rate":24.0,"value":"#,
-            start,
-            "}}",
-            members,
-            "}",
-        ],
-    )
-}
-
-fn put_marks(text: &mut String, first: &str, marks: &[Mark]) -> Result<(), AllocError> {
-    text.push_str(first)?;
-    let mut lead = if first.is_empty() { "" } else { "," };
-    for mark in marks {
-        text.push_str(lead)?;
-        lead = ",";
-        put_mark(text, mark)?;
-    }
-    Ok(())
-}
-
-fn put_clip(text: &mut String, clip: &Clip) -> Result<(), AllocError> {
-    let (effects, grade, first, marks) = *clip;
-    put_parts(
-        text,
-        &[
-            r#"{"OTIO_SCHEMA":"Clip.2","metadata":{"cmx_3600":{"reel":"TAPE1"}"#,
-            grade,
-            r#"},"name":"TAPE1","source_range":{"OTIO_SCHEMA":"TimeRange.1","duration":"#,
-            r#"{"OTIO_SCHEMA":"RationalTime.1","rate":24.0,"value":48.0},"start_time":"#,
-            r#"{"OTIO_SCHEMA":"RationalTime.1","rate":24.0,"value":86400.0}},"effects":["#,
-            effects,
-            r#"],"markers":["#,
-        ],
-    )?;
-    put_marks(text, first, marks)?;
-    put_parts(
-        text,
-        &[
-            r#"],"enabled":true,"media_references":{"DEFAULT_MEDIA":"#,
-            r#"{"OTIO_SCHEMA":"MissingReference.1","metadata":{},"name":"","#,
-            r#""available_range":null}},"active_media_reference_key":"DEFAULT_MEDIA"}"#,
-        ],
-    )
-}
-
-fn put_tracks(
-    text: &mut String,
-    tracks: &[(&'static str, &'static str)],
-    clip: &Clip,
-) -> Result<(), AllocError> {
-    let mut lead = "";
-    for (name, kind) in tracks {
-        put_parts(
-            text,
-            &[
-                lead,
-                r#"{"OTIO_SCHEMA":"Track.1","metadata":{},"name":""#,
-                name,
-                r#"","source_range":null,"effects":[],"markers":[],"enabled":true,"children":["#,
-            ],
-        )?;
-        lead = ",";
-        put_clip(text, clip)?;
-        put_parts(text, &[r#"],"kind":""#, kind, r#""}"#])?;
-    }
-    Ok(())
-}
-
-fn put_timeline(
-    text: &mut String,
-    tracks: &[(&'static str, &'static str)],
-    clip: &Clip,
-) -> Result<(), AllocError> {
-    put_parts(
-        text,
-        &[
-            r#"{"OTIO_SCHEMA":"Timeline.1","metadata":{},"name":"","global_start_time":"#,
-            r#"{"OTIO_SCHEMA":"RationalTime.1","rate":24.0,"value":240.0},"tracks":"#,
-            r#"{"OTIO_SCHEMA":"Stack.1","metadata":{},"name":"tracks","source_range":null,"#,
-            r#""effects":[],"markers":[],"enabled":true,"children":["#,
-        ],
-    )?;
-    put_tracks(text, tracks, clip)?;
-    text.push_str("]}}")
-}
-
-// A timeline of these tracks, each with this clip.
-fn timeline_of(
-    alloc: Global,
-    tracks: &[(&'static str, &'static str)],
-    clip: &Clip,
-) -> Result<String, AllocError> {
-    let mut text = String::new(alloc);
-    put_timeline(&mut text, tracks, clip)?;
-    Ok(text)
-}
 
 // Two texts, one after the other.
 fn joined(alloc: Global, front: &str, rest: &str) -> Result<String, AllocError> {
@@ -583,22 +477,6 @@ fn check_joined(
     held
 }
 
-// Holds that the list `a.edl` becomes a timeline of this text, blanks and line feeds aside.
-fn check_squeezed(
-    rt: &impl Abort,
-    alloc: Global,
-    files: &mut MemFiles,
-    wanted: &str,
-) -> Result<(), Fail> {
-    let answer = done(rt, alloc, files, "convert --notes a.edl")?;
-    assert!(rt;
-        is_squeezed(answer.out.sent(), wanted.as_bytes()),
-        "{wanted}"
-    );
-    drop(answer);
-    Ok(())
-}
-
 // Holds that the list `a.edl` becomes a timeline of these tracks, each with this clip.
 fn check_timeline(
     rt: &impl Abort,
@@ -608,7 +486,7 @@ fn check_timeline(
     clip: &Clip,
 ) -> Result<(), Fail> {
     let wanted = timeline_of(alloc, tracks, clip)?;
-    let held = check_squeezed(rt, alloc, files, wanted.as_str());
+    let held = check_squeezed(rt, alloc, files, "convert --notes a.edl", wanted.as_str());
     drop(wanted);
     held
 }
@@ -638,11 +516,14 @@ fn check_sizes(
     files: &mut MemFiles,
     row: &Noted,
 ) -> Result<(), Fail> {
-    put_text(files, "a.edl", joined(alloc, EVENT, row.lines))?;
-    check_noted(rt, alloc, files, 4096, row)?;
-    check_noted(rt, alloc, files, 1, row)?;
-    check_noted(rt, alloc, files, 2, row)?;
-    check_noted(rt, alloc, files, 7, row)
+    for lines in row.lines {
+        put_text(files, "a.edl", joined(alloc, EVENT, lines))?;
+        check_noted(rt, alloc, files, 4096, row)?;
+        check_noted(rt, alloc, files, 1, row)?;
+        check_noted(rt, alloc, files, 2, row)?;
+        check_noted(rt, alloc, files, 7, row)?;
+    }
+    Ok(())
 }
 
 fn check_all_noted(
@@ -662,28 +543,42 @@ fn check_two_channels(rt: &impl Abort, alloc: Global, files: &mut MemFiles) -> R
     check_timeline(rt, alloc, files, &TWO_TRACKS, &ON_BOTH)
 }
 
-// Holds what is written of a clip, of which a read gives at most so many bytes.
+// Holds that a clip is written so, over files of which a read gives at most so many bytes.
 fn check_marked(
     rt: &impl Abort,
     alloc: Global,
     files: &mut MemFiles,
     most: usize,
-    row: &Marked,
+    written: &str,
 ) -> Result<(), Fail>
     requires { 0 < most }
 {
     files.piece(most);
     let line = "convert --notes --to edl x.otio";
-    check_joined(rt, alloc, files, line, [MODE, row.written])
+    check_joined(rt, alloc, files, line, [MODE, written])
+}
+
+// Holds that each of some clips is written so.
+fn check_clips(
+    rt: &impl Abort,
+    alloc: Global,
+    files: &mut MemFiles,
+    clips: &[Clip],
+    written: &str,
+) -> Result<(), Fail> {
+    for clip in clips {
+        put_text(files, "x.otio", timeline_of(alloc, &ONE_TRACK, clip))?;
+        check_marked(rt, alloc, files, 4096, written)?;
+        check_marked(rt, alloc, files, 1, written)?;
+        check_marked(rt, alloc, files, 2, written)?;
+        check_marked(rt, alloc, files, 7, written)?;
+    }
+    Ok(())
 }
 
 fn check_all_marked(rt: &impl Abort, alloc: Global, files: &mut MemFiles) -> Result<(), Fail> {
     for row in &MARKED {
-        put_text(files, "x.otio", timeline_of(alloc, &ONE_TRACK, &row.clip))?;
-        check_marked(rt, alloc, files, 4096, row)?;
-        check_marked(rt, alloc, files, 1, row)?;
-        check_marked(rt, alloc, files, 2, row)?;
-        check_marked(rt, alloc, files, 7, row)?;
+        check_clips(rt, alloc, files, row.clips, row.written)?;
     }
     Ok(())
 }
@@ -717,17 +612,34 @@ fn check_all_listed(rt: &impl Abort, alloc: Global, files: &mut MemFiles) -> Res
     Ok(())
 }
 
+// Holds that each of some command lines sends the timeline of the worked row in a family.
+fn check_worked(
+    rt: &impl Abort,
+    alloc: Global,
+    files: &mut MemFiles,
+    family: &Family,
+    lines: &[&str],
+) -> Result<(), Fail> {
+    for line in lines {
+        let wanted = worked(alloc, family)?;
+        let held = check_sent(rt, alloc, files, line, wanted.as_str());
+        drop(wanted);
+        held?;
+    }
+    Ok(())
+}
+
 // Holds the timeline of the worked row, and the cases.
 fn check_lines(rt: &impl Abort, alloc: Global, files: &mut MemFiles) -> Result<(), Fail> {
-    for line in &TO_WORKED {
-        let case: Case<'_> = (line, Status::Done, WORKED, b"");
-        check_case(rt, alloc, files, &case)?;
-    }
+    check_worked(rt, alloc, files, &NEWER, &TO_WORKED)?;
+    check_worked(rt, alloc, files, &OLDER, &TO_OLDER)?;
     check_cases(rt, alloc, files, &CASES)
 }
 
 // Holds them over whole files and over files in pieces of a byte, and the usage text.
 fn check_words(rt: &impl Abort, alloc: Global, files: &mut MemFiles) -> Result<(), Fail> {
+    put_text(files, "x.otio", worked(alloc, &NEWER))?;
+    put_text(files, "old.otio", worked(alloc, &OLDER))?;
     check_lines(rt, alloc, files)?;
     check_usages(rt, alloc, files, &OTHER)?;
     files.piece(1);

@@ -7,18 +7,18 @@ pub type Mark = (&'static str, &'static str, &'static str);
 /// after the reel, the texts of its first markers, and its other markers.
 pub type Clip = (&'static str, &'static str, &'static str, &'static [Mark]);
 
-/// What stands after the event line of a list, what of that is written as a list, the clip that it
-/// becomes, and what is written of that, from its event line on.
+/// What stands after the event line of a list, in one or several spellings, what of that is written
+/// as a list, the clip that it becomes, and what is written of that, from its event line on.
 pub struct Noted {
-    pub lines: &'static str,
+    pub lines: &'static [&'static str],
     pub written: &'static str,
     pub clip: Clip,
     pub back: &'static str,
 }
 
-/// A clip, and what is written of it, from its event line on.
+/// Clips, and what is written of each, from its event line on.
 pub struct Marked {
-    pub clip: Clip,
+    pub clips: &'static [Clip],
     pub written: &'static str,
 }
 
@@ -29,6 +29,10 @@ pub const RED: &str = r#","color":"RED""#;
 pub const FAST: &str =
     r#"{"OTIO_SCHEMA":"LinearTimeWarp.1","metadata":{},"name":"","effect_name":"","time_scalar":2.0}"#;
 
+/// A grade, as a member of metadata.
+const GRADE: &str =
+    r#","cdl":{"asc_sop":{"slope":[1,2,3],"offset":[4,5,6],"power":[7,8,9]},"asc_sat":1}"#;
+
 const PART: &str =
     r#"{"OTIO_SCHEMA":"LinearTimeWarp.1","metadata":{},"name":"","effect_name":"","time_scalar":0.6}"#;
 
@@ -38,216 +42,18 @@ const HALF: &str =
 const FREEZE: &str =
     r#"{"OTIO_SCHEMA":"FreezeFrame.1","metadata":{},"name":"","effect_name":"","time_scalar":0.0}"#;
 
-/// The timeline of the worked row.
-pub const WORKED: &[u8] = b"{
-    \"OTIO_SCHEMA\": \"Timeline.1\",
-    \"metadata\": {},
-    \"name\": \"ONE\",
-    \"global_start_time\": {
-        \"OTIO_SCHEMA\": \"RationalTime.1\",
-        \"rate\": 24.0,
-        \"value\": 240.0
-    },
-    \"tracks\": {
-        \"OTIO_SCHEMA\": \"Stack.1\",
-        \"metadata\": {},
-        \"name\": \"tracks\",
-        \"source_range\": null,
-        \"effects\": [],
-        \"markers\": [],
-        \"enabled\": true,
-        \"children\": [
-            {
-                \"OTIO_SCHEMA\": \"Track.1\",
-                \"metadata\": {},
-                \"name\": \"V\",
-                \"source_range\": null,
-                \"effects\": [],
-                \"markers\": [],
-                \"enabled\": true,
-                \"children\": [
-                    {
-                        \"OTIO_SCHEMA\": \"Clip.2\",
-                        \"metadata\": {
-                            \"cmx_3600\": {
-                                \"reel\": \"TAPE1\"
-                            },
-                            \"cdl\": {
-                                \"asc_sat\": 0.9
-                            }
-                        },
-                        \"name\": \"TAPE1\",
-                        \"source_range\": {
-                            \"OTIO_SCHEMA\": \"TimeRange.1\",
-                            \"duration\": {
-                                \"OTIO_SCHEMA\": \"RationalTime.1\",
-                                \"rate\": 24.0,
-                                \"value\": 48.0
-                            },
-                            \"start_time\": {
-                                \"OTIO_SCHEMA\": \"RationalTime.1\",
-                                \"rate\": 24.0,
-                                \"value\": 86400.0
-                            }
-                        },
-                        \"effects\": [],
-                        \"markers\": [
-                            {
-                                \"OTIO_SCHEMA\": \"Marker.2\",
-                                \"metadata\": {},
-                                \"name\": \"fix sky\",
-                                \"marked_range\": {
-                                    \"OTIO_SCHEMA\": \"TimeRange.1\",
-                                    \"duration\": {
-                                        \"OTIO_SCHEMA\": \"RationalTime.1\",
-                                        \"rate\": 24.0,
-                                        \"value\": 1.0
-                                    },
-                                    \"start_time\": {
-                                        \"OTIO_SCHEMA\": \"RationalTime.1\",
-                                        \"rate\": 24.0,
-                                        \"value\": 86424.0
-                                    }
-                                },
-                                \"color\": \"RED\"
-                            }
-                        ],
-                        \"enabled\": true,
-                        \"media_references\": {
-                            \"DEFAULT_MEDIA\": {
-                                \"OTIO_SCHEMA\": \"MissingReference.1\",
-                                \"metadata\": {},
-                                \"name\": \"\",
-                                \"available_range\": null
-                            }
-                        },
-                        \"active_media_reference_key\": \"DEFAULT_MEDIA\"
-                    }
-                ],
-                \"kind\": \"Video\"
-            }
-        ]
-    }
-}
-";
-
-/// The same in the older family.
-pub const OLDER: &[u8] = b"{
-    \"OTIO_SCHEMA\": \"Timeline.1\",
-    \"metadata\": {},
-    \"name\": \"ONE\",
-    \"global_start_time\": {
-        \"OTIO_SCHEMA\": \"RationalTime.1\",
-        \"rate\": 24.0,
-        \"value\": 240.0
-    },
-    \"tracks\": {
-        \"OTIO_SCHEMA\": \"Stack.1\",
-        \"metadata\": {},
-        \"name\": \"tracks\",
-        \"source_range\": null,
-        \"effects\": [],
-        \"markers\": [],
-        \"enabled\": true,
-        \"children\": [
-            {
-                \"OTIO_SCHEMA\": \"Track.1\",
-                \"metadata\": {},
-                \"name\": \"V\",
-                \"source_range\": null,
-                \"effects\": [],
-                \"markers\": [],
-                \"enabled\": true,
-                \"children\": [
-                    {
-                        \"OTIO_SCHEMA\": \"Clip.1\",
-                        \"metadata\": {
-                            \"cmx_3600\": {
-                                \"reel\": \"TAPE1\"
-                            },
-                            \"cdl\": {
-                                \"asc_sat\": 0.9
-                            }
-                        },
-                        \"name\": \"TAPE1\",
-                        \"source_range\": {
-                            \"OTIO_SCHEMA\": \"TimeRange.1\",
-                            \"duration\": {
-                                \"OTIO_SCHEMA\": \"RationalTime.1\",
-                                \"rate\": 24.0,
-                                \"value\": 48.0
-                            },
-                            \"start_time\": {
-                                \"OTIO_SCHEMA\": \"RationalTime.1\",
-                                \"rate\": 24.0,
-                                \"value\": 86400.0
-                            }
-                        },
-                        \"effects\": [],
-                        \"markers\": [
-                            {
-                                \"OTIO_SCHEMA\": \"Marker.1\",
-                                \"metadata\": {},
-                                \"name\": \"fix sky\",
-                                \"range\": {
-                                    \"OTIO_SCHEMA\": \"TimeRange.1\",
-                                    \"duration\": {
-                                        \"OTIO_SCHEMA\": \"RationalTime.1\",
-                                        \"rate\": 24.0,
-                                        \"value\": 1.0
-                                    },
-                                    \"start_time\": {
-                                        \"OTIO_SCHEMA\": \"RationalTime.1\",
-                                        \"rate\": 24.0,
-                                        \"value\": 86424.0
-                                    }
-                                },
-                                \"color\": \"RED\"
-                            }
-                        ],
-                        \"enabled\": true,
-                        \"media_reference\": {
-                            \"OTIO_SCHEMA\": \"MissingReference.1\",
-                            \"metadata\": {},
-                            \"name\": \"\",
-                            \"available_range\": null
-                        }
-                    }
-                ],
-                \"kind\": \"Video\"
-            }
-        ]
-    }
-}
-";
-
 /// Notes in every form, both ways.
-pub static FORMS: [Noted; 9] = [
-    // the worked row
+pub static FORMS: [Noted; 8] = [
+    // the worked row, and its saturation without the colon
     Noted {
-        lines: "* ASC_SAT: 0.9
+        lines: &[
+            "* ASC_SAT: 0.9
 * LOC: 00:00:11:00 RED fix sky
 ",
-        written: "* ASC_SAT: 0.9
-* LOC: 00:00:11:00 RED     fix sky
-",
-        clip: (
-            "",
-            r#","cdl":{"asc_sat":0.9}"#,
-            "",
-            &[("fixsky", "86424.0", RED)],
-        ),
-        back: "001  TAPE1    V     C        01:00:00:00 01:00:02:00 00:00:10:00 00:00:12:00
-* FROM CLIP NAME: TAPE1
-* ASC_SAT: 0.9
-* LOC: 00:00:11:00 RED     fix sky
-",
-    },
-    // the saturation without its colon
-    Noted {
-        lines: "*ASC_SAT 0.9
+            "*ASC_SAT 0.9
 * LOC: 00:00:11:00 RED fix sky
 ",
+        ],
         written: "* ASC_SAT: 0.9
 * LOC: 00:00:11:00 RED     fix sky
 ",
@@ -265,10 +71,12 @@ pub static FORMS: [Noted; 9] = [
     },
     // a locator after the last frame, and one before the first
     Noted {
-        lines: "* ASC_SAT: 0.9
+        lines: &[
+            "* ASC_SAT: 0.9
 * LOC: 00:00:12:00 RED fix sky
 * LOC: 00:00:09:23 RED x
 ",
+        ],
         written: "* ASC_SAT: 0.9
 ",
         clip: ("", r#","cdl":{"asc_sat":0.9}"#, "", &[]),
@@ -279,9 +87,11 @@ pub static FORMS: [Noted; 9] = [
     },
     // the first and the last frame
     Noted {
-        lines: "* LOC: 00:00:11:23 CYAN z
+        lines: &[
+            "* LOC: 00:00:11:23 CYAN z
 * LOC: 00:00:10:00 MAGENTA a
 ",
+        ],
         written: "* LOC: 00:00:11:23 CYAN    z
 * LOC: 00:00:10:00 MAGENTA a
 ",
@@ -302,17 +112,14 @@ pub static FORMS: [Noted; 9] = [
     },
     // spaces and tabs at all places
     Noted {
-        lines: " \t*\t LOC \t:\t 00:00:11:00 \t RED \t a\t b \t\n\t*\tASC_SOP\t:\t(\t1\t2 \t3 )\t( 4  5\t6\t) \t(7 8 9) \n * \tASC_SAT \t:\t 1 \t\n",
+        lines: &[
+            " \t*\t LOC \t:\t 00:00:11:00 \t RED \t a\t b \t\n\t*\tASC_SOP\t:\t(\t1\t2 \t3 )\t( 4  5\t6\t) \t(7 8 9) \n * \tASC_SAT \t:\t 1 \t\n",
+        ],
         written: "* LOC: 00:00:11:00 RED     a  b
 * ASC_SOP: (1 2 3)(4 5 6)(7 8 9)
 * ASC_SAT: 1
 ",
-        clip: (
-            "",
-            r#","cdl":{"asc_sop":{"slope":[1,2,3],"offset":[4,5,6],"power":[7,8,9]},"asc_sat":1}"#,
-            "",
-            &[("a\\tb", "86424.0", RED)],
-        ),
+        clip: ("", GRADE, "", &[("a\\tb", "86424.0", RED)]),
         back: "001  TAPE1    V     C        01:00:00:00 01:00:02:00 00:00:10:00 00:00:12:00
 * FROM CLIP NAME: TAPE1
 * ASC_SOP: (1 2 3)(4 5 6)(7 8 9)
@@ -322,20 +129,17 @@ pub static FORMS: [Noted; 9] = [
     },
     // and at none
     Noted {
-        lines: "*LOC:00:00:11:00 RED a
+        lines: &[
+            "*LOC:00:00:11:00 RED a
 *ASC_SOP(1 2 3)(4 5 6)(7 8 9)
 *ASC_SAT:1
 ",
+        ],
         written: "* LOC: 00:00:11:00 RED     a
 * ASC_SOP: (1 2 3)(4 5 6)(7 8 9)
 * ASC_SAT: 1
 ",
-        clip: (
-            "",
-            r#","cdl":{"asc_sop":{"slope":[1,2,3],"offset":[4,5,6],"power":[7,8,9]},"asc_sat":1}"#,
-            "",
-            &[("a", "86424.0", RED)],
-        ),
+        clip: ("", GRADE, "", &[("a", "86424.0", RED)]),
         back: "001  TAPE1    V     C        01:00:00:00 01:00:02:00 00:00:10:00 00:00:12:00
 * FROM CLIP NAME: TAPE1
 * ASC_SOP: (1 2 3)(4 5 6)(7 8 9)
@@ -345,17 +149,12 @@ pub static FORMS: [Noted; 9] = [
     },
     // no colon where none is needed
     Noted {
-        lines: "*ASC_SOP\t(1 2 3) (4 5 6)\t(7 8 9)\n*ASC_SAT\t1\n*LOC:00:00:10:05 RED\n",
+        lines: &["*ASC_SOP\t(1 2 3) (4 5 6)\t(7 8 9)\n*ASC_SAT\t1\n*LOC:00:00:10:05 RED\n"],
         written: "* ASC_SOP: (1 2 3)(4 5 6)(7 8 9)
 * ASC_SAT: 1
 * LOC: 00:00:10:05 RED
 ",
-        clip: (
-            "",
-            r#","cdl":{"asc_sop":{"slope":[1,2,3],"offset":[4,5,6],"power":[7,8,9]},"asc_sat":1}"#,
-            "",
-            &[("", "86405.0", RED)],
-        ),
+        clip: ("", GRADE, "", &[("", "86405.0", RED)]),
         back: "001  TAPE1    V     C        01:00:00:00 01:00:02:00 00:00:10:00 00:00:12:00
 * FROM CLIP NAME: TAPE1
 * ASC_SOP: (1 2 3)(4 5 6)(7 8 9)
@@ -365,7 +164,8 @@ pub static FORMS: [Noted; 9] = [
     },
     // lines of no form
     Noted {
-        lines: "* LOC 00:00:11:00 RED x
+        lines: &[
+            "* LOC 00:00:11:00 RED x
 * LOC: 00:00:11:00 red x
 * LOC: 00:00:11:00 MAGENTAS x
 * LOC: 0:00:11:00 RED x
@@ -385,6 +185,7 @@ LOC: 00:00:11:00 RED x
 * ASC_SOP: (1,1,1)(0 0 0)(1 1 1)
 * ASC_SOP: (1 1 1)(0 0 0)(1 1 1) x
 ",
+        ],
         written: "",
         clip: ("", "", "", &[]),
         back: "001  TAPE1    V     C        01:00:00:00 01:00:02:00 00:00:10:00 00:00:12:00
@@ -393,11 +194,13 @@ LOC: 00:00:11:00 RED x
     },
     // of two grades the last counts on a timeline
     Noted {
-        lines: "* ASC_SAT: 1
+        lines: &[
+            "* ASC_SAT: 1
 * ASC_SOP: (1 1 1)(0 0 0)(1 1 1)
 * ASC_SOP: (2 2 2)(0 0 0)(1 1 1)
 * ASC_SAT: 2
 ",
+        ],
         written: "* ASC_SAT: 1
 * ASC_SOP: (1 1 1)(0 0 0)(1 1 1)
 * ASC_SOP: (2 2 2)(0 0 0)(1 1 1)
@@ -421,9 +224,11 @@ LOC: 00:00:11:00 RED x
 pub static KEPT: [Noted; 8] = [
     // numbers as they are spelled
     Noted {
-        lines: "* ASC_SOP: (1.0 1E0 1e+0)(-0 0.00 -1.50E-3)(10e-1 1.10 1e400)
+        lines: &[
+            "* ASC_SOP: (1.0 1E0 1e+0)(-0 0.00 -1.50E-3)(10e-1 1.10 1e400)
 * ASC_SAT: 0.90e-0
 ",
+        ],
         written: "* ASC_SOP: (1.0 1E0 1e+0)(-0 0.00 -1.50E-3)(10e-1 1.10 1e400)
 * ASC_SAT: 0.90e-0
 ",
@@ -441,10 +246,12 @@ pub static KEPT: [Noted; 8] = [
     },
     // names in UTF-8 and with a control
     Noted {
-        lines: "* LOC: 00:00:10:01 GREEN \u{e9}t\u{e9} \u{2192} \u{1f3ac}
+        lines: &[
+            "* LOC: 00:00:10:01 GREEN \u{e9}t\u{e9} \u{2192} \u{1f3ac}
 * LOC: 00:00:10:02 BLUE a\u{7}b
 * LOC: 00:00:10:03 W \"q\\\"
 ",
+        ],
         written: "* LOC: 00:00:10:01 GREEN   \u{e9}t\u{e9} \u{2192} \u{1f3ac}
 * LOC: 00:00:10:02 BLUE    a b
 * LOC: 00:00:10:03 W       \"q\\\"
@@ -472,7 +279,7 @@ pub static KEPT: [Noted; 8] = [
     },
     // two on a frame, and one without a name
     Noted {
-        lines: "* LOC: 00:00:11:00 RED b\n* LOC: 00:00:11:00 RED a\n* LOC: 00:00:11:00 BLUE \n",
+        lines: &["* LOC: 00:00:11:00 RED b\n* LOC: 00:00:11:00 RED a\n* LOC: 00:00:11:00 BLUE \n"],
         written: "* LOC: 00:00:11:00 RED     b
 * LOC: 00:00:11:00 RED     a
 * LOC: 00:00:11:00 BLUE
@@ -496,9 +303,11 @@ pub static KEPT: [Noted; 8] = [
     },
     // after twice the speed
     Noted {
-        lines: "M2 TAPE1 048.0 01:00:00:00
+        lines: &[
+            "M2 TAPE1 048.0 01:00:00:00
 * LOC: 00:00:10:13 RED a
 ",
+        ],
         written: "M2   TAPE1    048.0                01:00:00:00
 * LOC: 00:00:10:13 RED     a
 ",
@@ -511,10 +320,12 @@ M2   TAPE1    048.0                01:00:00:00
     },
     // after three fifths of the speed
     Noted {
-        lines: "M2 TAPE1 014.4 01:00:00:00
+        lines: &[
+            "M2 TAPE1 014.4 01:00:00:00
 * LOC: 00:00:10:03 RED a
 * LOC: 00:00:10:04 RED b
 ",
+        ],
         written: "M2   TAPE1    014.4                01:00:00:00
 * LOC: 00:00:10:03 RED     a
 * LOC: 00:00:10:04 RED     b
@@ -534,9 +345,11 @@ M2   TAPE1    014.4                01:00:00:00
     },
     // after a freeze frame
     Noted {
-        lines: "M2 TAPE1 000.0 01:00:00:00
+        lines: &[
+            "M2 TAPE1 000.0 01:00:00:00
 * LOC: 00:00:11:00 RED a
 ",
+        ],
         written: "M2   TAPE1    000.0                01:00:00:00
 * LOC: 00:00:11:00 RED     a
 ",
@@ -549,10 +362,12 @@ M2   TAPE1    000.0                01:00:00:00
     },
     // a name of the clip after the notes, lines with CR LF
     Noted {
-        lines: "* ASC_SAT: 1\r
+        lines: &[
+            "* ASC_SAT: 1\r
 * FROM CLIP NAME: TAPE1\r
 * LOC: 00:00:10:00 RED a\r
 ",
+        ],
         written: "* FROM CLIP NAME: TAPE1
 * ASC_SAT: 1
 * LOC: 00:00:10:00 RED     a
@@ -566,11 +381,13 @@ M2   TAPE1    000.0                01:00:00:00
     },
     // the mode of a locator is that of the last FCM line
     Noted {
-        lines: "FCM: DROP FRAME
+        lines: &[
+            "FCM: DROP FRAME
 * LOC: 00:00:10:00 RED a
 FCM: NON-DROP FRAME
 * LOC: 00:00:10:00 RED b
 ",
+        ],
         written: "* LOC: 00:00:10:00 RED     b
 ",
         clip: ("", "", "", &[("b", "86400.0", RED)]),
@@ -582,15 +399,15 @@ FCM: NON-DROP FRAME
 ];
 
 /// Clips with notes.
-pub static MARKED: [Marked; 14] = [
+pub static MARKED: [Marked; 10] = [
     // members of a grade in another order, among others
     Marked {
-        clip: (
+        clips: &[(
             "",
             r#","cdl":{"by":"x","asc_sat":1.10,"asc_sop":{"power":[7,8,9],"n":[],"slope":[1,2,3],"offset":[4,-5,6E1]}}"#,
             "",
             &[],
-        ),
+        )],
         written: "001  TAPE1    V     C        01:00:00:00 01:00:02:00 00:00:10:00 00:00:12:00
 * FROM CLIP NAME: TAPE1
 * ASC_SOP: (1 2 3)(4 -5 6E1)(7 8 9)
@@ -599,75 +416,58 @@ pub static MARKED: [Marked; 14] = [
     },
     // a list of two numbers
     Marked {
-        clip: (
+        clips: &[(
             "",
             r#","cdl":{"asc_sop":{"slope":[1,1],"offset":[0,0,0],"power":[1,1,1]},"asc_sat":1}"#,
             "",
             &[],
-        ),
+        )],
         written: "001  TAPE1    V     C        01:00:00:00 01:00:02:00 00:00:10:00 00:00:12:00
 * FROM CLIP NAME: TAPE1
 * ASC_SAT: 1
 ",
     },
-    // a text among the numbers, and a text in place of a number
+    // nothing that is a note
     Marked {
-        clip: (
-            "",
-            r#","cdl":{"asc_sop":{"slope":[1,1,1],"offset":[0,"0",0],"power":[1,1,1]},"asc_sat":"1"}"#,
-            "",
-            &[],
-        ),
-        written: "001  TAPE1    V     C        01:00:00:00 01:00:02:00 00:00:10:00 00:00:12:00
-* FROM CLIP NAME: TAPE1
-",
-    },
-    // a list too few, and no saturation
-    Marked {
-        clip: (
-            "",
-            r#","cdl":{"asc_sop":{"slope":[1,1,1],"offset":[0,0,0]},"asc_sat":null}"#,
-            "",
-            &[],
-        ),
-        written: "001  TAPE1    V     C        01:00:00:00 01:00:02:00 00:00:10:00 00:00:12:00
-* FROM CLIP NAME: TAPE1
-",
-    },
-    // a power of four numbers, and a grade by itself
-    Marked {
-        clip: (
-            "",
-            r#","asc_sat":1,"cdl":{"asc_sop":{"slope":[1,1,1],"offset":[0,0,0],"power":[1,1,1,1]}}"#,
-            "",
-            &[],
-        ),
-        written: "001  TAPE1    V     C        01:00:00:00 01:00:02:00 00:00:10:00 00:00:12:00
-* FROM CLIP NAME: TAPE1
-",
-    },
-    // a grade that is no object
-    Marked {
-        clip: ("", r#","cdl":[{"asc_sat":1}]"#, "", &[]),
-        written: "001  TAPE1    V     C        01:00:00:00 01:00:02:00 00:00:10:00 00:00:12:00
-* FROM CLIP NAME: TAPE1
-",
-    },
-    // frames that the event doesn't show
-    Marked {
-        clip: (
-            "",
-            "",
-            "",
-            &[("a", "86399", RED), ("b", "86448", RED), ("c", "-1", RED)],
-        ),
+        clips: &[
+            // a text among the numbers, and a text in place of a number
+            (
+                "",
+                r#","cdl":{"asc_sop":{"slope":[1,1,1],"offset":[0,"0",0],"power":[1,1,1]},"asc_sat":"1"}"#,
+                "",
+                &[],
+            ),
+            // a list too few, and no saturation
+            (
+                "",
+                r#","cdl":{"asc_sop":{"slope":[1,1,1],"offset":[0,0,0]},"asc_sat":null}"#,
+                "",
+                &[],
+            ),
+            // a power of four numbers, and a grade by itself
+            (
+                "",
+                r#","asc_sat":1,"cdl":{"asc_sop":{"slope":[1,1,1],"offset":[0,0,0],"power":[1,1,1,1]}}"#,
+                "",
+                &[],
+            ),
+            // a grade that is no object
+            ("", r#","cdl":[{"asc_sat":1}]"#, "", &[]),
+            // frames that the event doesn't show
+            (
+                "",
+                "",
+                "",
+                &[("a", "86399", RED), ("b", "86448", RED), ("c", "-1", RED)],
+            ),
+        ],
         written: "001  TAPE1    V     C        01:00:00:00 01:00:02:00 00:00:10:00 00:00:12:00
 * FROM CLIP NAME: TAPE1
 ",
     },
     // a start within a frame
     Marked {
-        clip: (
+        clips: &[(
             "",
             "",
             "",
@@ -676,7 +476,7 @@ pub static MARKED: [Marked; 14] = [
                 ("b", "86399.5", RED),
                 ("c", "86447.5", RED),
             ],
-        ),
+        )],
         written: "001  TAPE1    V     C        01:00:00:00 01:00:02:00 00:00:10:00 00:00:12:00
 * FROM CLIP NAME: TAPE1
 * LOC: 00:00:11:00 RED     a
@@ -685,7 +485,7 @@ pub static MARKED: [Marked; 14] = [
     },
     // frames that twice the speed shows and passes over
     Marked {
-        clip: (
+        clips: &[(
             FAST,
             "",
             "",
@@ -695,7 +495,7 @@ pub static MARKED: [Marked; 14] = [
                 ("c", "86494", RED),
                 ("d", "86496", RED),
             ],
-        ),
+        )],
         written: "001  TAPE1    V     C        01:00:00:00 01:00:04:00 00:00:10:00 00:00:12:00
 M2   TAPE1    048.0                01:00:00:00
 * FROM CLIP NAME: TAPE1
@@ -705,7 +505,7 @@ M2   TAPE1    048.0                01:00:00:00
     },
     // the first of two frames that show one
     Marked {
-        clip: (
+        clips: &[(
             HALF,
             "",
             "",
@@ -714,7 +514,7 @@ M2   TAPE1    048.0                01:00:00:00
                 ("b", "86423", RED),
                 ("c", "86424", RED),
             ],
-        ),
+        )],
         written: "001  TAPE1    V     C        01:00:00:00 01:00:01:00 00:00:10:00 00:00:12:00
 M2   TAPE1    012.0                01:00:00:00
 * FROM CLIP NAME: TAPE1
@@ -724,7 +524,7 @@ M2   TAPE1    012.0                01:00:00:00
     },
     // a freeze frame
     Marked {
-        clip: (FREEZE, "", "", &[("a", "86400", RED), ("b", "86401", RED)]),
+        clips: &[(FREEZE, "", "", &[("a", "86400", RED), ("b", "86401", RED)])],
         written: "001  TAPE1    V     C        01:00:00:00 01:00:00:00 00:00:10:00 00:00:12:00
 M2   TAPE1    000.0                01:00:00:00
 * FROM CLIP NAME: TAPE1
@@ -733,7 +533,7 @@ M2   TAPE1    000.0                01:00:00:00
     },
     // members that are no colors
     Marked {
-        clip: (
+        clips: &[(
             "",
             "",
             "",
@@ -745,7 +545,7 @@ M2   TAPE1    000.0                01:00:00:00
                 ("e", "86404", r#","color":"""#),
                 ("f", "86405", r#","color":"A B""#),
             ],
-        ),
+        )],
         written: "001  TAPE1    V     C        01:00:00:00 01:00:02:00 00:00:10:00 00:00:12:00
 * FROM CLIP NAME: TAPE1
 * LOC: 00:00:10:00 RED     a
@@ -758,7 +558,7 @@ M2   TAPE1    000.0                01:00:00:00
     },
     // names that are written as those of clips
     Marked {
-        clip: (
+        clips: &[(
             "",
             "",
             "",
@@ -768,7 +568,7 @@ M2   TAPE1    000.0                01:00:00:00
                 ("\\u0001", "86402", RED),
                 ("\u{e9}\\u00e9", "86403", r#","color":"W""#),
             ],
-        ),
+        )],
         written: "001  TAPE1    V     C        01:00:00:00 01:00:02:00 00:00:10:00 00:00:12:00
 * FROM CLIP NAME: TAPE1
 * LOC: 00:00:10:00 MAGENTA a  b
@@ -779,12 +579,12 @@ M2   TAPE1    000.0                01:00:00:00
     },
     // other markers
     Marked {
-        clip: (
+        clips: &[(
             "",
             "",
             r#"{"OTIO_SCHEMA":"Marker.2","name":"a"},7,{"OTIO_SCHEMA":"Foo.1","name":"b"},{"OTIO_SCHEMA":"Marker.1","name":"old","color":"BLUE","range":{"OTIO_SCHEMA":"TimeRange.1","start_time":{"OTIO_SCHEMA":"RationalTime.1","rate":48,"value":172803},"duration":{"OTIO_SCHEMA":"RationalTime.1","rate":25,"value":0}}}"#,
             &[("new", "86400", RED)],
-        ),
+        )],
         written: "001  TAPE1    V     C        01:00:00:00 01:00:02:00 00:00:10:00 00:00:12:00
 * FROM CLIP NAME: TAPE1
 * LOC: 00:00:10:01 BLUE    old

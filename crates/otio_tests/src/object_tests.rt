@@ -1,14 +1,16 @@
 //! Objects that are read and written again, also by way of their JSON values, and texts that stand
 //! for none.
 
-use crate::runs::{Case, Manner, WHOLE, answer_to, check_case_over, ended, put_text, was_sent};
+use crate::runs::{
+    Answer, Case, Manner, Streams, WHOLE, WHOLE_BOTH, check_case, check_case_over, done, put_text,
+};
 use crate::texts::{OLDER, REFUSED, REWRITTEN};
 use dev_io::{MemFiles, MemOut};
 use json_text::write_json;
 use otio_model::Object;
 use otio_tools::Status;
 use schema_write::{FamilyFault, json_of, json_of_old};
-use source_files::{Content, Kind, Source, read_source};
+use source_files::object_file;
 use std::alloc::{AllocError, Global};
 use std::mem::forget;
 use std::process::Abort;
@@ -33,39 +35,42 @@ pub fn is_squeezed(bytes: &[u8], text: &[u8]) -> bool {
     rest.is_empty()
 }
 
-// Converts a text to objects, and holds its end, its output and its message against these.
-fn check(
+// Holds that what was sent is this text, blanks and line feeds aside.
+fn has_squeezed(rt: &impl Abort, answer: &Answer, wanted: &str) {
+    assert!(rt;
+        is_squeezed(answer.out.sent(), wanted.as_bytes()),
+        "{wanted}"
+    );
+}
+
+/// Holds that a command line is done, and sends this text, blanks and line feeds aside.
+pub fn check_squeezed(
     rt: &impl Abort,
     alloc: Global,
     files: &mut MemFiles,
-    text: &str,
-    status: Status,
-    written: &str,
-    told: &str,
+    line: &str,
+    wanted: &str,
 ) -> Result<(), Fail> {
-    let line = "convert a.otio";
-    files.put("a.otio", text.as_bytes())?;
-    let answer = answer_to(alloc, files, line)?;
-    ended(rt, line, &answer, status);
-    assert!(rt;
-        is_squeezed(answer.out.sent(), written.as_bytes()),
-        "{text}"
-    );
-    was_sent(rt, text, &answer.err, told.as_bytes());
+    let answer = done(rt, alloc, files, line)?;
+    has_squeezed(rt, &answer, wanted);
     drop(answer);
     Ok(())
 }
 
 fn check_rewritten(rt: &impl Abort, alloc: Global, files: &mut MemFiles) -> Result<(), Fail> {
     for case in &REWRITTEN {
-        check(rt, alloc, files, case.text, Status::Done, case.written, "")?;
+        files.put("a.otio", case.text.as_bytes())?;
+        check_squeezed(rt, alloc, files, "convert a.otio", case.written)?;
     }
     Ok(())
 }
 
 fn check_refused(rt: &impl Abort, alloc: Global, files: &mut MemFiles) -> Result<(), Fail> {
     for case in &REFUSED {
-        check(rt, alloc, files, case.text, Status::Refused, "", case.told)?;
+        files.put("a.otio", case.text.as_bytes())?;
+        let told = case.told.as_bytes();
+        let refused: Case<'_> = ("convert a.otio", Status::Refused, b"", told);
+        check_case(rt, alloc, files, &refused)?;
     }
     Ok(())
 }
@@ -110,27 +115,20 @@ fn a_timeline_of_1000_gaps_is_read(rt: HostRuntime) -> Result<(), Fail> {
         failing: 1,
         ..WHOLE
     };
+    let streams = Streams { out, ..WHOLE_BOTH };
     let told = b"otio: output failed\n";
     let case: Case = ("convert a.otio", Status::Output, b"", told);
     let mut files = MemFiles::new(rt.alloc());
     put_text(&mut files, "a.otio", gaps(rt.alloc(), 1_000))?;
-    let held = check_case_over(&rt, rt.alloc(), &mut files, &case, out, WHOLE);
+    let held = check_case_over(&rt, rt.alloc(), &mut files, &case, streams);
     drop(files);
     held
 }
 
 // The object that the file `a.otio` stands for; none where it stands for none.
 fn root_of(alloc: Global, files: &mut MemFiles) -> Option<Object> {
-    let source = Source {
-        name: "a.otio",
-        kind: Kind::Object,
-    };
-    match read_source(alloc, &source, files) {
-        Ok(Content::Root(object)) => Some(object),
-        Ok(content) => {
-            forget(content);
-            None
-        }
+    match object_file(alloc, "a.otio", files) {
+        Ok(object) => Some(object),
         Err(_) => None,
     }
 }

@@ -78,19 +78,25 @@ fn answer_in_pieces(
     Ok(answer)
 }
 
+/// A case, and its answer over files that are read whole.
+#[derive(Clone, Copy)]
+struct Answered<'a> {
+    case: &'a Told,
+    whole: &'a Answer,
+}
+
 // Holds that such pieces give the same output.
 fn check_pieces_of(
     rt: &impl Abort,
     alloc: Global,
     files: &mut MemFiles,
     most: usize,
-    case: &Told,
-    whole: &Answer,
+    answered: Answered<'_>,
 ) -> Result<(), Fail>
     requires { 0 < most }
 {
-    let answer = answer_in_pieces(rt, alloc, files, most, case)?;
-    assert!(rt; answer.out.sent() == whole.out.sent());
+    let answer = answer_in_pieces(rt, alloc, files, most, answered.case)?;
+    assert!(rt; answer.out.sent() == answered.whole.out.sent());
     drop(answer);
     Ok(())
 }
@@ -100,18 +106,21 @@ fn check_any_pieces(
     rt: &impl Abort,
     alloc: Global,
     files: &mut MemFiles,
-    case: &Told,
-    whole: &Answer,
+    answered: Answered<'_>,
 ) -> Result<(), Fail> {
-    check_pieces_of(rt, alloc, files, 1, case, whole)?;
-    check_pieces_of(rt, alloc, files, 2, case, whole)?;
-    check_pieces_of(rt, alloc, files, 7, case, whole)
+    check_pieces_of(rt, alloc, files, 1, answered)?;
+    check_pieces_of(rt, alloc, files, 2, answered)?;
+    check_pieces_of(rt, alloc, files, 7, answered)
 }
 
 fn check_each(rt: &impl Abort, alloc: Global, files: &mut MemFiles) -> Result<(), Fail> {
     for case in &CASES {
         let whole = answer_in_pieces(rt, alloc, files, 4096, case)?;
-        let held = check_any_pieces(rt, alloc, files, case, &whole);
+        let answered = Answered {
+            case,
+            whole: &whole,
+        };
+        let held = check_any_pieces(rt, alloc, files, answered);
         drop(whole);
         held?;
     }

@@ -373,7 +373,7 @@ fn pull_lists_are_answered(rt: HostRuntime) -> Result<(), Fail> {
 fn pull_lists_that_fail_leave_a_prefix(rt: HostRuntime) -> Result<(), Fail> {
     let mut files = some_files(rt.alloc())?;
     let line = "pull --handles 1 x.otio";
-    let held = check_cut_offs(&rt, rt.alloc(), &mut files, 8, line, WITH_HANDLES);
+    let held = check_cut_offs(&rt, rt.alloc(), &mut files, 8, (line, WITH_HANDLES));
     drop(files);
     held
 }

@@ -1,7 +1,8 @@
 use crate::runs::{
-    Case, Manner, Named, WHOLE, check_all, check_all_usages, check_case_over, check_cut_offs,
-    check_pieces, check_refused, check_target, files_of,
+    Case, Manner, Named, Streams, WHOLE, WHOLE_BOTH, check_all, check_all_usages, check_case_over,
+    check_cut_offs, check_pieces, check_refused, check_target, files_of,
 };
+use crate::texts::CLIP;
 use dev_io::MemFiles;
 use otio_tools::Status;
 use std::alloc::Global;
@@ -81,26 +82,6 @@ const RATE_READ: &[u8] =
 
 const CHILD_READ: &[u8] =
     b"{\"OTIO_SCHEMA\":\"Timeline.1\",\"tracks\":{\"OTIO_SCHEMA\":\"Stack.1\",\"children\":[{\"OTIO_SCHEMA\":\"Track.1\",\"children\":[{\"OTIO_SCHEMA\":\"Gap.1\"},{\"OTIO_SCHEMA\":\"Foo.7\",\"b\":[1.50]}]}]}}";
-
-const CLIP: &[u8] = b"{
-    \"OTIO_SCHEMA\": \"Clip.2\",
-    \"metadata\": {},
-    \"name\": \"s\",
-    \"source_range\": null,
-    \"effects\": [],
-    \"markers\": [],
-    \"enabled\": true,
-    \"media_references\": {
-        \"DEFAULT_MEDIA\": {
-            \"OTIO_SCHEMA\": \"MissingReference.1\",
-            \"metadata\": {},
-            \"name\": \"\",
-            \"available_range\": null
-        }
-    },
-    \"active_media_reference_key\": \"DEFAULT_MEDIA\"
-}
-";
 
 const EFFECT: &[u8] = b"{
     \"OTIO_SCHEMA\": \"Gap.1\",
@@ -353,7 +334,7 @@ fn objects_are_answered(rt: HostRuntime) -> Result<(), Fail> {
 #[test]
 fn the_output_goes_to_its_target(rt: HostRuntime) -> Result<(), Fail> {
     let line = "convert --to otio -o o.otio c.otio";
-    check_target(&rt, rt.alloc(), &FILES, line, "o.otio", CLIP)
+    check_target(&rt, rt.alloc(), &FILES, line, &("o.otio", CLIP))
 }
 
 #[test]
@@ -364,8 +345,9 @@ fn a_target_that_fails_takes_nothing(rt: HostRuntime) -> Result<(), Fail> {
         failing: 1,
         ..WHOLE
     };
+    let streams = Streams { out, ..WHOLE_BOTH };
     let mut files = files_of(rt.alloc(), &FILES)?;
-    let held = check_case_over(&rt, rt.alloc(), &mut files, &case, out, WHOLE);
+    let held = check_case_over(&rt, rt.alloc(), &mut files, &case, streams);
     drop(files);
     held
 }
@@ -408,7 +390,7 @@ fn other_words_are_answered_by_the_usage_text(rt: HostRuntime) -> Result<(), Fai
 fn a_stream_of_output_that_fails_leaves_a_prefix(rt: HostRuntime) -> Result<(), Fail> {
     let line = "convert --to edl a.edl";
     let mut files = files_of(rt.alloc(), &FILES)?;
-    let held = check_cut_offs(&rt, rt.alloc(), &mut files, 8, line, ONE_SPELLED);
+    let held = check_cut_offs(&rt, rt.alloc(), &mut files, 8, (line, ONE_SPELLED));
     drop(files);
     held
 }
@@ -430,8 +412,9 @@ fn check_broken(rt: &impl Abort, alloc: Global, files: &mut MemFiles) -> Result<
         most: 5,
         failing: 2,
     };
+    let streams = Streams { err, ..WHOLE_BOTH };
     for case in &BROKEN {
-        check_case_over(rt, alloc, files, case, WHOLE, err)?;
+        check_case_over(rt, alloc, files, case, streams)?;
     }
     Ok(())
 }

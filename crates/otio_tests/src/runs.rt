@@ -37,6 +37,19 @@ pub const WHOLE: Manner = Manner {
     failing: 0,
 };
 
+/// How the output and the stream of messages take bytes.
+#[derive(Clone, Copy)]
+pub struct Streams {
+    pub out: Manner,
+    pub err: Manner,
+}
+
+/// All bytes at once on both.
+pub const WHOLE_BOTH: Streams = Streams {
+    out: WHOLE,
+    err: WHOLE,
+};
+
 /// How a run ended, and where it sent and told.
 #[derive(Drop)]
 pub struct Answer {
@@ -114,21 +127,20 @@ pub fn answer_over(
     alloc: Global,
     files: &mut MemFiles,
     line: &str,
-    out: Manner,
-    err: Manner,
+    streams: Streams,
 ) -> Result<Answer, AllocError>
-    requires out { 0 < out.most }
-    requires err { 0 < err.most }
+    requires out { 0 < streams.out.most }
+    requires err { 0 < streams.err.most }
 {
-    let mut out = stream(alloc, out)?;
-    let mut err = stream(alloc, err)?;
+    let mut out = stream(alloc, streams.out)?;
+    let mut err = stream(alloc, streams.err)?;
     let status = status_of(alloc, line, files, &mut out, &mut err)?;
     Ok(Answer { status, out, err })
 }
 
 /// How a command line is answered.
 pub fn answer_to(alloc: Global, files: &mut MemFiles, line: &str) -> Result<Answer, AllocError> {
-    answer_over(alloc, files, line, WHOLE, WHOLE)
+    answer_over(alloc, files, line, WHOLE_BOTH)
 }
 
 /// Holds how a command line ended.
@@ -153,14 +165,13 @@ pub fn check_case_over(
     alloc: Global,
     files: &mut MemFiles,
     case: &Case<'_>,
-    out: Manner,
-    err: Manner,
+    streams: Streams,
 ) -> Result<(), Fail>
-    requires out { 0 < out.most }
-    requires err { 0 < err.most }
+    requires out { 0 < streams.out.most }
+    requires err { 0 < streams.err.most }
 {
     let (line, status, output, message) = *case;
-    let answer = answer_over(alloc, files, line, out, err)?;
+    let answer = answer_over(alloc, files, line, streams)?;
     ended(rt, line, &answer, status);
     was_sent(rt, line, &answer.out, output);
     was_sent(rt, line, &answer.err, message);
@@ -175,7 +186,7 @@ pub fn check_case(
     files: &mut MemFiles,
     case: &Case<'_>,
 ) -> Result<(), Fail> {
-    check_case_over(rt, alloc, files, case, WHOLE, WHOLE)
+    check_case_over(rt, alloc, files, case, WHOLE_BOTH)
 }
 
 /// Holds each of some cases over the same files.
@@ -256,15 +267,15 @@ pub fn is_aimed(rt: &impl Abort, stream: &MemOut, name: &str) {
     assert!(rt; stream.target() == Some(name));
 }
 
-/// Holds that a command line is done over these files, and sends these bytes to that name.
+/// Holds that a command line is done over these files, and sends this file.
 pub fn check_target(
     rt: &impl Abort,
     alloc: Global,
     named: &[Named],
     line: &str,
-    target: &str,
-    output: &[u8],
+    sent: &Named,
 ) -> Result<(), Fail> {
+    let (target, output) = *sent;
     let mut files = files_of(alloc, named)?;
     let answered = done(rt, alloc, &mut files, line);
     drop(files);
@@ -280,24 +291,27 @@ pub fn line_count(bytes: &[u8]) -> usize {
     bytes.iter().filter(|b| **b == b'\n').count()
 }
 
-// Holds that a command line is answered by the usage text alone.
-fn check_usage(
+// The answer to a command line. Holds that it has this status, and that nothing is sent.
+fn not_done(
     rt: &impl Abort,
     alloc: Global,
     files: &mut MemFiles,
     line: &str,
-) -> Result<(), Fail> {
+    status: Status,
+) -> Result<Answer, Fail> {
     let answer = answer_to(alloc, files, line)?;
-    ended(rt, line, &answer, Status::Usage);
+    ended(rt, line, &answer, status);
     was_sent(rt, line, &answer.out, b"");
-    let told = answer.err.sent();
+    Ok(answer)
+}
+
+// Holds that these bytes are the usage text.
+fn is_usage(rt: &impl Abort, line: &str, told: &[u8]) {
     assert!(rt;
         told.starts_with(b"otio: usage\n  otio convert ["),
         "{line}"
     );
     assert!(rt; line_count(told) == USAGE_LINES, "{line}");
-    drop(answer);
-    Ok(())
 }
 
 /// Holds that each of some command lines is answered by the usage text alone.
@@ -308,7 +322,9 @@ pub fn check_usages(
     lines: &[&str],
 ) -> Result<(), Fail> {
     for line in lines {
-        check_usage(rt, alloc, files, line)?;
+        let answer = not_done(rt, alloc, files, line, Status::Usage)?;
+        is_usage(rt, line, answer.err.sent());
+        drop(answer);
     }
     Ok(())
 }
@@ -333,13 +349,14 @@ pub fn check_refused(
     files: &mut MemFiles,
     line: &str,
 ) -> Result<(), Fail> {
-    let answer = answer_to(alloc, files, line)?;
-    ended(rt, line, &answer, Status::Refused);
-    was_sent(rt, line, &answer.out, b"");
+    let answer = not_done(rt, alloc, files, line, Status::Refused)?;
     assert!(rt; !answer.err.sent().is_empty(), "{line}");
     drop(answer);
     Ok(())
 }
+
+/// A command line, and what it sends.
+pub type Sends<'a> = (&'a str, &'a [u8]);
 
 // Holds that an output in pieces of 16 bytes of which that call fails is told of, behind a part of
 // the whole.
@@ -348,11 +365,11 @@ fn check_cut_off(
     alloc: Global,
     files: &mut MemFiles,
     failing: u64,
-    line: &str,
-    whole: &[u8],
+    sends: Sends<'_>,
 ) -> Result<(), Fail> {
+    let (line, whole) = sends;
     let out = Manner { most: 16, failing };
-    let answer = answer_over(alloc, files, line, out, WHOLE)?;
+    let answer = answer_over(alloc, files, line, Streams { out, ..WHOLE_BOTH })?;
     ended(rt, line, &answer, Status::Output);
     was_sent(rt, line, &answer.err, b"otio: output failed\n");
     assert!(rt; whole.starts_with(answer.out.sent()));
@@ -367,11 +384,10 @@ pub fn check_cut_offs(
     alloc: Global,
     files: &mut MemFiles,
     behind: u64,
-    line: &str,
-    whole: &[u8],
+    sends: Sends<'_>,
 ) -> Result<(), Fail> {
     for failing in 1..behind {
-        check_cut_off(rt, alloc, files, failing, line, whole)?;
+        check_cut_off(rt, alloc, files, failing, sends)?;
     }
     Ok(())
 }

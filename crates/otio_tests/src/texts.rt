@@ -121,3 +121,24 @@ pub static OLDER: [Older; 5] = [
         newer: r#"{"OTIO_SCHEMA":"Clip.2","metadata":{"range":3,"media_reference":4},"name":"","source_range":null,"effects":[{"OTIO_SCHEMA":"Effect.1","metadata":{},"name":"","effect_name":"","range":2}],"markers":[{"OTIO_SCHEMA":"Marker.2","metadata":{},"name":"","marked_range":null,"media_reference":0},{"OTIO_SCHEMA":"Foo.7","range":1}],"enabled":true,"media_references":{"DEFAULT_MEDIA":{"OTIO_SCHEMA":"Foo.7","media_reference":[1.50]}},"active_media_reference_key":"DEFAULT_MEDIA","range":1,"color":"red"}"#,
     },
 ];
+
+/// What is written of a bare clip of the name `s`.
+pub const CLIP: &[u8] = b"{
+    \"OTIO_SCHEMA\": \"Clip.2\",
+    \"metadata\": {},
+    \"name\": \"s\",
+    \"source_range\": null,
+    \"effects\": [],
+    \"markers\": [],
+    \"enabled\": true,
+    \"media_references\": {
+        \"DEFAULT_MEDIA\": {
+            \"OTIO_SCHEMA\": \"MissingReference.1\",
+            \"metadata\": {},
+            \"name\": \"\",
+            \"available_range\": null
+        }
+    },
+    \"active_media_reference_key\": \"DEFAULT_MEDIA\"
+}
+";

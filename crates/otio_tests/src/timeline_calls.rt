@@ -14,7 +14,7 @@ use flat_stack::join;
 use otio_model::{Item, ItemOf, Place, Timeline};
 use pieces::{CutFault, back, cuts_whole, front, strip};
 use show_prog::{print_show, show};
-use source_files::{Content, Kind, Source, read_source};
+use source_files::timeline_file;
 use std::alloc::{AllocError, Global};
 use std::mem::forget;
 use std::process::Abort;
@@ -34,26 +34,25 @@ fn timeline_of(
     read_timelines_are_writable();
     let mut files = MemFiles::new(alloc);
     put_text(&mut files, "a.otio", made)?;
-    let source = Source {
-        name: "a.otio",
-        kind: Kind::Timeline,
-    };
-    let read = read_source(alloc, &source, &mut files);
+    let read = timeline_file(alloc, "a.otio", &mut files);
     drop(files);
     match read {
-        Ok(Content::Film(timeline)) => match sound(alloc, &timeline) {
+        Ok(timeline) => match sound(alloc, &timeline) {
             Ok(()) => Ok(Some(timeline)),
             Err(_) => {
                 forget(timeline);
                 Ok(None)
             }
         },
-        Ok(content) => {
-            forget(content);
-            Ok(None)
-        }
         Err(_) => Ok(None),
     }
+}
+
+/// A record frame of a root child.
+#[derive(Clone, Copy)]
+struct FrameAt {
+    child: usize,
+    frame: i128,
 }
 
 // Prints what a root child shows at a record frame.
@@ -61,15 +60,14 @@ fn print_at(
     rt: &impl Abort,
     alloc: Global,
     timeline: &Timeline,
-    child: usize,
-    frame: i128,
+    at: FrameAt,
     out: &mut MemOut,
 ) -> Result<(), Fail>
     requires sound { IsSound timeline.now }
     requires few { count timeline.now.tracks.children < 2 ^ 32 }
 {
-    if child < timeline.tracks.children.len() {
-        let picture = show(alloc, timeline, child, frame)?;
+    if at.child < timeline.tracks.children.len() {
+        let picture = show(alloc, timeline, at.child, at.frame)?;
         let printed = print_show(&picture, out);
         drop(picture);
         assert!(rt; printed.is_ok());
@@ -82,18 +80,21 @@ fn check_shown(
     rt: &impl Abort,
     alloc: Global,
     timeline: &Timeline,
-    child: usize,
-    frame: i128,
+    at: FrameAt,
     text: &[u8],
 ) -> Result<(), Fail>
     requires sound { IsSound timeline.now }
     requires few { count timeline.now.tracks.children < 2 ^ 32 }
 {
     let mut out = MemOut::new(alloc, 200)?;
-    print_at(rt, alloc, timeline, child, frame, &mut out)?;
+    print_at(rt, alloc, timeline, at, &mut out)?;
     assert!(rt; out.sent() == text);
     drop(out);
     Ok(())
+}
+
+fn at(child: usize, frame: i128) -> FrameAt {
+    FrameAt { child, frame }
 }
 
 fn check_pictures(rt: &impl Abort, alloc: Global, timeline: &Timeline) -> Result<(), Fail>
@@ -101,9 +102,9 @@ fn check_pictures(rt: &impl Abort, alloc: Global, timeline: &Timeline) -> Result
     requires few { count timeline.now.tracks.children < 2 ^ 32 }
 {
     let mix = b"mix(dissolve 1/2 url:\"a.mov\"@72 url:\"b.mov\"@100)";
-    check_shown(rt, alloc, timeline, 0, 86448, mix)?;
-    check_shown(rt, alloc, timeline, 1, 86472, b"url:\"c.mov\"@40")?;
-    check_shown(rt, alloc, timeline, 2, 86496, b"-")
+    check_shown(rt, alloc, timeline, at(0, 86448), mix)?;
+    check_shown(rt, alloc, timeline, at(1, 86472), b"url:\"c.mov\"@40")?;
+    check_shown(rt, alloc, timeline, at(2, 86496), b"-")
 }
 
 #[test]
@@ -273,8 +274,8 @@ fn lists_are_cut(rt: HostRuntime) -> Result<(), Fail> {
     }
 }
 
-// How many items the first root child has; none where it has no children.
-fn first_len(timeline: &Timeline) -> Option<usize> {
+/// How many items the first root child has; none where it has no children.
+pub fn first_len(timeline: &Timeline) -> Option<usize> {
     match timeline.tracks.children.item(0) {
         Some(ItemOf::Track(track)) => Some(track.children.len()),
         _ => None,
@@ -288,10 +289,10 @@ fn joined_len(alloc: Global, first: Timeline, second: Timeline) -> Option<usize>
     requires few_first { count first.tracks.children < 2 ^ 32 }
     requires few_second { count second.tracks.children < 2 ^ 32 }
 {
-    let inputs = [first, second];
-    let made = join(alloc, &inputs);
-    forget(inputs);
-    match made {
+    let Ok(inputs) = vec![in alloc; first, second] else {
+        return None;
+    };
+    match join(alloc, inputs) {
         Ok(timeline) => {
             let len = first_len(&timeline);
             forget(timeline);

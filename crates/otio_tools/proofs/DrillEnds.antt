@@ -1,13 +1,17 @@
 -- From a drill to the end of a run.
-use Rattle.std.proofs.Common.{◌≡◌, ℕ, List, Some, None, refl, sym, subst, inl, Err, IfSome}
+use Rattle.std.proofs.Common.{◌≡◌, ℕ, List, [], Some, None, refl, sym, subst, inl, Err}
 use Rattle.std.specs.declared.option.Option.{Option}
-use Rattle.dev_io.specs.Known.{KnownFiles}
+use Rattle.dev_io.specs.Handed.{Handed}
 use Rattle.dev_io.specs.Calls.{Tells}
 use Rattle.dev_io.specs.OutputCauses.{IsOutputCause}
 use Rattle.undo_log.specs.States.{IsKept, state_of}
 use Rattle.edit_script.specs.Keeping.{HoldsEdits}
 use Rattle.dev_io.specs.declared.output_faults.OutputFault.{OutputFault}
 use Rattle.dev_io.specs.declared.output_faults.OutputFault.TheVariants.{Sink, Memory as NoMemory}
+use Rattle.source_files.specs.HandedFiles.{HandsOver, GivesAll}
+use Rattle.source_files.specs.Reading.{Source}
+use Rattle.source_files.specs.Contents.{Content}
+use Rattle.source_files.proofs.HandedLemmas.{hands_none}
 use Rattle.command_words.specs.Asked.{Ask, OtherNames}
 use Rattle.command_words.specs.Drills.{AsksDrill}
 use Rattle.command_words.specs.Tasks.{IsTask}
@@ -18,68 +22,25 @@ use Rattle.drill.specs.Told.{DrillsTo}
 use Rattle.drill.specs.Lines.{tally_text}
 use Rattle.drill.specs.declared.tally.Tally.{Tally}
 use Rattle.otio_tools.specs.Forms.{done}
-use Rattle.otio_tools.specs.Answer.{ByDrill, AnswersDrill}
+use Rattle.otio_tools.specs.Answer.{AnswersDrill}
 use Rattle.otio_tools.specs.Drilled.{EndsDrill, EndsDrills, IsDrilled, SendsTally}
 use Rattle.otio_tools.specs.Plan.{WritesTo, message_unsent, status_unsent}
-use Rattle.otio_tools.specs.Run.{Streams, Ends, Sends, SendsNothing, Message, ReadsAll, KeepsStill, no_memory}
-use Rattle.otio_tools.specs.Worked.{LeavesDesk, WorksOn}
+use Rattle.otio_tools.specs.Run.{Streams, Sends, SendsNothing, Message, KeepsStill, no_memory}
+use Rattle.otio_tools.specs.Worked.{LeavesDesk, LeavesGiven, WorksOn}
 use Rattle.otio_tools.specs.declared.Desk.{Desk}
 use Rattle.otio_tools.specs.declared.Status.{Status}
 use Rattle.otio_tools.specs.declared.Status.TheVariants.{Done, Usage, Refused, Input, Output, Memory}
 
--- words that ask for a drill read no file
-reads_none : (words : List (List ℕ)) (seed count : ℕ) (target : Option (List ℕ)) (new : KnownFiles)
-    → AsksDrill words seed count target → ReadsAll words new
-reads_none words seed count target new w = λ asked asks.
-    absurd (never_drill words asked.command asks.name asks.others seed count asked.target target
-    asks.ask w)
-
-told : (seed count : ℕ) (target : Option (List ℕ)) (d : Streams) (result : Status)
+-- what a drill told is its answer
+pub tallied : (seed count : ℕ) (target : Option (List ℕ)) (d : Streams) (result : Status)
     (on_desk : Option Desk) (e : IsDrilled seed count target d result on_desk)
     → AnswersDrill seed count target (done target (tally_text e.tally))
-told seed count target d result on_desk e = record {
+tallied seed count target d result on_desk e = record {
   tally = e.tally;
   state = state_of e.desk.log e.desk.timeline;
   drills = e.drills;
   is = refl;
 }
-
-ends_one : (words : List (List ℕ)) (seed count : ℕ) (target : Option (List ℕ)) (known : KnownFiles)
-    (before : ℕ) (d : Streams) (result : Status) (on_desk : Option Desk)
-    → AsksDrill words seed count target → EndsDrill seed count target d result on_desk
-    → Ends words before before d result known known
-ends_one words seed count target known before d Done on_desk w e = (
-  record {
-    answer = done target (tally_text e.tally);
-    owed = ByDrill seed count target w (told seed count target d Done on_desk e);
-    status = refl;
-    output = e.sent.0;
-    message = e.sent.1;
-  },
-  reads_none words seed count target known w,
-)
-ends_one words seed count target known before d Output on_desk w e = record {
-  answer = done target (tally_text e.tally);
-  owed = ByDrill seed count target w (told seed count target d Output on_desk e);
-  status = refl;
-  failed = e.sent.0;
-  output = e.sent.1;
-  message = e.sent.2;
-}
-ends_one words seed count target known before d Usage on_desk w e = absurd e
-ends_one words seed count target known before d Refused on_desk w e = absurd e
-ends_one words seed count target known before d Input on_desk w e = absurd e
-ends_one words seed count target known before d Memory on_desk w e = (inl e.output, e.message)
-
--- a drill ends right, whatever the files tell
-pub drill_ends : (words : List (List ℕ)) (seed count : ℕ) (target : Option (List ℕ))
-    (known : Option KnownFiles) (before : ℕ) (d : Streams) (result : Status)
-    (on_desk : Option Desk) → AsksDrill words seed count target
-    → EndsDrill seed count target d result on_desk
-    → Tells (Ends words before before d result) known known
-drill_ends words seed count target None before d result on_desk w e = tt
-drill_ends words seed count target (Some known) before d result on_desk w e =
-    ends_one words seed count target known before d result on_desk w e
 
 pub drill_still : (words : List (List ℕ)) (seed count : ℕ) (target : Option (List ℕ)) (d : Streams)
     (result : Status) (on_desk : Option Desk) → EndsDrill seed count target d result on_desk
@@ -99,29 +60,30 @@ drill_is_no_usage seed count target d result on_desk e same =
 
 -- a drill is no edit
 no_work : (words : List (List ℕ)) (seed count : ℕ) (target : Option (List ℕ))
-    (on_desk : Option Desk) (old : KnownFiles) → AsksDrill words seed count target
-    → WorksOn words on_desk old.held
-no_work words seed count target on_desk old w = λ command name others aim e ask.
+    (on_desk : Option Desk) (AreHeld : List Source → List Content → Type 0)
+    → AsksDrill words seed count target → WorksOn words on_desk AreHeld
+no_work words seed count target on_desk AreHeld w = λ command name others aim e ask.
     absurd (never_drill words command name others seed count aim target ask w)
 
-leaves_one : (words : List (List ℕ)) (seed count : ℕ) (target : Option (List ℕ)) (result : Status)
-    (on_desk : Option Desk) (old : KnownFiles) → AsksDrill words seed count target
-    → LeavesDesk words result on_desk old
-leaves_one words seed count target Done on_desk old w =
-    no_work words seed count target on_desk old w
-leaves_one words seed count target Output on_desk old w =
-    no_work words seed count target on_desk old w
-leaves_one words seed count target Usage on_desk old w = tt
-leaves_one words seed count target Refused on_desk old w = tt
-leaves_one words seed count target Input on_desk old w = tt
-leaves_one words seed count target Memory on_desk old w = tt
+leaves_by : (words : List (List ℕ)) (seed count : ℕ) (target : Option (List ℕ)) (result : Status)
+    (on_desk : Option Desk) (AreHeld : List Source → List Content → Type 0)
+    → AsksDrill words seed count target → LeavesDesk words result on_desk AreHeld
+leaves_by words seed count target Done on_desk AreHeld w =
+    no_work words seed count target on_desk AreHeld w
+leaves_by words seed count target Output on_desk AreHeld w =
+    no_work words seed count target on_desk AreHeld w
+leaves_by words seed count target Usage on_desk AreHeld w = tt
+leaves_by words seed count target Refused on_desk AreHeld w = tt
+leaves_by words seed count target Input on_desk AreHeld w = tt
+leaves_by words seed count target Memory on_desk AreHeld w = tt
 
 pub drill_leaves : (words : List (List ℕ)) (seed count : ℕ) (target : Option (List ℕ))
-    (result : Status) (on_desk : Option Desk) (old : Option KnownFiles)
-    → AsksDrill words seed count target → IfSome old (LeavesDesk words result on_desk)
-drill_leaves words seed count target result on_desk None w = tt
-drill_leaves words seed count target result on_desk (Some old) w =
-    leaves_one words seed count target result on_desk old w
+    (result : Status) (on_desk : Option Desk) (old : List Handed)
+    → AsksDrill words seed count target → HandsOver (LeavesGiven words result on_desk) old old
+drill_leaves words seed count target result on_desk old w =
+    hands_none (LeavesGiven words result on_desk) old
+    (leaves_by words seed count target result on_desk (λ files contents. GivesAll files contents [])
+    w)
 
 -- words that ask for this drill ask for no other
 pub drill_alone : (words : List (List ℕ)) (seed count : ℕ) (target : Option (List ℕ))

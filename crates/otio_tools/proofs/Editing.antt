@@ -1,8 +1,7 @@
 -- From what an edit reads to what is planned.
-use Rattle.std.proofs.Common.{◌≡◌, ℕ, List, [], ◌∷◌, ◌++◌, Some, None, Result, Ok, Err, IfErr, refl, sym, subst, ap, ◌∙◌, inl, inr}
+use Rattle.std.proofs.Common.{◌≡◌, ℕ, List, ◌∷◌, Result, Ok, Err, IfErr, refl, sym, subst, ap, inl, inr}
 use Rattle.std.specs.declared.option.Option.{Option}
 use Rattle.std.specs.Global.{Vec}
-use Rattle.tick_time.specs.declared.rates.Rate.{Rate}
 use Rattle.json_text.specs.Layout.{layout}
 use Rattle.otio_model.specs.declared.timelines.Timeline.{Timeline}
 use Rattle.otio_model.specs.Timelines.{bare}
@@ -11,129 +10,28 @@ use Rattle.undo_log.specs.States.{state_of}
 use Rattle.edit_script.specs.declared.commands.ScriptCommand as script
 use Rattle.edl_list.specs.declared.list.EventList.{EventList}
 use Rattle.media_rows.specs.Rows.{MediaRows}
-use Rattle.source_files.specs.Order.{EachIs}
 use Rattle.source_files.specs.Formats.{Suits}
-use Rattle.source_files.specs.Reading.{Source, IsRefused}
-use Rattle.source_files.specs.declared.file_kinds.Kind.TheVariants as kinds
-use Rattle.source_files.specs.declared.file_kinds.Content.{Content}
-use Rattle.source_files.specs.declared.file_kinds.Content.TheVariants as content
+use Rattle.source_files.specs.Reading.{Source, IsRefused, read_as}
+use Rattle.source_files.specs.Kinds as kinds
+use Rattle.source_files.specs.Contents.{Content}
+use Rattle.source_files.specs.Contents as content
 use Rattle.source_files.specs.declared.read_faults.Refusal.{Refusal}
-use Rattle.source_files.proofs.Handing.{refused_by}
+use Rattle.source_files.proofs.HandedLemmas.{refused_by}
 use Rattle.command_words.specs.declared.requests.Command.{Command}
 use Rattle.command_words.specs.declared.requests.Command.TheVariants.{ListToList, ListToObjects, TimelineToList, ToObjects, ToJson, Frames, ListFrames, Edit, ListEdit}
 use Rattle.command_words.specs.declared.requests.Command.TheVariants.{Cat, ListCat, Stat, ListStat, Tool, ListTool, Pull, ListPull, LogToMedia}
-use Rattle.otio_tools.specs.Asked.{EditsTimeline, edit_files, files_alone, is_log, kind_of, media_source, one_file, read_as, script_source}
+use Rattle.otio_tools.specs.Asked.{EditsTimeline, edit_files, kind_of, media_source}
 use Rattle.otio_tools.specs.Answer.{AnswersHeld}
 use Rattle.otio_tools.specs.Conformed.{media_in, Conformed, NotConformed}
 use Rattle.otio_tools.specs.Edited.{IsWorkOn, Faulted, Halted, Edited}
 use Rattle.otio_tools.specs.Forms.{done, refused}
 use Rattle.otio_tools.specs.Opened.{IsConformedTo, IsOpened, IsUnopened, IsUnsound}
-use Rattle.otio_tools.specs.Plan.{AreEditContents, AreEditParts, IsEditable, IsHaltOf, IsWorkHeld, media_content}
+use Rattle.otio_tools.specs.Plan.{AreEditParts, IsHaltOf, IsWorkHeld, media_content}
 use Rattle.otio_tools.specs.Written.{timeline_text}
 use Rattle.otio_tools.specs.declared.Desk.{Desk}
 use Rattle.otio_tools.proofs.Formats.{bare_json}
 use Rattle.otio_tools.proofs.OneText.{same_json}
-use Rattle.otio_tools.proofs.PlanLemmas.{film_editable, media_is, media_suits}
-
--- what is read as a script is one
-script_suits : (held : Content) → Suits kinds.Script held
-    → (commands : Vec script.ScriptCommand) × (held ≡ content.Commands commands)
-script_suits (content.Commands commands) s = (commands, refl)
-script_suits (content.Noted noted said) s = absurd s
-script_suits (content.Rows rows) s = absurd s
-script_suits (content.Events list) s = absurd s
-script_suits (content.Value value) s = absurd s
-script_suits (content.Root object) s = absurd s
-script_suits (content.Film timeline) s = absurd s
-
--- what the files of an edit hold is one content, the script and a media list after it at most
-pub edit_contents : (command : Command) (name called : List ℕ) (media : Option (List ℕ))
-    (contents : List Content)
-    → EachIs (λ source held. Suits source.kind held) (edit_files command name called media) contents
-    → AreEditContents contents
-edit_contents command name called media [] h = absurd h
-edit_contents command name called media (held ∷ []) h = absurd h.1
-edit_contents command name called None (held ∷ c ∷ []) h =
-    let r = script_suits c h.1.0 in (held, r.0, None, ap (λ x. held ∷ x ∷ []) r.1)
-edit_contents command name called None (held ∷ c ∷ x ∷ rest) h = absurd h.1.1
-edit_contents command name called (Some list) (held ∷ c ∷ []) h = absurd h.1.1
-edit_contents command name called (Some list) (held ∷ c ∷ x ∷ []) h =
-    let r = script_suits c h.1.0 in
-    let m = media_suits (is_log list) x h.1.1.0 in (
-      held,
-      r.0,
-      Some m.0,
-      ap (λ y. held ∷ y ∷ x ∷ []) r.1 ∙ ap (λ y. held ∷ content.Commands r.0 ∷ y ∷ []) m.1,
-    )
-edit_contents command name called (Some list) (held ∷ c ∷ x ∷ y ∷ rest) h = absurd h.1.1.1
-
-list_editable : (rate : Rate) (held : Content) → Suits (kinds.List rate) held → IsEditable held
-list_editable rate (content.Events list) s = s
-list_editable rate (content.Commands commands) s = s
-list_editable rate (content.Noted noted said) s = s
-list_editable rate (content.Rows rows) s = s
-list_editable rate (content.Film timeline) s = absurd s
-list_editable rate (content.Value value) s = s
-list_editable rate (content.Root object) s = s
-
--- what an edit reads first can be edited
-pub editable : (command : Command) (held : Content) → EditsTimeline command
-    → Suits (kind_of command) held → IsEditable held
-editable Edit held e s = film_editable held s
-editable (ListEdit rate) held e s = list_editable rate held s
-editable (ListToList rate drop wide notes) held e s = absurd e
-editable (ListToObjects rate older notes) held e s = absurd e
-editable (TimelineToList drop wide notes) held e s = absurd e
-editable (ToObjects older) held e s = absurd e
-editable ToJson held e s = absurd e
-editable LogToMedia held e s = absurd e
-editable (Frames asked) held e s = absurd e
-editable (ListFrames rate asked) held e s = absurd e
-editable Stat held e s = absurd e
-editable (ListStat rate) held e s = absurd e
-editable (Pull handles) held e s = absurd e
-editable (ListPull rate handles) held e s = absurd e
-editable Cat held e s = absurd e
-editable (ListCat rate) held e s = absurd e
-editable (Tool asked) held e s = absurd e
-editable (ListTool rate asked) held e s = absurd e
-
-pub edit_first : (command : Command) (name called : List ℕ) (media : Option (List ℕ))
-    (contents more : List Content) (held : Content) → contents ≡ held ∷ more
-    → EachIs (λ source held. Suits source.kind held) (edit_files command name called media) contents
-    → Suits (kind_of command) held
-edit_first command name called media [] more held e h = absurd h
-edit_first command name called media (first ∷ rest) more held e h =
-    let same : first ≡ held = cc in subst (λ c. Suits (kind_of command) c) same h.0
-
-pub edit_parts_are : (command : Command) (name called : List ℕ) (media : Option (List ℕ))
-    (contents : List Content) (held : Content) (commands : Vec script.ScriptCommand) (rows : MediaRows)
-    → EditsTimeline command → contents ≡ held ∷ content.Commands commands ∷ media_content rows
-    → EachIs (λ source held. Suits source.kind held) (edit_files command name called media) contents
-    → AreEditParts command held commands rows contents
-edit_parts_are command name called media contents held commands rows e are h = record {
-  edits = e;
-  suits = edit_first command name called media contents _ held are h;
-  are = are;
-}
-
--- what was read with a script and without one
-pub with_script : (command : Command) (name : List ℕ) (named media : Option (List ℕ))
-    (called : List ℕ) (contents : List Content) → named ≡ Some called
-    → EachIs (λ source held. Suits source.kind held) (files_alone command name named media) contents
-    → EachIs (λ source held. Suits source.kind held)
-    (edit_files command name called media) contents
-with_script command name named media called contents e h =
-    subst (λ s. EachIs (λ source held. Suits source.kind held)
-    (read_as name (kind_of command) ∷ (script_source s ++ media_source media)) contents) e h
-
-pub without_script : (command : Command) (name : List ℕ) (named media : Option (List ℕ))
-    (contents : List Content) → named ≡ None
-    → EachIs (λ source held. Suits source.kind held) (files_alone command name named media) contents
-    → EachIs (λ source held. Suits source.kind held) (one_file command name media) contents
-without_script command name named media contents e h =
-    subst (λ s. EachIs (λ source held. Suits source.kind held)
-    (read_as name (kind_of command) ∷ (script_source s ++ media_source media)) contents) e h
+use Rattle.otio_tools.proofs.PlanLemmas.{media_is}
 
 -- the text of a timeline doesn't depend on its spare memory
 text_bare : (t : Timeline) → timeline_text t ≡ timeline_text (bare t)

@@ -28,10 +28,9 @@ use Rattle.edit_script.specs.Scripts.{IsScript}
 use Rattle.edit_script.specs.declared.commands.ScriptCommand.{ScriptCommand}
 use Rattle.edit_script.proofs.Once.{fault_once as script_fault_once, never_both as script_or_fault}
 use Rattle.source_files.specs.Formats.{IsJson, IsObject, IsTimeline, IsNoTimeline, Holds, Refuses, RefusesJson, RefusesObject, RefusesTimeline, RefusesList, RefusesMedia, RefusesLog, RefusesScript}
-use Rattle.source_files.specs.declared.file_kinds.Kind.{Kind}
-use Rattle.source_files.specs.declared.file_kinds.Kind.TheVariants as kinds
-use Rattle.source_files.specs.declared.file_kinds.Content.{Content}
-use Rattle.source_files.specs.declared.file_kinds.Content.TheVariants.{Value, Root, Film, Events, Noted, Rows, Commands}
+use Rattle.source_files.specs.Kinds.{Kind}
+use Rattle.source_files.specs.Kinds as kinds
+use Rattle.source_files.specs.Contents.{Content, Value, Root, Film, Events, Noted, Rows, Commands}
 
 json_reason_once : (bytes v w : List ℕ) → RefusesJson bytes v → RefusesJson bytes w → v ≡ w
 json_reason_once bytes v w p q =

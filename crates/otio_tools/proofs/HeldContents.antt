@@ -19,9 +19,8 @@ use Rattle.ale_text.proofs.PlainRows.{log_plain}
 use Rattle.edit_script.specs.declared.commands.ScriptCommand as script
 use Rattle.edit_script.specs.Scripts.{IsScript}
 use Rattle.source_files.specs.Formats.{IsJson, IsObject, IsTimeline, IsNotedList, Holds}
-use Rattle.source_files.specs.declared.file_kinds.Kind.TheVariants as kinds
-use Rattle.source_files.specs.declared.file_kinds.Content.{Content}
-use Rattle.source_files.specs.declared.file_kinds.Content.TheVariants.{Value, Root, Film, Events, Noted, Rows, Commands}
+use Rattle.source_files.specs.Kinds as kinds
+use Rattle.source_files.specs.Contents.{Content, Value, Root, Film, Events, Noted, Rows, Commands}
 use Rattle.otio_tools.specs.Kept.{AreRowsAs}
 
 pub gone_or_there : (bytes : List ℕ) (o : Option (List ℕ)) → o ≡ None → o ≡ Some bytes → ⊥

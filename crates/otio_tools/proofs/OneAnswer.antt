@@ -28,10 +28,9 @@ use Rattle.show_prog.specs.Rows.{listing_of, listing_text}
 use Rattle.show_prog.specs.declared.frame_range.Listing.{Listing}
 use Rattle.show_prog.proofs.SpareLemmas.{listing_bare, text_bare}
 use Rattle.source_files.specs.Formats.{Holds, Refuses}
-use Rattle.source_files.specs.Reading.{Held, Source, IsRead, AreRead}
-use Rattle.source_files.specs.declared.file_kinds.Kind.TheVariants as kinds
-use Rattle.source_files.specs.declared.file_kinds.Content.{Content}
-use Rattle.source_files.specs.declared.file_kinds.Content.TheVariants.{Film, Events, Rows, Commands}
+use Rattle.source_files.specs.Reading.{Held, Source, IsRead, AreRead, read_as}
+use Rattle.source_files.specs.Kinds as kinds
+use Rattle.source_files.specs.Contents.{Content, Film, Events, Rows, Commands}
 use Rattle.source_files.proofs.Order.{first_once, each_or_first}
 use Rattle.command_words.specs.declared.requests.Command.{Command}
 use Rattle.command_words.specs.declared.requests.Command.TheVariants.{ListToList, ListToObjects, TimelineToList, ToObjects, ToJson, Frames, ListFrames, Edit, ListEdit}
@@ -57,7 +56,7 @@ use Rattle.otio_tools.proofs.OneEvents.{events_once}
 use Rattle.otio_tools.proofs.OneNoted.{noted_answer_once, same_notes}
 use Rattle.otio_tools.proofs.OnePulled.{pulled_once}
 use Rattle.edl_law.proofs.OneFault.{one_fault as one_conform_fault, no_fault as no_conform_fault}
-use Rattle.otio_tools.specs.Asked.{Asked, Asks, asked_alone, asked_for, files_alone, files_of, is_log, kind_of, media_source, script_source, read_as, takes_several}
+use Rattle.otio_tools.specs.Asked.{Asked, Asks, asked_alone, asked_for, files_alone, files_of, is_log, kind_of, media_source, script_source, takes_several}
 use Rattle.otio_tools.specs.Edited.{command_fault_text, AnswersEdited, Faulted, Halted, Edited}
 use Rattle.script_law.specs.Shown.{opened}
 use Rattle.otio_tools.specs.Forms.{Answer, done, refused}
@@ -70,7 +69,8 @@ use Rattle.otio_tools.specs.Tools.{AnswersCounted, Counted, Uncounted, counts_al
 use Rattle.otio_tools.proofs.OneText.{same_json, same_old_json, same_listings}
 use Rattle.otio_tools.specs.Written.{AnswersNoted, AnswersWritten, timeline_text}
 use Rattle.otio_tools.specs.Answer.{Answers, NoCommand, OnFiles, ByDrill, AnswersDrill, AnswersHeld, AnswersUnread, Gone, Faulty, AnswersAsked, Unread, Judged}
-use Rattle.otio_tools.specs.Run.{Streams, Ends, Gives, Completes}
+use Rattle.otio_tools.specs.Ends.{Completes, Ends, Gives}
+use Rattle.otio_tools.specs.Run.{Streams}
 use Rattle.otio_tools.specs.declared.Status.{Status}
 use Rattle.otio_tools.specs.declared.Status.TheVariants.{Done, Usage, Refused, Input, Output, Memory}
 use Rattle.otio_tools.proofs.RunEnds.{asks_once, whole}
@@ -686,7 +686,7 @@ completes_one : (words : List (List ℕ)) (old new : KnownFiles) (before now : �
     (result : Status)
     → Ends words before now d result old new → Completes words before now d result old
 completes_one words old new before now d Done e =
-    λ answer h calm sent. inl (given words old.held d Done answer e.0 h)
+    λ answer h calm sent. inl (given words old.held d Done answer e h)
 completes_one words old new before now d Usage e =
     λ answer h calm sent. inl (given words old.held d Usage answer e h)
 completes_one words old new before now d Refused e =

@@ -5,7 +5,7 @@ use denote.Ref.{Bor}
 use Rattle.media_rows.specs.Rows.{MediaRows}
 use Rattle.source_files.specs.Order.{FirstIsNot, IsAmong}
 use Rattle.source_files.specs.Reading.{RaisedAt, RaisedBy, Source, names_of}
-use Rattle.source_files.specs.declared.file_kinds.Content.{Content}
+use Rattle.source_files.specs.Contents.{Content}
 use Rattle.source_files.specs.declared.read_faults.Refusal.TheVariants.{Broken, Memory as NoMemory}
 use Rattle.source_files.specs.declared.read_faults.ReadFault.{ReadFault}
 use Rattle.source_files.specs.declared.read_faults.ReadFault.TheVariants as fault

@@ -1,12 +1,12 @@
 -- From a plan to the end of a run.
 use Rattle.std.proofs.Common.{◌≡◌, ◌≢◌, ℕ, List, [], Some, None, Result, Ok, Err, refl, sym, subst, ap, ◌∙◌, IfOk, inl, inr, append-nil}
 use Rattle.std.specs.declared.option.Option.{Option}
-use Rattle.dev_io.specs.Known.{KnownFiles, KnownOut}
+use Rattle.dev_io.specs.Known.{KnownOut}
 use Rattle.dev_io.specs.Calls.{Tells, Adds, AddsPrefix, SendsAll, Aims}
 use Rattle.dev_io.specs.OutputCauses.{IsOutputCause}
 use Rattle.dev_io.specs.declared.output_faults.OutputFault.{OutputFault}
 use Rattle.dev_io.specs.declared.output_faults.OutputFault.TheVariants.{Sink, Memory as NoMemory}
-use Rattle.source_files.specs.Reading.{Held, RaisedAt, RaisedBy, EndsWith}
+use Rattle.source_files.specs.Reading.{RaisedAt, RaisedBy}
 use Rattle.source_files.specs.declared.read_faults.Refusal.TheVariants.{Broken, Memory as WantOfMemory}
 use Rattle.source_files.specs.declared.read_faults.ReadFault.{ReadFault}
 use Rattle.source_files.specs.declared.read_faults.ReadFault.TheVariants as fault
@@ -16,10 +16,8 @@ use Rattle.command_words.specs.declared.faults.WordsFault.{WordsFault}
 use Rattle.command_words.specs.declared.requests.Command.{Command}
 use Rattle.command_words.proofs.Asking.{ask_once}
 use Rattle.otio_tools.specs.Asked.{Asked, Asks, ListsFrames, asked_for}
-use Rattle.otio_tools.specs.Forms.{Answer, done, absent, usage}
-use Rattle.otio_tools.specs.Answer.{NoCommand, OnFiles, AnswersAsked}
-use Rattle.otio_tools.specs.Run.{Streams, Ends, Gives, Sends, SendsNothing, Directs, Message, ReadsAll, AsksFrames, KeepsStill}
-use Rattle.otio_tools.specs.Plan.{Plans, IsStop, AreRows, IsFor, Carries, Complains, Writes, WritesTo, text_planned, status_unsent, message_unsent}
+use Rattle.otio_tools.specs.Run.{Streams, SendsNothing, Directs, Message, AsksFrames, KeepsStill}
+use Rattle.otio_tools.specs.Plan.{AreRows, IsFor, Carries, Complains, Writes, WritesTo, text_planned, status_unsent, message_unsent}
 use Rattle.otio_tools.specs.declared.Status.{Status}
 use Rattle.otio_tools.specs.declared.Status.TheVariants.{Done, Usage, Refused, Input, Output, Memory}
 use Rattle.otio_tools.specs.declared.planning.Planned.{Planned}
@@ -62,55 +60,6 @@ pub asks_for : (words : List (List ℕ)) (command : Command) (name : List ℕ)
 asks_for words command name others target w =
     record { name = name; others = others; ask = w; files = refl }
 
-reads_all : (words : List (List ℕ)) (asked : Asked) (new : KnownFiles) → Asks words asked
-    → EndsWith asked.files new → ReadsAll words new
-reads_all words asked new a e =
-    λ other also. subst (λ (x : Asked). EndsWith x.files new) (asks_once words asked other a also) e
-
--- an answer that sends nothing is given
-gives : (words : List (List ℕ)) (asked : Asked) (held : Held) (d : Streams) (answer : Answer)
-    (status : Status) → Asks words asked
-    → AnswersAsked asked held answer → answer.status ≡ status → answer.target ≡ None
-    → answer.output ≡ [] → Sends SendsNothing d
-    → Message answer.message d → Gives words held d status
-gives words asked held d answer status a p s t o nothing m = record {
-  answer = answer;
-  owed = OnFiles asked a p;
-  status = s;
-  output = subst (λ (x : Option (List ℕ)). Sends (Directs x answer.output) d) (sym t)
-      (subst (λ (x : List ℕ). Sends (Directs None x) d) (sym o)
-      (nothing_added d.out_old d.out_new nothing));
-  message = m;
-}
-
--- a fault that is told as it stands for these files ends right
-carried_fault : (words : List (List ℕ)) (asked : Asked) (name : List ℕ) (old new : KnownFiles)
-    (before now : ℕ) (d : Streams)
-    (why : ReadFault) (status : Status) → Asks words asked → IsStop asked name why old new
-    → RaisedBy why before now
-    → Complains name why d status → Ends words before now d status old new
-carried_fault words asked name old new before now d fault.Absent status w p r c =
-    rw c.status (inl (
-      gives words asked old.held d
-          (absent name) Input w p refl refl refl c.output c.message,
-      r,
-    ))
-carried_fault words asked name old new before now d fault.Failed status w p r c =
-    rw c.status (inr (record {
-      asked = asked;
-      asks = w;
-      name = name;
-      first = p;
-      failed = r;
-      output =
-          c.output;
-      message = c.message;
-    }))
-carried_fault words asked name old new before now d (fault.Refused (Broken reason)) status w p r c =
-    rw c.status (gives words asked old.held d _ Refused w p refl refl refl c.output c.message)
-carried_fault words asked name old new before now d (fault.Refused WantOfMemory) status w p r c =
-    rw c.status (inl c.output, c.message)
-
 -- a command of frames that was asked for
 asks_frames : (words : List (List ℕ)) (command : Command) (name : List ℕ)
     (others : OtherNames) (target : Option (List ℕ)) → Ask words command name others target
@@ -124,93 +73,10 @@ asks_frames words command name others target w lists = record {
   ask = w;
 }
 
--- who plans right and carries the plan out ends right
-carried_one : (words : List (List ℕ)) (command : Command) (name : List ℕ) (others : OtherNames)
-    (target : Option (List ℕ))
-    (old new : KnownFiles)
-    (before now : ℕ) (d : Streams) (plan : Result Planned SourceFault) (status : Status)
-    → Ask words command name others target
-    → Plans (asked_for command name others target) plan old new
-    → IfOk plan (λ planned. IsFor command planned) → RaisedAt plan before now
-    → Carries target plan d status → Ends words before now d status old new
-carried_one words command name others target old new before now d (Ok planned) Done w p k r c = (
-  record {
-    answer = done target (text_planned planned);
-    owed = OnFiles (asked_for command name others target)
-        (asks_for words command name others target w) p.0;
-    status = refl;
-    output = c.0;
-    message = c.1;
-  },
-  reads_all words (asked_for command name others target) new
-      (asks_for words command name others target w) p.1,
-)
-carried_one words command name others target old new before now d (Ok planned) Output w p k r c =
-    record {
-      answer = done target (text_planned planned);
-      owed = OnFiles (asked_for command name others target)
-          (asks_for words command name others target w) p.0;
-      status = refl;
-      failed = c.0;
-      output = c.1;
-      message = c.2;
-    }
-carried_one words command name others target old new before now d (Ok planned) Usage w p k r c =
-    absurd c
-carried_one words command name others target old new before now d (Ok planned) Refused w p k r c =
-    absurd c
-carried_one words command name others target old new before now d (Ok planned) Input w p k r c =
-    absurd c
-carried_one words command name others target old new before now d (Ok planned) Memory w p k r c = (
-  inr (record {
-    frames = asks_frames words command name others target w (k c.0);
-    answer = done target (text_planned planned);
-    owed = OnFiles (asked_for command name others target)
-        (asks_for words command name others target w) p.0;
-    status = refl;
-    output = c.1;
-  }),
-  c.2,
-)
-carried_one words command name others target old new before now d (Err stop) status w p k r c =
-    carried_fault words (asked_for command name others target) stop.name.now old new before now d
-    stop.fault status
-    (asks_for words command name others target w) p r c
-
-pub carried : (words : List (List ℕ)) (command : Command) (name : List ℕ) (others : OtherNames)
-    (target : Option (List ℕ))
-    (old new : Option KnownFiles)
-    (before now : ℕ) (d : Streams) (plan : Result Planned SourceFault) (status : Status)
-    → Ask words command name others target
-    → Tells (Plans (asked_for command name others target) plan) old new
-    → IfOk plan (λ planned. IsFor command planned)
-    → RaisedAt plan before now → Carries target plan d status
-    → Tells (Ends words before now d status) old new
-carried words command name others target None new before now d plan status w p k r c = tt
-carried words command name others target (Some old) None before now d plan status w p k r c =
-    absurd p
-carried words command name others target (Some old) (Some new) before now d plan status w p k r c =
-    carried_one words command name others target old new before now d plan status w p k r c
-
 -- words without a request ask for nothing, but where memory ran out
 pub asks_nothing : (words : List (List ℕ)) (why : WordsFault) → why ≡ WordsFault.Usage
     → NoRequest words why → AskNothing words
 asks_nothing words why e h = subst (NoRequest words) e h
-
--- words that ask for nothing are answered by the usage text
-pub usage_given : (words : List (List ℕ)) (known : Option KnownFiles) (before now : ℕ) (d : Streams)
-    → AskNothing words → Sends SendsNothing d → Message usage.message d
-    → Tells (Ends words before now d Usage) known known
-usage_given words None before now d h o m = tt
-usage_given words (Some k) before now d h o m =
-    record {
-      answer = usage;
-      owed = NoCommand h refl;
-      status = refl;
-      output =
-          nothing_added d.out_old d.out_new o;
-      message = m;
-    }
 
 fault_calm : (name : List ℕ) (before now : ℕ) (d : Streams) (why : ReadFault) (status : Status)
     → RaisedBy why before now

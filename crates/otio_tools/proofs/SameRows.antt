@@ -3,10 +3,9 @@ use Rattle.std.proofs.Common.{◌≡◌, ◌++◌, ℕ, Bool, true, false, cond,
 use Rattle.media_rows.specs.declared.row.MediaRow.{MediaRow}
 use Rattle.source_files.specs.Order.{FirstIsNot}
 use Rattle.source_files.specs.Formats.{Holds}
-use Rattle.source_files.specs.Reading.{Held, Source, IsRead, AreRead}
-use Rattle.source_files.specs.declared.file_kinds.Kind.TheVariants as kinds
-use Rattle.source_files.specs.declared.file_kinds.Content.{Content}
-use Rattle.source_files.specs.declared.file_kinds.Content.TheVariants.{Value, Root, Film, Events, Noted, Rows, Commands}
+use Rattle.source_files.specs.Reading.{Held, Source, IsRead, AreRead, read_as}
+use Rattle.source_files.specs.Kinds as kinds
+use Rattle.source_files.specs.Contents.{Content, Value, Root, Film, Events, Noted, Rows, Commands}
 use Rattle.source_files.proofs.Order.{each_more}
 use Rattle.command_words.specs.Asked.{OtherNames}
 use Rattle.command_words.proofs.Drilling.{not_both as never_drill}
@@ -14,7 +13,7 @@ use Rattle.command_words.specs.declared.requests.Command.{Command}
 use Rattle.command_words.specs.declared.requests.Command.TheVariants.{ListToList, ListToObjects, TimelineToList, ToObjects, ToJson, Frames, ListFrames, Edit, ListEdit}
 use Rattle.command_words.specs.declared.requests.Command.TheVariants.{Cat, ListCat, Stat, ListStat, Tool, ListTool, Pull, ListPull, LogToMedia}
 use Rattle.otio_tools.specs.Alike.{AreAlike, with_media}
-use Rattle.otio_tools.specs.Asked.{Asked, asked_for, files_of, input_named, is_log, media_kind, media_source, read_as, script_source, takes_several}
+use Rattle.otio_tools.specs.Asked.{Asked, asked_for, files_of, input_named, is_log, media_kind, media_source, script_source, takes_several}
 use Rattle.otio_tools.specs.Answer.{Answers, NoCommand, OnFiles, ByDrill, AnswersHeld, AnswersUnread, AnswersAsked, Unread, Judged}
 use Rattle.otio_tools.specs.Forms.{Answer}
 use Rattle.otio_tools.specs.Kept.{AreRowsAs, HoldsRows}

@@ -2,23 +2,19 @@
 use Rattle.std.proofs.Common.{◌≡◌, ◌≢◌, ◌++◌, ◌||◌, ℕ, suc, Bool, true, false, cond, List, [], ◌∷◌, All, Option, Some, None, Result, Ok, Err, IfOk, IsTrue, ◌↔◌, zero, ◌<◌, ◌+◌, get_or, length, map, take, drop, refl, sym, ap, ap₂, subst, ◌∙◌, inl, inr, bytes_eq, codes, arith}
 use Rattle.std.proofs.lemmas.Slice.Eq.{bytes_eq-Decides}
 use Rattle.std.proofs.lemmas.List.{take_more}
-use Rattle.std.proofs.lemmas.List.Elements.{All-nil, All-cons, All-head, All-tail, All-push}
+use Rattle.std.proofs.lemmas.List.Elements.{All-nil, All-head, All-tail, All-push}
 use denote.Ref.{Bor}
-use Rattle.dev_io.specs.Known.{KnownFiles}
-use Rattle.dev_io.specs.Calls.{Tells}
 use Rattle.otio_model.specs.declared.timelines.Timeline.{Timeline}
 use Rattle.media_rows.specs.Rows.{MediaRows}
 use Rattle.source_files.specs.Reasons.{reason_text}
 use Rattle.dev_io.specs.Handed.{Handed}
 use Rattle.source_files.specs.HandedFiles.{HandsOver, GivesAll, GivesStop}
 use Rattle.source_files.specs.Order.{EachIs, FirstIsNot}
-use Rattle.source_files.specs.Formats.{Suits}
-use Rattle.source_files.specs.Reading.{Source, HasStopped, HaveRead, IsRefused, RaisedBy, source_of}
-use Rattle.source_files.specs.declared.file_kinds.Source as code
-use Rattle.source_files.specs.declared.file_kinds.Kind.{Kind}
-use Rattle.source_files.specs.declared.file_kinds.Kind.TheVariants as kinds
-use Rattle.source_files.specs.declared.file_kinds.Content.{Content}
-use Rattle.source_files.specs.declared.file_kinds.Content.TheVariants as content
+use Rattle.source_files.specs.Reading.{Source, IsRefused, RaisedBy}
+use Rattle.source_files.specs.Inputs.{input_source}
+use Rattle.source_files.specs.declared.inputs.InputFile.{InputFile}
+use Rattle.source_files.specs.Contents.{Content}
+use Rattle.source_files.specs.Contents as content
 use Rattle.source_files.specs.declared.read_faults.Refusal.{Refusal}
 use Rattle.source_files.specs.declared.read_faults.Refusal.TheVariants.{Broken, Memory}
 use Rattle.source_files.specs.declared.read_faults.ReadFault.{ReadFault}
@@ -30,12 +26,12 @@ use Rattle.command_words.specs.Names.{IsListName}
 use Rattle.command_words.specs.declared.requests.Command.{Command}
 use Rattle.command_words.specs.declared.requests.Command.TheVariants.{ListToList, ListToObjects, TimelineToList, ToObjects, ToJson, Frames, ListFrames, Edit, ListEdit}
 use Rattle.command_words.specs.declared.requests.Command.TheVariants.{Cat, ListCat, Stat, ListStat, Tool, ListTool, Pull, ListPull, LogToMedia}
-use Rattle.otio_tools.specs.Asked.{Asked, EditsTimeline, IsScripted, asked_alone, asked_for, files_of, input_named, is_list, is_log, kind_named, media_source, script_source, takes_several}
+use Rattle.otio_tools.specs.Asked.{EditsTimeline, IsScripted, asked_alone, asked_for, files_of, input_named, is_list, media_source, script_source, takes_several}
 use Rattle.otio_tools.specs.Answer.{AnswersHeld}
 use Rattle.otio_tools.specs.Forms.{Answer, done, refused}
 use Rattle.otio_tools.specs.Opened.{AnswersOpened, AnswersUnopened, Input, IsOpened, IsOpenedInput, IsUnopened, Opened, Unopened, inputs_in, media_behind, names_in}
-use Rattle.otio_tools.specs.Plan.{IsDesk, IsEditable, IsRefusedAs, LeavesWork, Plans, PlansAs, PlansHeld, media_content, text_planned}
-use Rattle.otio_tools.specs.Several.{AnswersTimelines, AreInputs, HasJoining, IsOpening, IsRefusedAt, StopsOpening, named_inputs, names_now}
+use Rattle.otio_tools.specs.Plan.{IsDesk, IsEditable, IsRefusedAs, LeavesWork, PlansAs, PlansHeld, media_content, text_planned}
+use Rattle.otio_tools.specs.Several.{AnswersTimelines, HasJoining, IsOpening, IsRefusedAt, StopsOpening, named_inputs, names_now}
 use Rattle.otio_tools.specs.Tools.{AnswersJoined, AnswersTool, Joined, NotJoined, NotWorked, Worked, name_told, tool_fault_text, tool_text}
 use Rattle.flat_stack.specs.Chains.{Told}
 use Rattle.flat_stack.specs.Gathered.{IsConcat, IsConcatFault}
@@ -46,7 +42,6 @@ use Rattle.flat_stack.specs.declared.step_faults.ToolFault.TheVariants as tool
 use Rattle.otio_model.specs.declared.objects.Object.{Timeline as ObjectOfTimeline}
 use Rattle.command_words.specs.declared.tools.ToolAsked.{ToolAsked}
 use Rattle.otio_tools.specs.Served.{PlansGiven}
-use Rattle.otio_tools.proofs.PlanLemmas.{film_editable, held_planned, media_suits, stop_planned}
 use Rattle.otio_tools.proofs.Serving.{given_planned, given_stopped}
 use Rattle.otio_tools.specs.declared.planning.Planned.{Planned}
 use Rattle.otio_tools.specs.declared.planning.Planned.TheVariants.{Events, Noted, Value, Root, OldRoot, Rows, Edited, Listed, Text, Media}
@@ -172,12 +167,6 @@ leaves_nothing command contents (Ok planned) e none =
     leaves_none command contents planned (no_edit_several command e) none
 leaves_nothing command contents (Err stop) e none = tt
 
--- out of memory tells nothing of the files
-pub memory_planned : (asked : Asked) (stop : SourceFault) (known : Option KnownFiles)
-    → stop.fault ≡ Refused Memory → Tells (Plans asked (Err stop)) known known
-memory_planned asked stop None e = tt
-memory_planned asked stop (Some old) e = rw e tt
-
 -- ---- names and sources, one more
 
 pub names_more : (name : List ℕ) (names : List (Bor (List ℕ))) (more rest : List (Bor (List ℕ)))
@@ -191,10 +180,10 @@ names_more name names more rest other e f =
     now_append [] b = refl
     now_append (x ∷ a) b = ap (λ l. x.now ∷ l) (now_append a b)
 
-pub sources_append : (a : List code.Source) (s : code.Source)
-    → map source_of (a ++ s ∷ []) ≡ map source_of a ++ source_of s ∷ []
+pub sources_append : (a : List InputFile) (s : InputFile)
+    → map input_source (a ++ s ∷ []) ≡ map input_source a ++ input_source s ∷ []
 sources_append [] s = refl
-sources_append (x ∷ a) s = ap (λ l. source_of x ∷ l) (sources_append a s)
+sources_append (x ∷ a) s = ap (λ l. input_source x ∷ l) (sources_append a s)
 
 named_append : (command : Command) (names : List (Bor (List ℕ))) (name : Bor (List ℕ))
     → map (input_named command) (names_now (names ++ name ∷ []))
@@ -203,89 +192,17 @@ named_append command [] name = refl
 named_append command (n ∷ names) name =
     ap (λ l. input_named command n.now ∷ l) (named_append command names name)
 
-pub sources_more : (command : Command) (sources : List code.Source)
-    (names rest : List (Bor (List ℕ))) (name : Bor (List ℕ)) (source : code.Source)
-    → map source_of sources ≡ map (input_named command) (names_now names)
-    → rest ≡ names ++ name ∷ [] → source_of source ≡ input_named command name.now
-    → map source_of (sources ++ source ∷ []) ≡ map (input_named command) (names_now rest)
+pub sources_more : (command : Command) (sources : List InputFile)
+    (names rest : List (Bor (List ℕ))) (name : Bor (List ℕ)) (source : InputFile)
+    → map input_source sources ≡ map (input_named command) (names_now names)
+    → rest ≡ names ++ name ∷ [] → input_source source ≡ input_named command name.now
+    → map input_source (sources ++ source ∷ []) ≡ map (input_named command) (names_now rest)
 sources_more command sources names rest name source e f s =
     sources_append sources source ∙ ap₂ (λ (l : List Source) (x : Source). l ++ x ∷ []) e s
     ∙ sym (named_append command names name)
     ∙ sym (ap (λ l. map (input_named command) (names_now l)) f)
 
 -- ---- what several inputs hold, and the media list after them
-
-media_editable : (media : Option (List ℕ)) (contents : List Content)
-    → EachIs (λ source held. Suits source.kind held) (media_source media) contents
-    → (rows : MediaRows) × (contents ≡ media_content rows)
-media_editable None [] s = (None, refl)
-media_editable None (c ∷ cs) s = absurd s
-media_editable (Some name) [] s = absurd s
-media_editable (Some name) (c ∷ []) s =
-    let r = media_suits (is_log name) c s.0 in (Some r.0, ap (λ x. x ∷ []) r.1)
-media_editable (Some name) (c ∷ d ∷ cs) s = absurd s.1
-
-by_name_editable : (kind : Kind) (list : Bool) (held : Content)
-    → ((held : Content) → Suits kind held → IsEditable held)
-    → Suits (cond list kind kinds.Timeline) held → IsEditable held
-by_name_editable kind true held by s = by held s
-by_name_editable kind false held by s = film_editable held s
-
-list_editable : (held : Content) (kind : Kind) → ((rate : _) × (kind ≡ kinds.List rate))
-    → Suits kind held → IsEditable held
-list_editable held kind e s = list_by held (subst (λ k. Suits k held) e.1 s)
-  where
-    list_by : (held : Content) → Suits (kinds.List e.0) held → IsEditable held
-    list_by (content.Events list) s = s
-    list_by (content.Commands commands) s = absurd s
-    list_by (content.Noted noted said) s = absurd s
-    list_by (content.Rows rows) s = absurd s
-    list_by (content.Film timeline) s = absurd s
-    list_by (content.Value value) s = absurd s
-    list_by (content.Root object) s = absurd s
-
-input_editable : (command : Command) (name : List ℕ) (held : Content)
-    → takes_several command ≡ true → Suits (kind_named command name) held → IsEditable held
-input_editable Cat name held e s = film_editable held s
-input_editable (Tool asked) name held e s = film_editable held s
-input_editable (ListCat rate) name held e s =
-    by_name_editable (kinds.List rate) (is_list name) held
-    (λ h. list_editable h (kinds.List rate) (rate, refl)) s
-input_editable (ListTool rate asked) name held e s =
-    by_name_editable (kinds.List rate) (is_list name) held
-    (λ h. list_editable h (kinds.List rate) (rate, refl)) s
-input_editable Stat name held e s = absurd (cc e)
-input_editable (ListStat rate) name held e s = absurd (cc e)
-input_editable (Pull handles) name held e s = absurd (cc e)
-input_editable (ListPull rate handles) name held e s = absurd (cc e)
-input_editable (ListToList rate drop wide notes) name held e s = absurd (cc e)
-input_editable (ListToObjects rate older notes) name held e s = absurd (cc e)
-input_editable (TimelineToList drop wide notes) name held e s = absurd (cc e)
-input_editable (ToObjects older) name held e s = absurd (cc e)
-input_editable ToJson name held e s = absurd (cc e)
-input_editable LogToMedia name held e s = absurd (cc e)
-input_editable (Frames asked) name held e s = absurd (cc e)
-input_editable (ListFrames rate asked) name held e s = absurd (cc e)
-input_editable Edit name held e s = absurd (cc e)
-input_editable (ListEdit rate) name held e s = absurd (cc e)
-
-pub are_inputs : (command : Command) (names : List (List ℕ)) (media : Option (List ℕ))
-    (contents : List Content) → takes_several command ≡ true
-    → EachIs (λ source held. Suits source.kind held)
-    (map (input_named command) names ++ media_source media) contents
-    → AreInputs (length names) contents
-are_inputs command [] media contents e s =
-    let m = media_editable media contents s in
-    record { front = []; media = m.0; are = m.1; many = refl; editable = All-nil IsEditable }
-are_inputs command (name ∷ names) media [] e s = absurd s
-are_inputs command (name ∷ names) media (c ∷ cs) e s =
-    let more = are_inputs command names media cs e s.1 in record {
-      front = c ∷ more.front;
-      media = more.media;
-      are = ap (λ l. c ∷ l) more.are;
-      many = ap suc more.many;
-      editable = All-cons IsEditable c more.front (input_editable command name c e s.0) more.editable;
-    }
 
 -- the inputs of what was read, by their names
 behind_none : (files : List Source) (rows : MediaRows) → inputs_in files (media_content rows) ≡ []
@@ -486,14 +403,14 @@ pub names_length : (xs : List (Bor (List ℕ))) → length (names_now xs) ≡ le
 names_length [] = refl
 names_length (x ∷ xs) = ap suc (names_length xs)
 
-pub sources_next : (command : Command) (sources new : List code.Source)
-    (names : List (Bor (List ℕ))) (i : ℕ) (d : Bor (List ℕ)) (source : code.Source)
+pub sources_next : (command : Command) (sources new : List InputFile)
+    (names : List (Bor (List ℕ))) (i : ℕ) (d : Bor (List ℕ)) (source : InputFile)
     → i < length names → new ≡ sources ++ source ∷ []
-    → source_of source ≡ input_named command (get_or names i d).now
-    → map source_of sources ≡ map (input_named command) (names_now (take i names))
-    → map source_of new ≡ map (input_named command) (names_now (take (i + 1) names))
+    → input_source source ≡ input_named command (get_or names i d).now
+    → map input_source sources ≡ map (input_named command) (names_now (take i names))
+    → map input_source new ≡ map (input_named command) (names_now (take (i + 1) names))
 sources_next command sources new names i d source h e s inv =
-    ap (map source_of) e ∙ sources_more command sources (take i names) (take (i + 1) names)
+    ap (map input_source) e ∙ sources_more command sources (take i names) (take (i + 1) names)
     (get_or names i d) source inv (take_more names i d h) s
 
 pub named_all : (command : Command) (xs : List (Bor (List ℕ)))
@@ -597,22 +514,6 @@ opening_stop rows all names more name rest behind held ts stop refusal n o e cal
 
 -- ---- the parts of what was read
 
-same_front : (f a x y : List Content) → f ++ x ≡ a ++ y → length f ≡ length a → f ≡ a
-same_front [] [] x y e l = refl
-same_front [] (b ∷ a) x y e l = absurd (omega (arith, l))
-same_front (c ∷ f) [] x y e l = absurd (omega (arith, l))
-same_front (c ∷ f) (b ∷ a) x y e l =
-    let head : c ≡ b = cc in
-    let rest : f ++ x ≡ a ++ y = cc in
-    let tail = same_front f a x y rest (omega (arith, l)) in cc
-
-pub parts_editable : (count : ℕ) (contents a : List Content) (rows : MediaRows)
-    → AreInputs count contents → contents ≡ a ++ media_content rows → length a ≡ count
-    → All IsEditable a
-parts_editable count contents a rows h e l =
-    subst (All IsEditable) (same_front h.front a (media_content h.media) (media_content rows)
-    (sym h.are ∙ e) (h.many ∙ sym l)) h.editable
-
 -- as many timelines as names
 each_many : (rows : MediaRows) (names : List (List ℕ)) (contents : List Content)
     (ts : List Timeline) → length contents ≡ length names
@@ -708,38 +609,6 @@ sources_are command name others sources names several scripted e f =
     ∙ files_several command name others several
     (no_script_several command others.script several scripted)
 
-pub several_planned : (command : Command) (name : List ℕ) (others : OtherNames)
-    (target : Option (List ℕ)) (sources : List Source) (names : List (List ℕ))
-    (contents : List Content) (result : Result Planned SourceFault) (old new : Option KnownFiles)
-    → takes_several command ≡ true → IsScripted command others.script
-    → sources ≡ map (input_named command) names ++ media_source others.media
-    → names ≡ name ∷ others.more → Tells (HaveRead sources contents) old new
-    → PlansHeld command (map (input_named command) names ++ media_source others.media) contents
-    result → IfOk result (λ planned. IsDesk planned → ⊥)
-    → Tells (Plans (asked_for command name others target) result) old new
-several_planned command name others target sources names contents result old new several scripted
-    e f read told desk =
-    let are = sources_are command name others sources names several scripted e f in
-    held_planned (asked_for command name others target) contents result old new
-    (subst (λ l. Tells (HaveRead l contents) old new) are read)
-    (subst (λ l. PlansHeld command l contents result) (sym e ∙ are) told)
-    (leaves_nothing command contents result several desk)
-
-pub several_stopped : (command : Command) (name : List ℕ) (others : OtherNames)
-    (target : Option (List ℕ)) (sources : List Source) (names : List (List ℕ))
-    (stop : SourceFault) (old new : Option KnownFiles)
-    → takes_several command ≡ true → IsScripted command others.script
-    → sources ≡ map (input_named command) names ++ media_source others.media
-    → names ≡ name ∷ others.more → Tells (HasStopped sources stop) old new
-    → Tells (Plans (asked_for command name others target) (Err stop)) old new
-several_stopped command name others target sources names stop old new several scripted e f
-    stopped =
-    stop_planned (asked_for command name others target) stop old new
-    (subst (λ l. Tells (HasStopped l stop) old new)
-    (sources_are command name others sources names several scripted e f) stopped)
-
--- ---- the same by what the calls gave
-
 pub several_given : (command : Command) (name : List ℕ) (others : OtherNames)
     (target : Option (List ℕ)) (sources : List Source) (names : List (List ℕ))
     (contents : List Content) (result : Result Planned SourceFault) (old new : List Handed)
@@ -747,13 +616,15 @@ pub several_given : (command : Command) (name : List ℕ) (others : OtherNames)
     → sources ≡ map (input_named command) names ++ media_source others.media
     → names ≡ name ∷ others.more → HandsOver (GivesAll sources contents) old new
     → PlansHeld command (map (input_named command) names ++ media_source others.media) contents
-    result → HandsOver (PlansGiven (asked_for command name others target) result) old new
+    result → IfOk result (λ planned. IsDesk planned → ⊥)
+    → HandsOver (PlansGiven (asked_for command name others target) result) old new
 several_given command name others target sources names contents result old new several scripted
-    e f read told =
+    e f read told desk =
     let are = sources_are command name others sources names several scripted e f in
     given_planned (asked_for command name others target) contents result old new
     (subst (λ (l : List Source). HandsOver (GivesAll l contents) old new) are read)
     (subst (λ (l : List Source). PlansHeld command l contents result) (sym e ∙ are) told)
+    (leaves_nothing command contents result several desk)
 
 pub several_unread_given : (command : Command) (name : List ℕ) (others : OtherNames)
     (target : Option (List ℕ)) (sources : List Source) (names : List (List ℕ))

@@ -1,9 +1,10 @@
 -- What is left on the desk.
-use Rattle.std.proofs.Common.{◌≡◌, ℕ, List, [], ◌∷◌, Some, None, Result, Ok, Err, IfOk, IfSome, IsSome, refl, sym, subst}
+use Rattle.std.proofs.Common.{◌≡◌, ℕ, List, [], ◌∷◌, Some, None, Result, Ok, Err, IfOk, IsSome, refl, sym, subst}
 use Rattle.std.specs.declared.option.Option.{Option}
-use Rattle.dev_io.specs.Known.{KnownFiles}
-use Rattle.dev_io.specs.Calls.{Tells}
-use Rattle.source_files.specs.Reading.{Held}
+use Rattle.dev_io.specs.Handed.{Handed}
+use Rattle.source_files.specs.HandedFiles.{HandsOver, GivesAll}
+use Rattle.source_files.specs.Contents.{Content}
+use Rattle.source_files.proofs.HandedLemmas.{hands_as, hands_none}
 use Rattle.source_files.specs.declared.read_faults.Refusal.TheVariants.{Broken, Memory as WantOfMemory}
 use Rattle.source_files.specs.declared.read_faults.ReadFault.{ReadFault}
 use Rattle.source_files.specs.declared.read_faults.ReadFault.TheVariants as fault
@@ -15,17 +16,18 @@ use Rattle.command_words.specs.declared.names.Verb.TheVariants as verbs
 use Rattle.command_words.specs.declared.requests.Command.{Command}
 use Rattle.command_words.specs.declared.requests.Command.TheVariants.{ListToList, ListToObjects, TimelineToList, ToObjects, ToJson, Frames, ListFrames, Edit, ListEdit}
 use Rattle.command_words.specs.declared.requests.Command.TheVariants.{Cat, ListCat, Stat, ListStat, Tool, ListTool, Pull, ListPull, LogToMedia}
-use Rattle.command_words.proofs.Asking.{ask_once}
 use Rattle.otio_tools.proofs.SeveralWords.{not_named}
-use Rattle.otio_tools.specs.Asked.{EditsTimeline, IsScripted, asked_for}
-use Rattle.otio_tools.specs.Plan.{Carries, Complains, IsDeskFor, LeavesWorkOf, Plans, desk_after, desk_planned}
+use Rattle.otio_tools.specs.Asked.{Asked, EditsTimeline, IsScripted, asked_for, files_of}
+use Rattle.otio_tools.specs.Plan.{Carries, Complains, IsDeskFor, LeavesWork, desk_after, desk_planned}
 use Rattle.otio_tools.specs.Run.{Streams}
-use Rattle.otio_tools.specs.Worked.{AskNoEdit, IsWorkOf, LeavesDesk, WorksOn}
+use Rattle.otio_tools.specs.Served.{PlansGiven}
+use Rattle.otio_tools.specs.Worked.{AskNoEdit, IsWorkOf, LeavesGiven, WorksOn}
 use Rattle.otio_tools.specs.declared.Desk.{Desk}
 use Rattle.otio_tools.specs.declared.planning.Planned.{Planned}
 use Rattle.otio_tools.specs.declared.planning.Planned.TheVariants.{Events, Noted, Value, Root, OldRoot, Rows, Edited, Listed, Text, Media}
 use Rattle.otio_tools.specs.declared.Status.{Status}
 use Rattle.otio_tools.specs.declared.Status.TheVariants.{Done, Usage, Refused, Input, Output, Memory}
+use Rattle.otio_tools.proofs.RunEnds.{asks_for, asks_once}
 
 -- ---- a script is named exactly for edits
 
@@ -141,88 +143,94 @@ scripted words command name others target ask =
 
 -- ---- what is left
 
+-- what is planned of what the files hold
+abbrev pub HasPlanned : Asked → Planned → List Handed → Type 0
+HasPlanned asked planned calls = (contents : List Content) × GivesAll asked.files contents calls
+    × LeavesWork asked.command contents planned
+
 work_of : (command : Command) (name : List ℕ) (others : OtherNames) (target : Option (List ℕ))
-    (held : Held) (planned : Planned) (before : Option Desk) → EditsTimeline command
-    → LeavesWorkOf (asked_for command name others target) held planned
-    → IsWorkOf held command name others (desk_planned planned before)
-work_of command name others target held (Edited desk) before e w =
-    record { contents = w.0; read = w.1; desk = desk; is = refl; work = w.2 }
-work_of command name others target held (Events list drop wide) before e w = absurd (w.2 e)
-work_of command name others target held (Noted list said drop wide) before e w = absurd (w.2 e)
-work_of command name others target held (Value value) before e w = absurd (w.2 e)
-work_of command name others target held (Root object) before e w = absurd (w.2 e)
-work_of command name others target held (OldRoot object) before e w = absurd (w.2 e)
-work_of command name others target held (Rows timeline listing) before e w = absurd (w.2 e)
-work_of command name others target held (Listed timeline asked) before e w = absurd (w.2 e)
-work_of command name others target held (Text text) before e w = absurd (w.2 e)
-work_of command name others target held (Media list) before e w = absurd (w.2 e)
+    (planned : Planned) (before : Option Desk) (calls : List Handed) → EditsTimeline command
+    → HasPlanned (asked_for command name others target) planned calls
+    → IsWorkOf (λ contents. GivesAll (files_of command name others) contents calls) command
+    (desk_planned planned before)
+work_of command name others target (Edited desk) before calls e w =
+    record { contents = w.0; held = w.1; desk = desk; is = refl; work = w.2 }
+work_of command name others target (Events list drop wide) before calls e w = absurd (w.2 e)
+work_of command name others target (Noted list said drop wide) before calls e w = absurd (w.2 e)
+work_of command name others target (Value value) before calls e w = absurd (w.2 e)
+work_of command name others target (Root object) before calls e w = absurd (w.2 e)
+work_of command name others target (OldRoot object) before calls e w = absurd (w.2 e)
+work_of command name others target (Rows timeline listing) before calls e w = absurd (w.2 e)
+work_of command name others target (Listed timeline asked) before calls e w = absurd (w.2 e)
+work_of command name others target (Text text) before calls e w = absurd (w.2 e)
+work_of command name others target (Media list) before calls e w = absurd (w.2 e)
 
 -- another reading of the same words asks for the same
 as_asked : (words : List (List ℕ)) (c d : Command) (a b : List ℕ) (m n : OtherNames)
-    (s t : Option (List ℕ)) (held : Held) (planned : Planned) → Ask words c a m s
-    → Ask words d b n t → LeavesWorkOf (asked_for c a m s) held planned
-    → LeavesWorkOf (asked_for d b n t) held planned
-as_asked words c d a b m n s t held planned p q w =
-    let same = ask_once words c d a b m n s t p q in
-    subst (λ x. LeavesWorkOf (asked_for d b n x) held planned) same.3
-    (subst (λ x. LeavesWorkOf (asked_for d b x s) held planned) same.2
-    (subst (λ x. LeavesWorkOf (asked_for d x m s) held planned) same.1
-    (subst (λ x. LeavesWorkOf (asked_for x a m s) held planned) same.0 w)))
+    (s t : Option (List ℕ)) (planned : Planned) (calls : List Handed) → Ask words c a m s
+    → Ask words d b n t → HasPlanned (asked_for c a m s) planned calls
+    → HasPlanned (asked_for d b n t) planned calls
+as_asked words c d a b m n s t planned calls p q w =
+    let same = asks_once words (asked_for c a m s) (asked_for d b n t)
+    (asks_for words c a m s p) (asks_for words d b n t q) in
+    subst (λ (x : Asked). HasPlanned x planned calls) same w
 
 works : (words : List (List ℕ)) (command : Command) (name : List ℕ) (others : OtherNames)
-    (target : Option (List ℕ)) (held : Held) (planned : Planned) (before : Option Desk)
+    (target : Option (List ℕ)) (planned : Planned) (before : Option Desk) (calls : List Handed)
     → Ask words command name others target
-    → LeavesWorkOf (asked_for command name others target) held planned
-    → WorksOn words (desk_planned planned before) held
-works words command name others target held planned before w l =
-    λ other called more aim e ask. work_of other called more aim held planned before e
-    (as_asked words command other name called others more target aim held planned w ask l)
+    → HasPlanned (asked_for command name others target) planned calls
+    → WorksOn words (desk_planned planned before) (λ files contents. GivesAll files contents calls)
+works words command name others target planned before calls w l =
+    λ other called more aim e ask. work_of other called more aim planned before calls e
+    (as_asked words command other name called others more target aim planned calls w ask l)
 
 fault_leaves : (words : List (List ℕ)) (name : List ℕ) (d : Streams) (why : ReadFault)
-    (status : Status) (before : Option Desk) (old : KnownFiles) → Complains name why d status
-    → LeavesDesk words status before old
-fault_leaves words name d fault.Absent status before old c = rw c.status tt
-fault_leaves words name d fault.Failed status before old c = rw c.status tt
-fault_leaves words name d (fault.Refused (Broken reason)) status before old c = rw c.status tt
-fault_leaves words name d (fault.Refused WantOfMemory) status before old c = rw c.status tt
+    (status : Status) (before : Option Desk) (calls : List Handed) → Complains name why d status
+    → LeavesGiven words status before calls
+fault_leaves words name d fault.Absent status before calls c = rw c.status tt
+fault_leaves words name d fault.Failed status before calls c = rw c.status tt
+fault_leaves words name d (fault.Refused (Broken reason)) status before calls c = rw c.status tt
+fault_leaves words name d (fault.Refused WantOfMemory) status before calls c = rw c.status tt
 
-leaves_one : (words : List (List ℕ)) (command : Command) (name : List ℕ) (others : OtherNames)
-    (target : Option (List ℕ)) (old new : KnownFiles) (d : Streams)
-    (plan : Result Planned SourceFault) (status : Status) (before : Option Desk)
-    → Ask words command name others target
-    → Plans (asked_for command name others target) plan old new → Carries target plan d status
-    → LeavesDesk words status (desk_after plan before) old
-leaves_one words command name others target old new d (Ok planned) Done before w p c =
-    works words command name others target old.held planned before w p.2
-leaves_one words command name others target old new d (Ok planned) Output before w p c =
-    works words command name others target old.held planned before w p.2
-leaves_one words command name others target old new d (Ok planned) Usage before w p c = tt
-leaves_one words command name others target old new d (Ok planned) Refused before w p c = tt
-leaves_one words command name others target old new d (Ok planned) Input before w p c = tt
-leaves_one words command name others target old new d (Ok planned) Memory before w p c = tt
-leaves_one words command name others target old new d (Err stop) status before w p c =
-    fault_leaves words stop.name.now d stop.fault status before old c
+leaves_by : (words : List (List ℕ)) (command : Command) (name : List ℕ) (others : OtherNames)
+    (target : Option (List ℕ)) (d : Streams) (plan : Result Planned SourceFault) (status : Status)
+    (before : Option Desk) (calls : List Handed) → Ask words command name others target
+    → PlansGiven (asked_for command name others target) plan calls → Carries target plan d status
+    → LeavesGiven words status (desk_after plan before) calls
+leaves_by words command name others target d (Ok planned) Done before calls w p c =
+    works words command name others target planned before calls w (p.0, p.1, p.3)
+leaves_by words command name others target d (Ok planned) Output before calls w p c =
+    works words command name others target planned before calls w (p.0, p.1, p.3)
+leaves_by words command name others target d (Ok planned) Usage before calls w p c = tt
+leaves_by words command name others target d (Ok planned) Refused before calls w p c = tt
+leaves_by words command name others target d (Ok planned) Input before calls w p c = tt
+leaves_by words command name others target d (Ok planned) Memory before calls w p c = tt
+leaves_by words command name others target d (Err stop) status before calls w p c =
+    fault_leaves words stop.name.now d stop.fault status before calls c
 
 -- what a run leaves on the desk
 pub leaves : (words : List (List ℕ)) (command : Command) (name : List ℕ) (others : OtherNames)
-    (target : Option (List ℕ)) (old new : Option KnownFiles) (d : Streams)
-    (plan : Result Planned SourceFault) (status : Status) (before after : Option Desk)
-    → Ask words command name others target
-    → Tells (Plans (asked_for command name others target) plan) old new
+    (target : Option (List ℕ)) (d : Streams) (plan : Result Planned SourceFault) (status : Status)
+    (before after : Option Desk) (old new : List Handed) → Ask words command name others target
+    → HandsOver (PlansGiven (asked_for command name others target) plan) old new
     → Carries target plan d status → after ≡ desk_after plan before
-    → IfSome old (LeavesDesk words status after)
-leaves words command name others target None new d plan status before after w p c e = tt
-leaves words command name others target (Some old) None d plan status before after w p c e =
-    absurd p
-leaves words command name others target (Some old) (Some new) d plan status before after w p c e =
-    subst (λ x. LeavesDesk words status x old) (sym e)
-    (leaves_one words command name others target old new d plan status before w p c)
+    → HandsOver (LeavesGiven words status after) old new
+leaves words command name others target d plan status before after old new w p c e =
+    subst (λ (x : Option Desk). HandsOver (LeavesGiven words status x) old new) (sym e)
+    (hands_as (PlansGiven (asked_for command name others target) plan)
+    (LeavesGiven words status (desk_after plan before)) old new
+    (λ calls h. leaves_by words command name others target d plan status before calls w h c) p)
 
 -- a run that asks for nothing leaves nothing to say
-pub leaves_usage : (words : List (List ℕ)) (on_desk : Option Desk) (old : Option KnownFiles)
-    → IfSome old (LeavesDesk words Usage on_desk)
-leaves_usage words on_desk None = tt
-leaves_usage words on_desk (Some old) = tt
+pub leaves_usage : (words : List (List ℕ)) (on_desk : Option Desk) (old : List Handed)
+    → HandsOver (LeavesGiven words Usage on_desk) old old
+leaves_usage words on_desk old = hands_none (LeavesGiven words Usage on_desk) old tt
+
+-- nor does one where memory ran out over the arguments
+pub leaves_unread : (words : List (List ℕ)) (status : Status) (on_desk : Option Desk)
+    (old : List Handed) → status ≡ Memory → HandsOver (LeavesGiven words status on_desk) old old
+leaves_unread words status on_desk old e =
+    hands_none (LeavesGiven words status on_desk) old (rw e tt)
 
 desk_alone : (command : Command) (planned : Planned) (before : Option Desk)
     → IsDeskFor command planned → (EditsTimeline command → ⊥) → desk_planned planned before ≡ before

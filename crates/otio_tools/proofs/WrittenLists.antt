@@ -29,7 +29,8 @@ use Rattle.otio_tools.proofs.FoundNotes.{found_texts}
 pub written_keeps : (t : Timeline) (rows : MediaRows) (drop wide : Bool) (list : EventList)
     → IsFaultless t → IsCalm t → AreListed rows → not_carried t rows drop wide ≡ None
     → IsListOf t rows drop wide list → HasTexts list
-    → length (spelling list drop wide) ≤ most_bytes → KeepsFrames t rows (spelling list drop wide)
+    → length (spelling list drop wide) ≤ most_bytes
+    → KeepsFrames t rows wide (spelling list drop wide)
 written_keeps t rows drop wide list sound calm listed none is texts small =
     frames_kept t rows drop wide list (record { faultless = sound; calm = calm }) listed none is
     texts.title texts.names small
@@ -38,13 +39,14 @@ written_keeps t rows drop wide list sound calm listed none is texts small =
 pub text_keeps : (notes : Bool) (t : Timeline) (rows : MediaRows) (drop wide : Bool)
     (list : EventList) (text : List ℕ) → IsFaultless t → IsCalm t → AreListed rows
     → not_carried t rows drop wide ≡ None → IsListOf t rows drop wide list → HasTexts list
-    → IsTextOf notes t drop wide list text → length text ≤ most_bytes → KeepsFrames t rows text
+    → IsTextOf notes t drop wide list text → length text ≤ most_bytes
+    → KeepsFrames t rows wide text
 text_keeps false t rows drop wide list text sound calm listed none is texts p small =
-    subst (KeepsFrames t rows) (sym p) (written_keeps t rows drop wide list sound calm listed
+    subst (KeepsFrames t rows wide) (sym p) (written_keeps t rows drop wide list sound calm listed
     none is
     texts (subst (λ x. length x ≤ most_bytes) p small))
 text_keeps true t rows drop wide list text sound calm listed none is texts p small =
-    subst (KeepsFrames t rows) (sym p.3) (noted_frames_kept t rows drop wide list p.0
+    subst (KeepsFrames t rows wide) (sym p.3) (noted_frames_kept t rows drop wide list p.0
     (record { faultless = sound; calm = calm }) listed none is texts.title texts.names
     (found_texts t rows drop wide list p.0 calm listed none is p.1 p.2)
     (subst (λ x. length x ≤ most_bytes) p.3 small))

@@ -4,8 +4,7 @@ use Rattle.std.specs.declared.option.Option.{Option}
 use Rattle.json_text.specs.Layout.{layout}
 use Rattle.source_files.specs.Order.{FirstIsNot}
 use Rattle.source_files.specs.Reading.{Held, Source, IsRead, AreRead, IsRefusedIn}
-use Rattle.source_files.specs.declared.file_kinds.Content.{Content}
-use Rattle.source_files.specs.declared.file_kinds.Content.TheVariants.{Value, Root, Film, Events, Noted, Rows, Commands}
+use Rattle.source_files.specs.Contents.{Content, Value, Root, Film, Events, Noted, Rows, Commands}
 use Rattle.command_words.specs.Asked.{AskNothing}
 use Rattle.command_words.specs.Drills.{AsksDrill}
 use Rattle.command_words.specs.declared.requests.Command.{Command}

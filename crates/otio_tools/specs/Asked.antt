@@ -2,9 +2,9 @@
 use Rattle.std.specs.Prelude.{◌≡◌, ◌||◌, ℕ, Bool, true, false, cond, List, [], ◌∷◌, ◌++◌, Some, None, bytes_eq, codes, map}
 use Rattle.std.specs.declared.option.Option.{Option}
 use Rattle.tick_time.specs.declared.rates.Rate.{Rate}
-use Rattle.source_files.specs.Reading.{Source}
-use Rattle.source_files.specs.declared.file_kinds.Kind.{Kind}
-use Rattle.source_files.specs.declared.file_kinds.Kind.TheVariants as kinds
+use Rattle.source_files.specs.Reading.{Source, read_as}
+use Rattle.source_files.specs.Kinds.{Kind}
+use Rattle.source_files.specs.Kinds as kinds
 use Rattle.command_words.specs.Asked.{Ask, OtherNames}
 use Rattle.command_words.specs.declared.requests.Command.{Command}
 use Rattle.command_words.specs.declared.requests.Command.TheVariants.{ListToList, ListToObjects, TimelineToList, ToObjects, ToJson, Frames, ListFrames, Edit, ListEdit}
@@ -63,10 +63,6 @@ media_kind name = cond (is_log name) kinds.Log kinds.Media
 abbrev pub media_source : Option (List ℕ) → List Source
 media_source None = []
 media_source (Some name) = record { name = name; kind = media_kind name } ∷ []
-
--- a file of that name that is read as this
-abbrev pub read_as : List ℕ → Kind → Source
-read_as name kind = record { name = name; kind = kind }
 
 -- the file of that name, with no script after it
 abbrev pub one_file : Command → List ℕ → Option (List ℕ) → List Source
@@ -130,7 +126,17 @@ abbrev pub asked_for : Command → List ℕ → OtherNames → Option (List ℕ)
 asked_for command name others target =
     record { command = command; files = files_of command name others; target = target }
 
--- the same of a command on one file alone
+-- the same of a command on one file that reads no script
+abbrev pub asked_work : Command → List ℕ → Option (List ℕ) → Option (List ℕ) → Asked
+asked_work command name media target =
+    record { command = command; files = one_file command name media; target = target }
+
+-- and of one that edits
+abbrev pub asked_edit : Command → List ℕ → List ℕ → Option (List ℕ) → Option (List ℕ) → Asked
+asked_edit command name script media target =
+    record { command = command; files = edit_files command name script media; target = target }
+
+-- and of either
 abbrev pub asked_alone : Command → List ℕ → OtherNames → Option (List ℕ) → Asked
 asked_alone command name others target = record {
   command = command;

@@ -11,8 +11,7 @@ use Rattle.edl_frames.specs.Faults.{IsConformFault}
 use Rattle.edl_frames.specs.declared.faults.ConformFault.{ConformFault}
 use Rattle.edl_frames.specs.declared.faults.ConformFault.TheVariants.{Memory}
 use Rattle.source_files.specs.Faults.{conform_fault_text}
-use Rattle.source_files.specs.declared.file_kinds.Content.{Content}
-use Rattle.source_files.specs.declared.file_kinds.Content.TheVariants.{Value, Root, Film, Events, Noted, Rows, Commands}
+use Rattle.source_files.specs.Contents.{Content, Value, Root, Film, Events, Noted, Rows, Commands}
 use Rattle.otio_tools.specs.Forms.{Answer, refused}
 
 -- the media list after a list, where one was read

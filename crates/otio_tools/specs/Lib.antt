@@ -12,8 +12,10 @@ pub mod Objects
 pub mod Edited
 pub mod Answer
 pub mod Run
+pub mod Ends
 pub mod Reported
 pub mod Plan
+pub mod Works
 pub mod Served
 pub mod Several
 pub mod Texts

@@ -16,8 +16,9 @@ use Rattle.edl_frames.specs.declared.faults.ConformFault.TheVariants as conform
 use Rattle.source_files.specs.Faults.{coord_fault_text, conform_fault_text}
 use Rattle.source_files.specs.Order.{EachIs, FirstIsNot}
 use Rattle.source_files.specs.Reading.{Source}
-use Rattle.source_files.specs.declared.file_kinds.Content.{Content}
-use Rattle.source_files.specs.declared.file_kinds.Content.TheVariants as content
+use Rattle.source_files.specs.Contents.{Content}
+use Rattle.source_files.specs.Contents as content
+use Rattle.otio_tools.specs.Conformed.{AnswersConformed}
 use Rattle.otio_tools.specs.Forms.{Answer, refused}
 
 -- the timeline of a list, which is accepted and makes few items
@@ -57,6 +58,18 @@ IsUnopened (content.Value value) media why = ⊥
 IsUnopened (content.Root object) media why = ⊥
 IsUnopened (content.Rows rows) media why = ⊥
 IsUnopened (content.Commands commands) media why = ⊥
+
+-- why there is no timeline of what a file holds, sound or not: its list isn't conformed
+abbrev pub IsUnmade : Content → MediaRows → List ℕ → Type 0
+IsUnmade (content.Events list) media why = IsUnconformed list media why
+IsUnmade held media why = ⊥
+
+-- the answer to what a file holds by its timeline, which a list conforms to with this media list
+abbrev pub AnswersInput : List ℕ → Content → MediaRows → (Timeline → Answer → Type 0) → Answer
+    → Type 0
+AnswersInput name (content.Film film) media Is answer = Is film answer
+AnswersInput name (content.Events list) media Is answer = AnswersConformed name list media Is answer
+AnswersInput name held media Is answer = ⊥
 
 -- ---- several inputs
 

@@ -17,15 +17,14 @@ use Rattle.undo_log.specs.States.{State}
 use Rattle.edit_script.specs.Runs.{Halts}
 use Rattle.edit_script.specs.declared.faults.CommandFault.{CommandFault}
 use Rattle.edit_script.specs.declared.commands.ScriptCommand as script
-use Rattle.source_files.specs.Formats.{IsOfTables, Suits, SuitsNotes}
+use Rattle.source_files.specs.Formats.{IsOfTables, Suits}
 use Rattle.show_prog.specs.Rows.{listing_text}
 use Rattle.dev_io.specs.declared.output_faults.OutputFault.{OutputFault}
 use Rattle.dev_io.specs.declared.output_faults.OutputFault.TheVariants.{Sink, Memory as NoMemory}
 use Rattle.source_files.specs.Reasons.{reason_text}
-use Rattle.source_files.specs.Order.{FirstIsNot}
-use Rattle.source_files.specs.Reading.{Held, Source, IsRead, AreRead, IsRefused, EndsWith}
-use Rattle.source_files.specs.declared.file_kinds.Content.{Content}
-use Rattle.source_files.specs.declared.file_kinds.Content.TheVariants as content
+use Rattle.source_files.specs.Reading.{Source, IsRefused}
+use Rattle.source_files.specs.Contents.{Content}
+use Rattle.source_files.specs.Contents as content
 use Rattle.source_files.specs.declared.read_faults.Refusal.{Refusal}
 use Rattle.source_files.specs.declared.read_faults.Refusal.TheVariants.{Broken, Memory}
 use Rattle.source_files.specs.declared.read_faults.ReadFault.{ReadFault}
@@ -33,22 +32,22 @@ use Rattle.source_files.specs.declared.read_faults.ReadFault.TheVariants.{Absent
 use Rattle.source_files.specs.declared.read_faults.SourceFault.{SourceFault}
 use Rattle.command_words.specs.declared.requests.Command.{Command}
 use Rattle.command_words.specs.declared.requests.Command.TheVariants.{Edit, ListEdit}
-use Rattle.dev_io.specs.Known.{KnownFiles, KnownOut}
+use Rattle.dev_io.specs.Known.{KnownOut}
 use Rattle.media_rows.specs.Rows.{MediaRows}
 use Rattle.media_text.specs.Texts.{media_text}
 use Rattle.edl_frames.specs.Carried.{not_carried, IsListOf}
 use Rattle.edl_law.specs.Premises.{AreListed}
-use Rattle.otio_tools.specs.Asked.{Asked, EditsTimeline, ListsFrames, kind_of}
+use Rattle.otio_tools.specs.Asked.{EditsTimeline, ListsFrames, kind_of}
 use Rattle.otio_tools.specs.Forms.{Answer, done, refused, absent, message_of, read_failed}
 use Rattle.otio_tools.specs.Events.{CanBeWritten}
-use Rattle.otio_tools.specs.Answer.{AnswersHeld, AnswersAsked}
+use Rattle.otio_tools.specs.Answer.{AnswersHeld}
 use Rattle.otio_tools.specs.Conformed.{media_in}
 use Rattle.otio_tools.specs.Opened.{IsConformedTo}
 use Rattle.script_law.specs.Shown.{opened}
 use Rattle.otio_tools.specs.Edited.{IsWorkOn, command_fault_text}
 use Rattle.otio_tools.specs.Written.{listings_text, object_json, old_object_json, timeline_text}
 use Rattle.otio_tools.specs.declared.Desk.{Desk}
-use Rattle.otio_tools.specs.Run.{Streams, Sends, Directs, DirectsFront, DirectsPrefix, FailsUnder, Message, OutFailed, SendsNothing, no_memory, output_failed}
+use Rattle.otio_tools.specs.Run.{Streams, Sends, Directs, DirectsFront, DirectsPrefix, Message, OutFailed, SendsNothing, no_memory, output_failed}
 use Rattle.otio_tools.specs.declared.Status.{Status}
 use Rattle.otio_tools.specs.declared.Status.TheVariants as status
 use Rattle.otio_tools.specs.declared.planning.Planned.{Planned}
@@ -104,11 +103,6 @@ abbrev pub media_content : MediaRows → List Content
 media_content None = []
 media_content (Some rows) = content.Rows rows ∷ []
 
--- one content, and a media list after it at most
-abbrev pub AreContents : List Content → Type 0
-AreContents contents =
-    (first : Content) × (media : MediaRows) × (contents ≡ first ∷ media_content media)
-
 -- what files hold that is edited: the timeline, or one that the list conforms to; the desk is what
 -- the commands leave of it
 abbrev pub IsWorkHeld : Command → List Content → Desk → Type 0
@@ -131,12 +125,6 @@ LeavesWork command contents (Rows timeline listing) = EditsTimeline command → 
 LeavesWork command contents (Listed timeline asked) = EditsTimeline command → ⊥
 LeavesWork command contents (Text text) = EditsTimeline command → ⊥
 LeavesWork command contents (Media list) = EditsTimeline command → ⊥
-
--- it is so of what these files hold
-abbrev pub LeavesWorkOf : Asked → Held → Planned → Type 0
-LeavesWorkOf asked held planned =
-    (contents : List Content) × AreRead held asked.files contents
-    × LeavesWork asked.command contents planned
 
 -- a desk is planned for edits alone
 abbrev pub IsDesk : Planned → Type 0
@@ -186,53 +174,12 @@ IsEditable (content.Root object) = ⊥
 IsEditable (content.Rows rows) = ⊥
 IsEditable (content.Commands commands) = ⊥
 
--- what an edit reads: what is edited, the script, and the media list after it where one is read
-abbrev pub AreEditContents : List Content → Type 0
-AreEditContents contents = (first : Content) × (commands : Vec script.ScriptCommand)
-    × (media : MediaRows) × (contents ≡ first ∷ content.Commands commands ∷ media_content media)
-
 -- these are the parts of what an edit reads
 pub record AreEditParts (command : Command) (first : Content) (commands : Vec script.ScriptCommand)
     (rows : MediaRows) (contents : List Content) : Type 0 where
   pub edits : EditsTimeline command
   pub suits : Suits (kind_of command) first
   pub are : contents ≡ first ∷ content.Commands commands ∷ media_content rows
-
--- why there is nothing to send: the answer, or the first file of which a call failed
-abbrev pub IsStop : Asked → List ℕ → ReadFault → KnownFiles → KnownFiles → Type 0
-IsStop asked name Absent old new = AnswersAsked asked old.held (absent name)
-IsStop asked name Failed old new =
-    FirstIsNot (IsRead old.held) (FailsUnder old.held new.last) asked.files name
-IsStop asked name (Refused refusal) old new =
-    IsRefused (λ why. AnswersAsked asked old.held (refused name why)) refusal
-
--- what is planned is the answer, all files being read to their ends; or why there is nothing to
--- send
-abbrev pub Plans : Asked → Result Planned SourceFault → KnownFiles → KnownFiles → Type 0
-Plans asked (Ok planned) old new =
-    AnswersAsked asked old.held (done asked.target (text_planned planned))
-    × EndsWith asked.files new × LeavesWorkOf asked old.held planned
-Plans asked (Err stop) old new = IsStop asked stop.name.now stop.fault old new
-
--- the content is a well formed list
-abbrev pub HasFormedList : Content → Type 0
-HasFormedList (content.Events list) = IsWellFormed list
-HasFormedList (content.Noted list notes) = ⊥
-HasFormedList (content.Value value) = ⊥
-HasFormedList (content.Root object) = ⊥
-HasFormedList (content.Film timeline) = ⊥
-HasFormedList (content.Rows rows) = ⊥
-HasFormedList (content.Commands commands) = ⊥
-
--- the content is a well formed list with notes of its events
-abbrev pub HasNotedList : Content → Type 0
-HasNotedList (content.Noted list notes) = SuitsNotes list notes
-HasNotedList (content.Events list) = ⊥
-HasNotedList (content.Value value) = ⊥
-HasNotedList (content.Root object) = ⊥
-HasNotedList (content.Film timeline) = ⊥
-HasNotedList (content.Rows rows) = ⊥
-HasNotedList (content.Commands commands) = ⊥
 
 -- a list that can be written in this mode and layout
 pub record IsWritableIn (list : EventList) (drop wide : Bool) : Type 0 where

@@ -1,16 +1,12 @@
--- How a run may end.
+-- What a run sends.
 use Rattle.std.specs.Prelude.{◌≡◌, ◌⊎◌, ℕ, List, codes, Some, None}
 use Rattle.std.specs.declared.option.Option.{Option}
-use Rattle.dev_io.specs.Known.{KnownFiles, KnownOut, LastFailure}
+use Rattle.dev_io.specs.Known.{KnownOut}
 use Rattle.dev_io.specs.Calls.{Tells, Adds, AddsPrefix}
 use Rattle.dev_io.specs.Causes.{Rose}
-use Rattle.source_files.specs.Order.{FirstIsNot}
-use Rattle.source_files.specs.Reading.{Held, Source, IsRead, IsFailureOf, EndsWith}
 use Rattle.command_words.specs.Asked.{Ask, OtherNames}
 use Rattle.command_words.specs.declared.requests.Command.{Command}
-use Rattle.otio_tools.specs.Asked.{Asked, Asks, ListsFrames}
-use Rattle.otio_tools.specs.Forms.{Answer, read_failed}
-use Rattle.otio_tools.specs.Answer.{Answers}
+use Rattle.otio_tools.specs.Asked.{ListsFrames}
 use Rattle.otio_tools.specs.declared.Status.{Status}
 use Rattle.otio_tools.specs.declared.Status.TheVariants.{Done, Usage, Refused, Input, Output, Memory}
 
@@ -81,24 +77,6 @@ no_memory = codes "otio: no memory\n"
 abbrev pub output_failed : List ℕ
 output_failed = codes "otio: output failed\n"
 
--- the run gave the answer to its words and files, under this status
-pub record Gives (words : List (List ℕ)) (held : Held) (d : Streams)
-    (result : Status) : Type 0 where
-  pub answer : Answer
-  pub owed : Answers words held answer
-  pub status : answer.status ≡ result
-  pub output : Sends (Directs answer.target answer.output) d
-  pub message : Message answer.message d
-
--- The answer was an output, and the stream of output failed: a prefix was sent.
-pub record Stops (words : List (List ℕ)) (held : Held) (d : Streams) : Type 0 where
-  pub answer : Answer
-  pub owed : Answers words held answer
-  pub status : answer.status ≡ Done
-  pub failed : OutFailed d
-  pub output : Sends (DirectsPrefix answer.target answer.output) d
-  pub message : Message output_failed d
-
 -- the words ask for frames
 pub record AsksFrames (words : List (List ℕ)) : Type 0 where
   pub command : Command
@@ -107,51 +85,6 @@ pub record AsksFrames (words : List (List ℕ)) : Type 0 where
   pub others : OtherNames
   pub target : Option (List ℕ)
   pub ask : Ask words command name others target
-
--- The answer was an output, the rows of frames, and memory ran out over them: a prefix was sent.
-pub record Breaks (words : List (List ℕ)) (held : Held) (d : Streams) : Type 0 where
-  pub frames : AsksFrames words
-  pub answer : Answer
-  pub owed : Answers words held answer
-  pub status : answer.status ≡ Done
-  pub output : Sends (DirectsFront answer.target answer.output) d
-
--- a call on the file of that name failed last
-abbrev pub FailsUnder : Held → LastFailure → Source → List ℕ → Type 0
-FailsUnder held last file name = (name ≡ file.name) × IsFailureOf file (held file.name) last
-
--- Opening or reading the file of that name failed, each file before it holds what it is read as,
--- and nothing was sent.
-pub record FailsToRead (words : List (List ℕ)) (before now : ℕ) (old new : KnownFiles)
-    (d : Streams) : Type 0 where
-  pub asked : Asked
-  pub asks : Asks words asked
-  pub name : List ℕ
-  pub first : FirstIsNot (IsRead old.held) (FailsUnder old.held new.last) asked.files name
-  pub failed : Rose before now
-  pub output : Sends SendsNothing d
-  pub message : Message (read_failed name) d
-
--- each file that the words ask for was read to its end
-abbrev pub ReadsAll : List (List ℕ) → KnownFiles → Type 0
-ReadsAll words new = (asked : Asked) → Asks words asked → EndsWith asked.files new
-
--- How a run over told files may end. `before` and `now` are the files' counts of faults.
-abbrev pub Ends : List (List ℕ) → ℕ → ℕ → Streams → Status → KnownFiles → KnownFiles → Type 0
-Ends words before now d Done old new = Gives words old.held d Done × ReadsAll words new
-Ends words before now d Usage old new = Gives words old.held d Usage
-Ends words before now d Refused old new = Gives words old.held d Refused
-Ends words before now d Input old new =
-    (Gives words old.held d Input × (now ≡ before)) ⊎ FailsToRead words before now old new d
-Ends words before now d Output old new = Stops words old.held d
-Ends words before now d Memory old new =
-    (Sends SendsNothing d ⊎ Breaks words old.held d) × Message no_memory d
-
--- Where no count of faults rose, the status is that of the answer, or there was no memory.
-abbrev pub Completes : List (List ℕ) → ℕ → ℕ → Streams → Status → KnownFiles → Type 0
-Completes words before now d result old = (answer : Answer) → Answers words old.held answer
-    → (Rose before now → ⊥) → (OutFailed d → ⊥)
-    → (result ≡ answer.status) ⊎ (result ≡ Memory)
 
 -- What is known whatever the files tell: under every status but Done and Output nothing is sent,
 -- but where memory runs out over the rows of frames.

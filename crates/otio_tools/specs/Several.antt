@@ -5,7 +5,7 @@ use Rattle.otio_model.specs.declared.timelines.Timeline.{Timeline}
 use Rattle.media_rows.specs.Rows.{MediaRows}
 use Rattle.source_files.specs.Order.{EachIs}
 use Rattle.source_files.specs.Reading.{IsRefused}
-use Rattle.source_files.specs.declared.file_kinds.Content.{Content}
+use Rattle.source_files.specs.Contents.{Content}
 use Rattle.source_files.specs.declared.read_faults.ReadFault.{ReadFault}
 use Rattle.source_files.specs.declared.read_faults.ReadFault.TheVariants.{Absent, Failed, Refused}
 use Rattle.source_files.specs.declared.read_faults.SourceFault.{SourceFault}
@@ -16,7 +16,7 @@ use Rattle.command_words.specs.declared.tools.ToolAsked.{ToolAsked}
 use Rattle.flat_stack.specs.Ready.{IsReady}
 use Rattle.otio_tools.specs.Forms.{Answer}
 use Rattle.otio_tools.specs.Opened.{Input, IsOpenedInput, IsUnopened}
-use Rattle.otio_tools.specs.Plan.{IsEditable, media_content}
+use Rattle.otio_tools.specs.Plan.{IsEditable}
 use Rattle.otio_tools.specs.Tools.{AnswersJoined, AnswersTool}
 use denote.Ref.{Bor}
 
@@ -30,14 +30,6 @@ named_inputs [] contents = []
 named_inputs (name ∷ names) [] = []
 named_inputs (name ∷ names) (content ∷ contents) =
     record { name = name; content = content } ∷ named_inputs names contents
-
--- what so many inputs hold, and the media list after them
-pub record AreInputs (count : ℕ) (contents : List Content) : Type 0 where
-  pub front : List Content
-  pub media : MediaRows
-  pub are : contents ≡ front ++ media_content media
-  pub many : length front ≡ count
-  pub editable : All IsEditable front
 
 -- Of all inputs those in front have these timelines; the others have these names and hold the rest.
 pub record IsOpening (media : MediaRows) (all : List Input) (names : List (List ℕ))

@@ -4,25 +4,26 @@ ghost use Rattle.std.specs.Vec.Iter.{into_iter_items};
 ghost use Rattle.otio_model.specs.Counts.{count as count_below};
 ghost use Rattle.flat_stack.specs.Ready.{IsReady};
 ghost use Rattle.std.specs.Option.{option_copied};
-ghost use Rattle.dev_io.specs.Calls.{Tells};
 ghost use Rattle.source_files.specs.Reasons.{reason_text};
+ghost use Rattle.source_files.specs.Following.{Follows};
 ghost use Rattle.source_files.specs.HandedFiles.{HandsOver};
 ghost use Rattle.source_files.specs.Order.{EachIs, FirstIsNot, IsAmong};
-ghost use Rattle.source_files.specs.Formats.{Suits};
-ghost use Rattle.source_files.specs.Reading.{RaisedAt, names_of, source_of};
+ghost use Rattle.source_files.specs.Inputs.{input_content, input_kind, input_source};
+ghost use Rattle.source_files.specs.Reading.{RaisedAt, names_of};
 ghost use Rattle.command_words.specs.Asked.{other_names};
 ghost use Rattle.otio_tools.specs.Asked.{IsScripted, asked_for, files_of, input_named, is_list as is_list_text, kind_named, media_source};
 ghost use Rattle.otio_tools.specs.Asked as asking;
 ghost use Rattle.otio_tools.specs.Opened.{IsOpenedInput};
 ghost use Rattle.otio_tools.specs.Tools.{AnswersJoined, AnswersTool, name_told, tool_fault_text, tool_text};
 ghost use Rattle.otio_tools.specs.Tools as tools;
-ghost use Rattle.otio_tools.specs.Several.{AnswersTimelines, AreInputs, FitsJoining, HasJoining, IsRefusedAt, StopsOpening, named_inputs, names_now};
-ghost use Rattle.otio_tools.specs.Plan.{AreRows, Fits, IsDesk, IsEditable, Plans, PlansAs, PlansHeld, media_content, text_planned};
+ghost use Rattle.otio_tools.specs.Several.{AnswersTimelines, FitsJoining, HasJoining, IsRefusedAt, StopsOpening, named_inputs, names_now};
+ghost use Rattle.otio_tools.specs.Plan.{AreRows, Fits, IsDesk, IsEditable, PlansAs, PlansHeld, media_content, text_planned};
 ghost use Rattle.otio_tools.specs.Served.{PlansGiven};
 ghost use Rattle.otio_tools.specs.Texts.{text_at};
 
 use crate::edit_command::opened_timeline;
-use crate::planning::{Planned, kind_asked, media_kind};
+use crate::planning::Planned;
+use crate::work_files::media_after;
 use command_words::{Command, Others, ToolAsked, is_list_name};
 use dev_io::Files;
 use flat_stack::{ToolFault, concatenated, tooled};
@@ -30,8 +31,8 @@ use media_list::MediaList;
 use otio_model::{Object, Timeline};
 use show_prog::Listings;
 use source_files::{
-    Content, Kind, ReadFault, Reason, Refusal, Source, SourceFault, coord_reason, flat_reason,
-    items_reason, read_sources,
+    Input, InputFile, InputKind, ReadFault, Reason, Refusal, SourceFault, coord_reason,
+    flat_reason, input_files, items_reason,
 };
 use std::alloc::{AllocError, Global};
 use std::mem;
@@ -39,7 +40,7 @@ use std::vec::IntoIter;
 
 /// What a command on several files is to send for the file of that name and the others: the files
 /// are read, and then the command is judged over what they hold.
-#[tactic(auto, using(crate::proofs::Serving::given_unopened))]
+#[tactic(auto, using(crate::proofs::Serving::given_unopened, source_files::proofs::FollowingLemmas::follows_none))]
 pub fn plan_several<'a, F: Files>(
     alloc: Global,
     command: Command,
@@ -50,9 +51,6 @@ pub fn plan_several<'a, F: Files>(
     requires several { asking.takes_several command ≡ true }
     requires scripted { IsScripted command (text_at others.script) }
     requires joining { HasJoining command (suc (length (other_names others).more)) }
-    ensures told { (target : Option (List ℕ)) →
-        Tells (Plans (asked_for command name.now (other_names others.entry) target) result)
-        (F.known files.old) (F.known files.new) }
     ensures fits { IfOk result (λ planned. Fits planned) }
     ensures kind { IfOk result (λ planned. AreRows planned → ⊥) }
     ensures desk { IfOk result (λ planned. IsDesk planned → ⊥) }
@@ -61,17 +59,25 @@ pub fn plan_several<'a, F: Files>(
     ensures given { (target : Option (List ℕ)) → HandsOver
         (PlansGiven (asked_for command name.now (other_names others.entry) target) result)
         (F.handed files.old) (F.handed files.new) }
+    ensures followed { Follows (F.known files.old) (F.known files.new) (F.handed files.old)
+        (F.handed files.new) }
     ensures cause { RaisedAt result (F.faults files.old) (F.faults files.new) }
 {
     let media = others.media;
     let Ok(names) = names_of(alloc, name, others.more.as_slice()) else {
         return Err(no_memory(name));
     };
-    let Ok(sources) = sources_of(alloc, command, names.as_slice(), media) else {
+    let Ok(sources) = sources_of(alloc, command, names.as_slice()) else {
         return Err(no_memory(name));
     };
-    match read_sources(alloc, sources.as_slice(), files) {
-        Ok(contents) => judged_several(alloc, command, names.as_slice(), contents),
+    match input_files(alloc, sources.as_slice(), files) {
+        Ok(inputs) => match media_after(alloc, media, files) {
+            Ok(rows) => judged_several(alloc, command, names.as_slice(), inputs, rows),
+            Err(stop) => {
+                mem::forget(inputs);
+                Err(stop)
+            }
+        },
         Err(stop) => Err(stop),
     }
 }
@@ -100,42 +106,39 @@ fn names_of<'a>(alloc: Global, name: &'a str, more: &[&'a str]) -> Result<Vec<&'
     Ok(names)
 }
 
-// The inputs of these names, and the media list after them.
+// The inputs of these names.
 #[tactic(auto, using(crate::proofs::SeveralFiles::named_all))]
 fn sources_of<'a>(
     alloc: Global,
     command: Command,
     names: &[&'a str],
-    media: Option<&'a str>,
-) -> Result<Vec<Source<'a>>, AllocError>
-    ensures { IfOk result (λ sources. map source_of sources.items
-        ≡ map (input_named command) (names_now names.now) ++ media_source (text_at media.entry)) }
+) -> Result<Vec<InputFile<'a>>, AllocError>
+    requires { asking.takes_several command ≡ true }
+    ensures { IfOk result (λ sources. map input_source sources.items
+        ≡ map (input_named command) (names_now names.now)) }
 {
     let mut sources = Vec::new(alloc);
     'names: for &name in names {
         let kind = kind_by_name(command, name);
-        sources.push(Source { name, kind })?;
-    }
-    if let Some(name) = media {
-        let kind = media_kind(name);
-        sources.push(Source { name, kind })?;
+        sources.push(InputFile { name, kind })?;
     }
     Ok(sources)
 }
 
 // What a command reads a file of that name as.
-fn kind_by_name(command: Command, name: &str) -> Kind
-    ensures { result ≡ kind_named command name.now }
+fn kind_by_name(command: Command, name: &str) -> InputKind
+    requires { asking.takes_several command ≡ true }
+    ensures { input_kind result ≡ kind_named command name.now }
 {
     match command {
         Command::ListCat { rate } | Command::ListTool { rate, tool: _ } => {
             if is_list(name) {
-                Kind::List(rate)
+                InputKind::List(rate)
             } else {
-                Kind::Timeline
+                InputKind::Timeline
             }
         }
-        _ => kind_asked(command),
+        _ => InputKind::Timeline,
     }
 }
 
@@ -151,23 +154,23 @@ fn judged_several<'a>(
     alloc: Global,
     command: Command,
     names: &[&'a str],
-    contents: Vec<Content>,
+    inputs: Vec<Input>,
+    media: Option<MediaList>,
 ) -> Result<Planned, SourceFault<'a>>
     requires several { asking.takes_several command ≡ true }
     requires some { names.now ≢ [] }
     requires joining { HasJoining command (length names.now) }
-    requires suits { (media : Option (List ℕ)) × EachIs (λ source held. Suits source.kind held)
-        (map (input_named command) (names_now names.now) ++ media_source media) contents.items }
-    ensures told { (media : Option (List ℕ)) → PlansHeld command
-        (map (input_named command) (names_now names.now) ++ media_source media) contents.items
-        result }
+    requires same { length inputs.items ≡ length names.now }
+    requires editable { All IsEditable (map input_content inputs.items) }
+    ensures told { (listed : Option (List ℕ)) → PlansHeld command
+        (map (input_named command) (names_now names.now) ++ media_source listed)
+        (map input_content inputs.items ++ media_content media) result }
     ensures fits { IfOk result (λ planned. Fits planned) }
     ensures kind { IfOk result (λ planned. AreRows planned → ⊥) }
     ensures desk { IfOk result (λ planned. IsDesk planned → ⊥) }
     ensures named { IfErr result (λ stop. IsAmong (names_now names.now) stop.name.now) }
     ensures calm { (n : ℕ) → RaisedAt result n n }
 {
-    let (inputs, media) = parted_inputs(names.len(), contents);
     let found = opened(alloc, names, inputs, media.as_ref());
     mem::forget(media);
     match found {
@@ -176,43 +179,27 @@ fn judged_several<'a>(
     }
 }
 
-// What so many inputs hold, and the media list after them where one was read.
-fn parted_inputs(count: usize, contents: Vec<Content>) -> (Vec<Content>, Option<MediaList>)
-    requires { AreInputs count contents.items }
-    ensures are { contents.items ≡ result.0.items ++ media_content result.1 }
-    ensures count { length result.0.items ≡ count }
-{
-    if contents.len() == count {
-        return (contents, None);
-    }
-    let mut contents = contents;
-    match contents.pop() {
-        Some(Content::Rows(media)) => (contents, Some(media)),
-        _ => unreachable!(),
-    }
-}
-
 // The sound timelines of inputs of these names.
 fn opened<'a>(
     alloc: Global,
     names: &[&'a str],
-    contents: Vec<Content>,
+    inputs: Vec<Input>,
     media: Option<&MediaList>,
 ) -> Result<Vec<Timeline>, SourceFault<'a>>
-    requires same { length contents.items ≡ length names.now }
-    requires editable { All IsEditable contents.items }
+    requires same { length inputs.items ≡ length names.now }
+    requires editable { All IsEditable (map input_content inputs.items) }
     ensures opened { IfOk result (λ timelines. EachIs (IsOpenedInput (option_copied media.entry))
-        (named_inputs (names_now names.now) contents.items) timelines.items) }
+        (named_inputs (names_now names.now) (map input_content inputs.items)) timelines.items) }
     ensures ready { IfOk result (λ timelines. All IsReady timelines.items) }
     ensures stopped { IfErr result (FirstIsNot (IsOpenedInput (option_copied media.entry))
         (StopsOpening (option_copied media.entry))
-        (named_inputs (names_now names.now) contents.items)) }
+        (named_inputs (names_now names.now) (map input_content inputs.items))) }
 {
     let mut timelines = Vec::new(alloc);
-    let mut contents = contents.into_iter();
+    let mut rest = inputs.into_iter();
     'inputs: for &name in names {
-        let content = next_content(&mut contents);
-        match opened_timeline(alloc, content, media) {
+        let input = next_input(&mut rest);
+        match opened_timeline(alloc, input, media) {
             Ok(timeline) => match timelines.push(timeline) {
                 Ok(()) => {}
                 Err(refused) => {
@@ -226,13 +213,13 @@ fn opened<'a>(
     Ok(timelines)
 }
 
-// What the next input holds.
-fn next_content(contents: &mut IntoIter<Content>) -> Content
-    requires { into_iter_items contents.old ≢ [] }
-    ensures { into_iter_items contents.old ≡ result ∷ into_iter_items contents.new }
+// The next input.
+fn next_input(inputs: &mut IntoIter<Input>) -> Input
+    requires { into_iter_items inputs.old ≢ [] }
+    ensures { into_iter_items inputs.old ≡ result ∷ into_iter_items inputs.new }
 {
-    match contents.next() {
-        Some(content) => content,
+    match inputs.next() {
+        Some(input) => input,
         None => unreachable!(),
     }
 }
@@ -277,8 +264,7 @@ fn worked<'a>(
     }
 }
 
-// What is to be sent of timelines that are joined. They aren't freed: what is left of a run is to
-// send the one that they become.
+// What is to be sent of timelines that are joined.
 fn joined<'a>(
     alloc: Global,
     names: &[&'a str],
@@ -295,9 +281,7 @@ fn joined<'a>(
     ensures named { IfErr result (λ stop. IsAmong (names_now names.now) stop.name.now) }
     ensures calm { (n : ℕ) → RaisedAt result n n }
 {
-    let ended = concatenated(alloc, timelines.as_slice());
-    mem::forget(timelines);
-    match ended {
+    match concatenated(alloc, timelines) {
         Ok(timeline) => Ok(Planned::Root(Object::Timeline(timeline))),
         Err(fault) => Err(stop_of(names, fault)),
     }

@@ -1,5 +1,5 @@
 // The top call.
-ghost use Rattle.std.specs.Prelude.{◌≡◌, ◌≢◌, ◌⊎◌, ◌<◌, ◌^◌, ℕ, List, None, length, map, string_bytes, suc, IfOk, IfSome};
+ghost use Rattle.std.specs.Prelude.{◌≡◌, ◌≢◌, ◌⊎◌, ◌<◌, ◌^◌, ℕ, List, None, length, map, string_bytes, suc, IfOk};
 ghost use Rattle.dev_io.specs.Calls.{Tells, SendsAll, IsFresh};
 ghost use Rattle.dev_io.specs.OutputCauses.{HasOutputCause};
 ghost use Rattle.edl_text.specs.Spelling.{spelling};
@@ -14,14 +14,15 @@ ghost use Rattle.otio_model.specs.Counts.{count as count_below};
 ghost use Rattle.otio_tools.specs.Several.{HasJoining};
 ghost use Rattle.otio_tools.specs.Pulled.{HasFewHandles};
 ghost use Rattle.otio_tools.specs.Written.{listings_text, object_json, old_object_json, timeline_text};
-ghost use Rattle.otio_tools.specs.Worked.{AskNoWork, LeavesDesk};
+ghost use Rattle.otio_tools.specs.Worked.{AskNoWork, LeavesGiven};
 ghost use Rattle.otio_tools.specs.Drilled.{EndsDrills};
 ghost use Rattle.otio_tools.specs.Texts.{text_at};
-ghost use Rattle.otio_tools.specs.Kept.{KeepsShown};
+ghost use Rattle.otio_tools.specs.Kept.{KeepsGiven};
 ghost use Rattle.otio_tools.specs.Reported.{Reports};
 ghost use Rattle.otio_tools.specs.Served.{Serves};
-ghost use Rattle.otio_tools.specs.Run.{Completes, Ends, Says, KeepsStill, no_memory, streams};
+ghost use Rattle.otio_tools.specs.Run.{Says, KeepsStill, no_memory, streams};
 ghost use Rattle.otio_tools.specs.Plan.{AreRows, CanBeShown, Carries, Fits, CanBeNoted, IsWritableIn, desk_after, desk_planned, Writes, WritesTo, text_planned, message_about, message_unsent, status_of, status_unsent};
+ghost use Rattle.source_files.specs.Following.{FollowsAtLast};
 ghost use Rattle.source_files.specs.HandedFiles.{HandsOver};
 ghost use Rattle.source_files.specs.declared.read_faults.ReadFault.TheVariants.{Refused as RefusedFor};
 
@@ -143,57 +144,47 @@ pub fn run<F: Files, W: Out, E: Out>(
 ) -> Status
     requires fresh { IsFresh (W.known out.old) }
     requires empty { desk.old ≡ None }
-    // Over files that tell what they hold: the status, the output and the message are those of the
-    // one answer to the words and the files.
-    ensures ends { let said = map (λ w. string_bytes w) words.now.items in
+    // The status, the output and the message are those of the answer to the arguments and to the
+    // bytes that the calls of the files gave. Only a call that fails, and memory that runs out,
+    // stop this, after a prefix. Each file is opened once, in its order, and read to its end in
+    // pieces of at most 4096 bytes, each after bytes that show no fault. Nothing is read after its
+    // end, after its first fault, or after a call that failed.
+    ensures handed { let said = map (λ w. string_bytes w) words.now.items in
         let sent = streams W.faults W.known E.faults E.known out.old out.new err.old err.new in
-        Tells (Ends said (F.faults files.old) (F.faults files.new) sent result)
-        (F.known files.old) (F.known files.new) }
+        HandsOver (Serves said (F.faults files.old) (F.faults files.new) sent result)
+        (F.handed files.old) (F.handed files.new) }
+
+    // Where it is known what the files hold, the calls gave that, up to what was read of each.
+    ensures followed { FollowsAtLast (F.known files.old) (F.known files.new) (F.handed files.old)
+        (F.handed files.new) }
 
     // A timeline that is written as a list keeps its frames: the text that was sent reads as one
-    // list, and what that conforms to shows what the timeline shows.
+    // list, and what that conforms to shows what the timeline shows that the calls gave.
     ensures kept { let said = map (λ w. string_bytes w) words.now.items in
         let sent = streams W.faults W.known E.faults E.known out.old out.new err.old err.new in
-        IfSome (F.known files.old) (KeepsShown said sent result) }
+        HandsOver (KeepsGiven said sent result) (F.handed files.old) (F.handed files.new) }
 
     // An edit leaves on the desk the timeline that its script leads to, which is what is sent, and
     // the log of the edits: after each of them every frame shows what its law says, and undoing all
-    // gives the timeline that was read.
+    // gives the timeline that was read. A drill leaves its timeline and log, with all edits undone,
+    // and sends its tally. Every other command leaves nothing there.
     ensures worked { let said = map (λ w. string_bytes w) words.now.items in
-        IfSome (F.known files.old) (LeavesDesk said result desk.new) }
-
-    // A drill, whatever the devices tell: its tally is sent, and its timeline and log are left on
-    // the desk, with all edits undone. Every command but an edit and a drill leaves nothing there.
+        HandsOver (LeavesGiven said result desk.new) (F.handed files.old) (F.handed files.new) }
     ensures drilled { let said = map (λ w. string_bytes w) words.now.items in
         let sent = streams W.faults W.known E.faults E.known out.old out.new err.old err.new in
         EndsDrills said sent result desk.new }
     ensures unworked { let said = map (λ w. string_bytes w) words.now.items in
         AskNoWork said → desk.new ≡ None }
 
-    // Where no device failed, the status is that of the answer.
-    ensures complete { let said = map (λ w. string_bytes w) words.now.items in
-        let sent = streams W.faults W.known E.faults E.known out.old out.new err.old err.new in
-        IfSome (F.known files.old)
-        (Completes said (F.faults files.old) (F.faults files.new) sent result) }
-
-    // Over all devices: the message is that of the status. Under `Refused` and `Input` it names a
-    // file that the arguments ask for; `read failed` is reported only where a call of the files
-    // failed.
+    // The message is that of the status. Under `Refused` and `Input` it names a file that the
+    // arguments ask for; `read failed` is reported only where a call of the files failed.
     ensures reported { let said = map (λ w. string_bytes w) words.now.items in
         let sent = streams W.faults W.known E.faults E.known out.old out.new err.old err.new in
         Reports said (F.faults files.old) (F.faults files.new) sent result }
 
-    // Over all files: the status, the output and the message are those of the answer to the words
-    // and to the bytes that the calls of the files gave. Each file is opened once, in its order,
-    // and read in pieces of at most 4096 bytes, each after bytes that show no fault; nothing is
-    // read after its end, after its first fault, or after a call that failed.
-    ensures handed { let said = map (λ w. string_bytes w) words.now.items in
-        let sent = streams W.faults W.known E.faults E.known out.old out.new err.old err.new in
-        HandsOver (Serves said sent result) (F.handed files.old) (F.handed files.new) }
-
-    // Over all files: usage for other words alone, which get usage or no memory; nothing sent but
-    // under Done, under Output, which has its cause, and where memory runs out over frames; under
-    // every status but Input no call of the files failed.
+    // Usage for other words alone, which get usage or no memory; nothing sent but under Done, under
+    // Output, which has its cause, and where memory runs out over frames; under every status but
+    // Input no call of the files failed.
     ensures usage { let said = map (λ w. string_bytes w) words.now.items in
         result ≡ Status.Usage → AskNothing said }
     ensures others { let said = map (λ w. string_bytes w) words.now.items in
@@ -229,16 +220,12 @@ fn serve<F: Files, W: Out, E: Out>(
     requires joining { HasJoining request.command
         (suc (length (other_names request.others).more)) }
     requires handles { HasFewHandles request.command }
-    ensures ends { (words : List (List ℕ)) →
-        Ask words request.entry.command request.entry.name.now (other_names request.entry.others)
-        (text_at request.entry.target) →
-        let sent = streams W.faults W.known E.faults E.known out.old out.new err.old err.new in
-        Tells (Ends words (F.faults files.old) (F.faults files.new) sent result)
-        (F.known files.old) (F.known files.new) }
+    ensures followed { FollowsAtLast (F.known files.old) (F.known files.new) (F.handed files.old)
+        (F.handed files.new) }
     ensures worked { (words : List (List ℕ)) →
         Ask words request.entry.command request.entry.name.now (other_names request.entry.others)
         (text_at request.entry.target) →
-        IfSome (F.known files.old) (LeavesDesk words result desk.new) }
+        HandsOver (LeavesGiven words result desk.new) (F.handed files.old) (F.handed files.new) }
     ensures unworked { (EditsTimeline request.entry.command → ⊥) → desk.new ≡ None }
     ensures still { (words : List (List ℕ)) →
         Ask words request.entry.command request.entry.name.now (other_names request.entry.others)
@@ -254,7 +241,8 @@ fn serve<F: Files, W: Out, E: Out>(
         Ask words request.entry.command request.entry.name.now (other_names request.entry.others)
         (text_at request.entry.target) →
         let sent = streams W.faults W.known E.faults E.known out.old out.new err.old err.new in
-        HandsOver (Serves words sent result) (F.handed files.old) (F.handed files.new) }
+        HandsOver (Serves words (F.faults files.old) (F.faults files.new) sent result)
+        (F.handed files.old) (F.handed files.new) }
     ensures asked { result ≢ Status.Usage }
     ensures calm { result ≢ Status.Input → F.faults files.new ≡ F.faults files.old }
 {

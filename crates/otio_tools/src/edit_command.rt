@@ -5,10 +5,11 @@ ghost use Rattle.otio_model.specs.Counts.{count as count_below};
 ghost use Rattle.coord.specs.Soundness.{IsSound, IsCalm};
 ghost use Rattle.edl_list.specs.Formed.{IsWellFormed};
 ghost use Rattle.source_files.specs.Reasons.{reason_text};
+ghost use Rattle.source_files.specs.Inputs.{input_content};
 ghost use Rattle.source_files.specs.Reading.{IsRefused};
 ghost use Rattle.object_law.specs.Writable.{IsTimeline as IsWritable};
 ghost use Rattle.otio_tools.specs.Edited.{IsWorkOn, command_fault_text};
-ghost use Rattle.otio_tools.specs.Opened.{IsConformedTo, IsOpened, IsUnconformed, IsUnopened, IsUnsound};
+ghost use Rattle.otio_tools.specs.Opened.{IsConformedTo, IsOpened, IsUnconformed, IsUnmade, IsUnopened, IsUnsound};
 ghost use Rattle.otio_tools.specs.Plan.{IsEditable, IsHaltOf};
 
 use crate::Desk;
@@ -21,7 +22,7 @@ use edl_list::EventList;
 use media_list::MediaList;
 use otio_model::{EditFault, Timeline};
 use source_files::{
-    Content, Reason, Refusal, edit_reason, far_command_reason, undo_reason, unlisted_reason,
+    Input, Reason, Refusal, edit_reason, far_command_reason, undo_reason, unlisted_reason,
 };
 use std::alloc::Global;
 use std::mem;
@@ -33,24 +34,49 @@ use undo_log::Log;
 #[tactic(auto, using(crate::proofs::CalmTimelines::tables_are_calm, crate::proofs::CalmTimelines::tables_are_writable, crate::proofs::Editing::unsound_list))]
 pub fn opened_timeline(
     alloc: Global,
-    content: Content,
+    input: Input,
     media: Option<&MediaList>,
 ) -> Result<Timeline, Refusal>
-    requires { IsEditable content }
-    ensures opened { IfOk result (IsOpened content (option_copied media.entry)) }
+    requires { IsEditable (input_content input) }
+    ensures opened { IfOk result (IsOpened (input_content input) (option_copied media.entry)) }
     ensures sound { IfOk result IsSound }
     ensures written { IfOk result IsWritable }
     ensures few { IfOk result (λ timeline. count_below timeline.tracks.children < 2 ^ 32) }
     ensures refused { IfErr result
-        (IsRefused (IsUnopened content (option_copied media.entry))) }
+        (IsRefused (IsUnopened (input_content input) (option_copied media.entry))) }
 {
-    match content {
-        Content::Film(timeline) => sound_timeline(alloc, timeline),
-        Content::Events(list) => match timeline_of_list(alloc, list, media) {
+    match input {
+        Input::Timeline(timeline) => sound_timeline(alloc, timeline),
+        Input::List(list) => match timeline_of_list(alloc, list, media) {
             Ok(timeline) => sound_timeline(alloc, timeline),
             Err(refusal) => Err(refusal),
         },
-        _ => unreachable!(),
+    }
+}
+
+/// The timeline that a file holds, or the one that its list conforms to with this media list. An
+/// error tells why the list isn't conformed; or memory ran out. The media list isn't freed.
+#[tactic(auto, using(crate::proofs::CalmTimelines::tables_are_calm))]
+pub fn input_timeline(
+    alloc: Global,
+    input: Input,
+    media: Option<MediaList>,
+) -> Result<Timeline, Refusal>
+    requires { IsEditable (input_content input) }
+    ensures opened { IfOk result (IsOpened (input_content input) media) }
+    ensures few { IfOk result (λ timeline. count_below timeline.tracks.children < 2 ^ 32) }
+    ensures refused { IfErr result (IsRefused (IsUnmade (input_content input) media)) }
+{
+    match input {
+        Input::Timeline(timeline) => {
+            mem::forget(media);
+            Ok(timeline)
+        }
+        Input::List(list) => {
+            let made = timeline_of_list(alloc, list, media.as_ref());
+            mem::forget(media);
+            made
+        }
     }
 }
 

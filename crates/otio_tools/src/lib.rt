@@ -1,11 +1,22 @@
 //! The command lines of `otio`, over files and streams that are handed in.
 #![tactic(auto)]
 
-ghost use Rattle.std.specs.Prelude.{◌≡◌, ℕ, List};
+ghost use Rattle.std.specs.Prelude.{◌≡◌, ℕ, List, Option, IfSome};
+ghost use Rattle.dev_io.specs.Calls.{Tells};
+ghost use Rattle.dev_io.specs.Handed.{Handed};
+ghost use Rattle.dev_io.specs.Known.{KnownFiles};
+ghost use Rattle.source_files.specs.Following.{FollowsAtLast};
+ghost use Rattle.source_files.specs.HandedFiles.{HandsOver};
 ghost use Rattle.source_files.specs.Reading.{Held};
 ghost use Rattle.otio_tools.specs.Alike.{AreAlike};
 ghost use Rattle.otio_tools.specs.Answer.{Answers};
+ghost use Rattle.otio_tools.specs.Ends.{Completes, Ends};
 ghost use Rattle.otio_tools.specs.Forms.{Answer};
+ghost use Rattle.otio_tools.specs.Kept.{KeepsGiven, KeepsKnown};
+ghost use Rattle.otio_tools.specs.Run.{Streams};
+ghost use Rattle.otio_tools.specs.Served.{Serves};
+ghost use Rattle.otio_tools.specs.Worked.{LeavesGiven, LeavesKnown};
+ghost use Rattle.otio_tools.specs.declared.Desk.{Desk as Left};
 
 mod cat_and_tool;
 mod command;
@@ -21,6 +32,7 @@ mod planning;
 mod pull_command;
 mod stat_command;
 mod timeline_to_list;
+mod work_files;
 mod written_objects;
 
 pub use command::run;
@@ -39,6 +51,28 @@ pub fn same_answers()
     ensures { (words swapped : List (List ℕ)) (held : Held) (answer : Answer)
         → AreAlike held words swapped → Answers words held answer
         → Answers swapped held answer }
+{}
+
+/// Law: how a run ends over files whose content is known follows from what its calls gave, where
+/// these gave what is known, as those of every run do: with the one answer to the arguments and the
+/// files, which comes where no device fails and memory doesn't run out. It does nothing.
+pub fn known_files_are_served()
+    ensures ends { (words : List (List ℕ)) (before now : ℕ) (sent : Streams) (result : Status)
+        (old new : Option KnownFiles) (start stop : List Handed)
+        → HandsOver (Serves words before now sent result) start stop
+        → FollowsAtLast old new start stop → Tells (Ends words before now sent result) old new }
+    ensures complete { (words : List (List ℕ)) (before now : ℕ) (sent : Streams) (result : Status)
+        (old new : Option KnownFiles) (start stop : List Handed)
+        → HandsOver (Serves words before now sent result) start stop
+        → FollowsAtLast old new start stop → IfSome old (Completes words before now sent result) }
+    ensures kept { (words : List (List ℕ)) (sent : Streams) (result : Status)
+        (old new : Option KnownFiles) (start stop : List Handed)
+        → HandsOver (KeepsGiven words sent result) start stop
+        → FollowsAtLast old new start stop → IfSome old (KeepsKnown words sent result) }
+    ensures worked { (words : List (List ℕ)) (result : Status) (desk : Option Left)
+        (old new : Option KnownFiles) (start stop : List Handed)
+        → HandsOver (LeavesGiven words result desk) start stop
+        → FollowsAtLast old new start stop → IfSome old (LeavesKnown words result desk) }
 {}
 
 /// What a command has worked on: a timeline, and the log of the edits that led to it.

@@ -8,14 +8,11 @@ ghost use Rattle.edl_frames.specs.Faults.{IsConformFault};
 ghost use Rattle.otio_tools.specs.Conformed.{AnswersConformed};
 ghost use Rattle.otio_tools.specs.Objects.{AnswersObject};
 ghost use Rattle.otio_model.specs.declared.objects.Object.{Timeline as ObjectOfTimeline};
-ghost use Rattle.otio_tools.specs.Frames.{AnswersTimeline};
 ghost use Rattle.otio_tools.specs.Opened.{IsConformedTo};
 ghost use Rattle.otio_tools.specs.Plan.{AreRows, Fits, IsDesk, Suffices};
 
-use crate::frames_command::frames_to_write;
 use crate::planning::Planned;
 use crate::written_objects::object_to_write;
-use command_words::FramesAsked;
 use edl_conform::conform;
 use edl_frames::ConformFault;
 use edl_list::EventList;
@@ -44,26 +41,6 @@ pub fn conformed_to_write(
 {
     match conformed(alloc, list, media) {
         Ok(timeline) => object_to_write(alloc, Object::Timeline(timeline), older),
-        Err(fault) => Err(not_conformed(fault)),
-    }
-}
-
-/// What is to be sent of a list whose frames are asked for, conformed with this media list: the
-/// rows of its timeline, or why it isn't conformed, or then why its timeline has none.
-pub fn conformed_frames_to_write(
-    alloc: Global,
-    list: EventList,
-    media: Option<MediaList>,
-    frames: FramesAsked,
-) -> Result<Planned, Refusal>
-    requires { IsWellFormed list }
-    ensures owed { (name : List ℕ) → Suffices (λ target answer.
-        AnswersConformed name list media (AnswersTimeline frames name target) answer) name result }
-    ensures fits { IfOk result (λ planned. Fits planned) }
-    ensures desk { IfOk result (λ planned. IsDesk planned → ⊥) }
-{
-    match conformed(alloc, list, media) {
-        Ok(timeline) => frames_to_write(alloc, timeline, frames),
         Err(fault) => Err(not_conformed(fault)),
     }
 }

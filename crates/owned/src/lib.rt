@@ -1,12 +1,18 @@
-//! A value in memory of its own, which contracts see as the value itself.
+//! Values in memory of their own, or that several owners share, which contracts see as the values
+//! themselves.
 //!
-//! A large variant of an enum goes behind it, so that the enum's other values stay small.
+//! A large variant of an enum goes behind an [`Owned`], so that the enum's other values stay small.
+//! What copies have in common goes into a [`Shared`], so that a copy of a copy takes no memory.
 #![tactic(auto)]
 
 ghost use Rattle.std.specs.Prelude.{◌≡◌, IfOk};
 
 use std::alloc::{AllocError, Global};
 use std::marker::Model;
+
+mod shared;
+
+pub use shared::Shared;
 
 /// A value in memory of its own, which contracts see as the value.
 pub struct Owned<T> {

@@ -90,10 +90,11 @@ pub(crate) fn clip_of(fields: Fields) -> Clip
     ensures values { (readings.clip_fields result).values ≡ fields.values }
     ensures rest { (readings.clip_fields result).rest ≡ fields.rest }
 {
-    made_item!(fields => Clip {
+    let clip = made_item!(fields => Clip {
         media_references: next_media,
         active_media_reference_key: next_text
-    })
+    });
+    clip.with_places("cmx_3600", "reel")
 }
 
 #[tactic(auto, using(crate::proofs::FirstShapes::first_is, crate::proofs::FirstShapes::have_shapes))]

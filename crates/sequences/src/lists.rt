@@ -106,11 +106,12 @@ impl<T: Drop> Sequence<T> {
     }
 
     /// Takes the members out. Few come in memory that just fits them, and the list keeps its own
-    /// for others; many come in the list's own memory. An error comes where memory runs out. In
-    /// practice the list is then as it was, which no clause says.
+    /// for others; many come in the list's own memory. An error comes where memory runs out, and the
+    /// list is then as it was.
     pub fn take_fitted(&mut self, alloc: Global) -> Result<Vec<T>, AllocError>
         ensures taken { IfOk result (λ taken. taken.items ≡ self.old) }
         ensures empty { OnOk result (self.new ≡ []) }
+        ensures unchanged { OnErr result (self.new ≡ self.old) }
     {
         if self.items.len() > FEW {
             return Ok(mem::replace(&mut self.items, Vec::new(alloc)));

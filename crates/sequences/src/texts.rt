@@ -98,15 +98,28 @@ impl Text {
     }
 }
 
-/// Memory for a text that is made later, where none may be asked for.
+/// Memory for a text that is made later, where none may be asked for. Contracts see it as the
+/// bytes that lie there.
 #[derive(Drop)]
 pub struct TextRoom {
     text_box: Box<String>,
 }
 
+impl Model for TextRoom {
+    ghost use Rattle.std.specs.Prelude.{◌≡◌, List, ℕ, [], string_bytes};
+
+    ghost Value = { List ℕ };
+
+    ghost view = { λ room. string_bytes room.text_box.value };
+
+    ghost invariant = { λ room. string_bytes room.text_box.value ≡ [] };
+}
+
 impl TextRoom {
-    /// Memory for one text. An error comes where memory runs out.
-    pub fn new(alloc: Global) -> Result<TextRoom, AllocError> {
+    /// Memory for one text, where none lies yet. An error comes where memory runs out.
+    pub fn new(alloc: Global) -> Result<TextRoom, AllocError>
+        ensures { IfOk result (λ room. room ≡ []) }
+    {
         Ok(TextRoom {
             text_box: Box::new(alloc, String::new(alloc))?,
         })

@@ -1,20 +1,28 @@
 -- What the calls of a device gave, call by call.
-use Rattle.std.proofs.Common.{◌≡◌, ◌≢◌, ◌⊎◌, ◌<◌, ◌≤◌, ◌++◌, ◌∷◌, [], ℕ, zero, suc, List, Result, Ok, Err, refl, sym, ap, subst, ◌∙◌, map, take, length, append-nil, append_assoc, inl, inr, arith}
+use Rattle.std.proofs.Common.{◌≡◌, ◌≢◌, ◌⊎◌, ◌<◌, ◌≤◌, ◌++◌, ◌∷◌, [], ℕ, zero, suc, List, Result, Ok, Err, refl, sym, ap, subst, ◌∙◌, map, drop, take, length, append-nil, append_assoc, inl, inr, arith}
 use Rattle.std.specs.List.{concat}
 use Rattle.std.proofs.lemmas.List.{map-append, length-take-le}
 use Rattle.std.proofs.lemmas.List.Folds.{concat-append}
 use Rattle.limits.specs.Limits.{piece_bytes}
-use Rattle.dev_io.specs.Handed.{Handed, Found, Missing, Unopened, Gave, Broke, read_as}
+use Rattle.dev_io.specs.Handed.{Handed, Found, Missing, Unopened, Gave, Broke, read_as as call_of}
 use Rattle.source_files.specs.Hand.{Judges}
-use Rattle.source_files.specs.HandedFiles.{HandsOver, IsPiece, AreJudged, Took, TookThen, GivesHand, GivesAs, GivesFile, Gone, Shut, Opened, GivesAll, GivesStop}
-use Rattle.source_files.specs.Reading.{Source, IsRefused}
-use Rattle.source_files.specs.declared.file_kinds.Content.{Content}
+use Rattle.source_files.specs.HandedFiles.{HandsOver, IsPiece, AreJudged, Took, TookThen, GivesHand, GivesAs, GivesFile, GivesOpened, Gone, Shut, Opened, GivesAll, GivesStop}
+use Rattle.source_files.specs.Formats.{Holds, Refuses, IsCalm}
+use Rattle.source_files.specs.Kinds.{Kind}
+use Rattle.source_files.specs.Reading.{Source, IsRefused, held_as, read_as}
+use Rattle.source_files.specs.Contents.{Content}
 use Rattle.source_files.specs.declared.read_faults.Refusal.{Refusal}
-use Rattle.source_files.specs.declared.read_faults.Refusal.TheVariants.{Memory}
+use Rattle.source_files.specs.declared.read_faults.Refusal.TheVariants.{Broken, Memory}
 use Rattle.source_files.specs.declared.read_faults.ReadFault.{ReadFault}
 use Rattle.source_files.specs.declared.read_faults.ReadFault.TheVariants.{Absent, Failed, Refused}
 use Rattle.source_files.specs.declared.read_faults.SourceFault.{SourceFault}
-use Rattle.source_files.proofs.Handing.{refused_by}
+
+-- what is refused for one reason is refused for another that follows
+pub refused_by : (P Q : List ℕ → Type 0) (refusal : Refusal) → ((why : List ℕ) → P why → Q why)
+    → IsRefused P refusal
+    → IsRefused Q refusal
+refused_by P Q (Broken reason) by h = by _ h
+refused_by P Q Memory by h = tt
 
 -- ---- calls after others
 
@@ -42,6 +50,17 @@ hands_call Are Be call old mid new by h e = (
   e ∙ ap (λ (l : List Handed). l ++ call ∷ []) h.1 ∙ append_assoc old h.0 (call ∷ []),
   by h.0 h.2,
 )
+
+same_rest : (a b c : List Handed) → a ++ b ≡ a ++ c → b ≡ c
+same_rest [] b c e = e
+same_rest (x ∷ a) b c e = same_rest a b c (ap (λ (l : List Handed). drop 1 l) e)
+
+-- the same calls are both
+pub hands_both : (Are Also : List Handed → Type 0) (old new : List Handed)
+    → HandsOver Are old new → HandsOver Also old new
+    → (calls : List Handed) × Are calls × Also calls
+hands_both Are Also old new h k =
+    (h.0, h.2, subst Also (same_rest old k.0 h.0 (sym k.1 ∙ h.1)) k.2)
 
 -- ---- the pieces of the file in hand
 
@@ -82,7 +101,7 @@ is_piece (suc n) buf some bound few =
 -- one more read gave the next piece
 pub took_more : (E : Type 0) (Calm : List ℕ → Type 0) (bytes : List ℕ) (old mid new : List Handed)
     (n : ℕ) (buf : List ℕ) → Calm bytes → n ≢ 0 → n ≤ length buf → length buf ≤ piece_bytes
-    → HandsOver (Took Calm bytes) old mid → new ≡ mid ++ read_as {E = E} (Ok n) buf ∷ []
+    → HandsOver (Took Calm bytes) old mid → new ≡ mid ++ call_of {E = E} (Ok n) buf ∷ []
     → HandsOver (Took Calm (bytes ++ take n buf)) old new
 took_more E Calm bytes old mid new n buf c some bound few h e =
     hands_call (Took Calm bytes) (Took Calm (bytes ++ take n buf)) (Gave (take n buf)) old mid new
@@ -97,7 +116,7 @@ gathered_first Calm bytes old e =
 pub gathered_next : (E : Type 0) (Calm : List ℕ → Type 0) (front bytes : List ℕ)
     (old mid new : List Handed) (n : ℕ) (buf : List ℕ) → bytes ≡ front ++ take n buf → Calm front
     → n ≢ 0 → n ≤ length buf → length buf ≤ piece_bytes → HandsOver (Took Calm front) old mid
-    → new ≡ mid ++ read_as {E = E} (Ok n) buf ∷ [] → HandsOver (Took Calm bytes) old new
+    → new ≡ mid ++ call_of {E = E} (Ok n) buf ∷ [] → HandsOver (Took Calm bytes) old new
 gathered_next E Calm front bytes old mid new n buf same c some bound few h e =
     subst (λ (l : List ℕ). HandsOver (Took Calm l) old new) (sym same)
     (took_more E Calm front old mid new n buf c some bound few h e)
@@ -201,22 +220,47 @@ given_narrower T U Is Not Calm IsThen NotThen old new fault by h =
 
 -- ---- one file
 
-pub file_gone : (source : Source) (old new : List Handed) → new ≡ old ++ Missing source.name ∷ []
-    → HandsOver (GivesFile source (Err Absent)) old new
-file_gone source old new e = (Missing source.name ∷ [], e, Gone refl refl)
+pub is_gone : (name : List ℕ) (old new : List Handed) → new ≡ old ++ Missing name ∷ []
+    → HandsOver (GivesOpened {T = Unit {0}} name (Err Absent)) old new
+is_gone name old new e = (Missing name ∷ [], e, λ kind. Gone refl refl)
 
-pub file_shut : (source : Source) (old new : List Handed) → new ≡ old ++ Unopened source.name ∷ []
-    → HandsOver (GivesFile source (Err Failed)) old new
-file_shut source old new e = (Unopened source.name ∷ [], e, Shut refl refl)
+pub is_shut : (name : List ℕ) (old new : List Handed) → new ≡ old ++ Unopened name ∷ []
+    → HandsOver (GivesOpened {T = Unit {0}} name (Err Failed)) old new
+is_shut name old new e = (Unopened name ∷ [], e, λ kind. Shut refl refl)
 
-pub file_opened : (source : Source) (old mid new : List Handed) (result : Result Content ReadFault)
-    → mid ≡ old ++ Found source.name ∷ []
-    → HandsOver (GivesAs source.kind result) mid new → HandsOver (GivesFile source result) old new
-file_opened source old mid new result e h = (
-  Found source.name ∷ h.0,
-  h.1 ∙ ap (λ (l : List Handed). l ++ h.0) e ∙ append_assoc old (Found source.name ∷ []) h.0,
-  Opened h.0 refl h.2,
-)
+pub is_in_hand : (name : List ℕ) (old new : List Handed) → new ≡ old ++ Found name ∷ []
+    → HandsOver (GivesOpened {T = Unit {0}} name (Ok tt)) old new
+is_in_hand name old new e = (Found name ∷ [], e, refl)
+
+hand_as : {T : Type 0} (kind : Kind) (content : T → Content) (result : Result T ReadFault)
+    (calls : List Handed)
+    → GivesHand (λ bytes value. Holds kind bytes (content value)) (Refuses kind) (IsCalm kind)
+    result calls → GivesAs kind (held_as content result) calls
+hand_as kind content (Ok value) calls h = h
+hand_as kind content (Err Absent) calls h = h
+hand_as kind content (Err Failed) calls h = h
+hand_as kind content (Err (Refused refusal)) calls h = h
+
+-- a file was opened and read
+pub opened_as : {T : Type 0} (kind : Kind) (content : T → Content) (name : List ℕ)
+    (old mid new : List Handed) (result : Result T ReadFault)
+    → HandsOver (GivesOpened {T = Unit {0}} name (Ok tt)) old mid
+    → HandsOver (GivesHand (λ bytes value. Holds kind bytes (content value)) (Refuses kind)
+    (IsCalm kind) result) mid new
+    → HandsOver (GivesFile (read_as name kind) (held_as content result)) old new
+opened_as kind content name old mid new result o h =
+    hands_then (GivesOpened {T = Unit {0}} name (Ok tt)) (GivesHand
+    (λ bytes value. Holds kind bytes (content value)) (Refuses kind) (IsCalm kind) result)
+    (GivesFile (read_as name kind) (held_as content result)) old mid new
+    (λ a b e g. Opened b (ap (λ (l : List Handed). l ++ b) e) (hand_as kind content result b g)) o h
+
+-- a file wasn't opened
+pub unopened_as : (kind : Kind) (name : List ℕ) (fault : ReadFault) (old new : List Handed)
+    → HandsOver (GivesOpened {T = Unit {0}} name (Err fault)) old new
+    → HandsOver (GivesFile (read_as name kind) (Err fault)) old new
+unopened_as kind name fault old new h =
+    hands_as (GivesOpened {T = Unit {0}} name (Err fault))
+    (GivesFile (read_as name kind) (Err fault)) old new (λ calls g. g kind) h
 
 -- ---- several files
 

@@ -1,10 +1,9 @@
 -- Lemmas on the texts of messages and on files.
 pub mod Indexes
-pub mod Taking
-pub mod Handing
 pub mod HandedLemmas
+pub mod FollowingLemmas
+pub mod KnownFiles
 pub mod Order
-pub mod Opening
 pub mod Walking
 pub mod JsonLemmas
 pub mod ListLemmas

@@ -17,7 +17,7 @@ use Rattle.source_files.specs.Hand.{Judges}
 use Rattle.source_files.specs.Values.{StandsAs}
 use Rattle.source_files.specs.declared.read_faults.ReadFault.{ReadFault}
 use Rattle.source_files.specs.declared.read_faults.ReadFault.TheVariants.{Absent, Failed, Refused}
-use Rattle.source_files.proofs.Handing.{refused_by}
+use Rattle.source_files.proofs.HandedLemmas.{refused_by}
 
 -- what a value of the bytes stands for is what the bytes are
 pub object_judged : (value : Json) (result : Result Object ReadFault) (bytes : List ℕ)

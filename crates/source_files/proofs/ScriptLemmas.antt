@@ -1,8 +1,5 @@
 -- The fault of the front of a script is that of the script.
-use Rattle.std.proofs.Common.{◌≡◌, ◌≢◌, ◌⊎◌, ◌<◌, ℕ, List, [], ◌++◌, Ok, take, length, inl, inr, sym, subst, arith, length-append}
-use Rattle.std.specs.declared.option.Option.{Option}
-use Rattle.dev_io.specs.Known.{KnownFiles}
-use Rattle.dev_io.specs.Calls.{Tells, Reads}
+use Rattle.std.proofs.Common.{◌≡◌, ◌≢◌, ◌⊎◌, ◌<◌, ℕ, List, ◌++◌, length, inl, inr, arith, length-append}
 use Rattle.limits.specs.Limits.{most_bytes}
 use Rattle.edit_script.specs.Scripts.{IsFault}
 use Rattle.edit_script.specs.declared.commands.ScriptFault.{ScriptFault}
@@ -12,7 +9,6 @@ use Rattle.source_files.specs.Formats.{RefusesScript}
 use Rattle.source_files.specs.Reading.{IsRefused}
 use Rattle.source_files.specs.declared.read_faults.Refusal.{Refusal}
 use Rattle.source_files.specs.declared.read_faults.Refusal.TheVariants.{Broken, Memory as NoMemory}
-use Rattle.source_files.proofs.Taking.{Takes, SameFiles, took_nothing, taken_more}
 
 -- how a fault is told
 abbrev pub IsTold : ScriptFault → Refusal → Type 0
@@ -33,17 +29,3 @@ pub long_script-is_refused : (front rest : List ℕ) (refusal : Refusal) → mos
 long_script-is_refused front rest refusal long told =
     let h : most_bytes < length (front ++ rest) = omega (arith, long, length-append front rest) in
     fault_refused Large (front ++ rest) refusal (inr h) told
-
--- what was gathered so far was taken: nothing, and with the next piece
-pub gathered_none : (bytes : List ℕ) (k : Option KnownFiles) → bytes ≡ []
-    → Tells (Takes bytes) k k
-gathered_none bytes k e =
-    subst (λ (l : List ℕ). Tells (Takes l) k k) (sym e) (took_nothing k)
-
-pub gathered_more : (E : Type 0) (front bytes : List ℕ) (old mid new : Option KnownFiles) (n : ℕ)
-    (buf : List ℕ) → bytes ≡ front ++ take n buf → Tells (Takes front) old mid
-    → Tells SameFiles old mid → Tells (Reads {E = E} (Ok n) buf) mid new
-    → Tells (Takes bytes) old new × Tells SameFiles old new
-gathered_more E front bytes old mid new n buf e t s r =
-    let more = taken_more E front old mid new n buf t s r in
-    (subst (λ (l : List ℕ). Tells (Takes l) old new) (sym e) more.0, more.1)

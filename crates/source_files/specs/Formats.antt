@@ -35,10 +35,9 @@ use Rattle.edit_script.specs.Scripts.{IsScript, IsFault as IsScriptFault}
 use Rattle.edit_script.specs.declared.commands.ScriptCommand.{ScriptCommand}
 use Rattle.edit_script.specs.declared.commands.ScriptFault.{ScriptFault}
 use Rattle.source_files.specs.Faults.{ale_fault_text, json_fault_text, list_fault_text, media_fault_text, script_fault_text, fault_text, not_timeline_text}
-use Rattle.source_files.specs.declared.file_kinds.Kind.{Kind}
-use Rattle.source_files.specs.declared.file_kinds.Kind.TheVariants as kinds
-use Rattle.source_files.specs.declared.file_kinds.Content.{Content}
-use Rattle.source_files.specs.declared.file_kinds.Content.TheVariants.{Value, Root, Film, Events, Noted, Rows, Commands}
+use Rattle.source_files.specs.Kinds.{Kind}
+use Rattle.source_files.specs.Kinds as kinds
+use Rattle.source_files.specs.Contents.{Content, Value, Root, Film, Events, Noted, Rows, Commands}
 
 -- the bytes are a text of this value
 pub record IsJson (bytes : List ℕ) (value : Json) : Type 0 where

@@ -2,13 +2,12 @@
 -- of the device.
 use Rattle.std.specs.Prelude.{◌≡◌, ◌⊎◌, ◌<◌, ◌≤◌, ◌++◌, ◌∷◌, [], ℕ, List, Result, Ok, Err, length, map}
 use Rattle.std.specs.List.{concat}
-use Rattle.std.specs.Global.{Vec}
 use Rattle.limits.specs.Limits.{piece_bytes}
 use Rattle.dev_io.specs.Handed.{Handed, Found, Missing, Unopened, Gave, Broke}
 use Rattle.source_files.specs.Formats.{Holds, Refuses, IsCalm}
-use Rattle.source_files.specs.Reading.{Source, IsRefused}
-use Rattle.source_files.specs.declared.file_kinds.Kind.{Kind}
-use Rattle.source_files.specs.declared.file_kinds.Content.{Content}
+use Rattle.source_files.specs.Reading.{Source, IsRefused, read_as}
+use Rattle.source_files.specs.Kinds.{Kind}
+use Rattle.source_files.specs.Contents.{Content}
 use Rattle.source_files.specs.declared.read_faults.ReadFault.{ReadFault}
 use Rattle.source_files.specs.declared.read_faults.ReadFault.TheVariants.{Absent, Failed, Refused}
 use Rattle.source_files.specs.declared.read_faults.SourceFault.{SourceFault}
@@ -74,6 +73,12 @@ pub data GivesFile (source : Source) (result : Result Content ReadFault)
   Opened : (more : List Handed) → calls ≡ Found source.name ∷ more
       → GivesAs source.kind result more → GivesFile source result calls
 
+-- the calls opened the file of that name; or why it isn't opened, whatever it is read as
+abbrev pub GivesOpened : {T : Type 0} → List ℕ → Result T ReadFault → List Handed → Type 0
+GivesOpened name (Ok _) calls = calls ≡ Found name ∷ []
+GivesOpened name (Err fault) calls =
+    (kind : Kind) → GivesFile (read_as name kind) (Err fault) calls
+
 -- the calls read the files, one after another, and each is this
 abbrev pub GivesAll : List Source → List Content → List Handed → Type 0
 GivesAll [] [] calls = calls ≡ []
@@ -93,6 +98,9 @@ GivesStop (source ∷ sources) name fault calls =
     × (calls ≡ first ++ more) × GivesFile source (Ok content) first
     × GivesStop sources name fault more)
 
-abbrev pub GivesFiles : List Source → Result (Vec Content) SourceFault → List Handed → Type 0
-GivesFiles sources (Ok contents) calls = GivesAll sources contents.items calls
-GivesFiles sources (Err stop) calls = GivesStop sources stop.name.now stop.fault calls
+-- what the calls gave that read files: what these hold, as it is made of what was read, or the
+-- first that isn't read, and why
+abbrev pub GivesFiles : {T : Type 0} → List Source → (T → List Content) → Result T SourceFault
+    → List Handed → Type 0
+GivesFiles sources contents (Ok value) calls = GivesAll sources (contents value) calls
+GivesFiles sources contents (Err stop) calls = GivesStop sources stop.name.now stop.fault calls

@@ -1,14 +1,13 @@
 -- What reading files gives: what they hold, or why the first that isn't read is not.
-use Rattle.std.specs.Prelude.{◌≡◌, ℕ, List, [], ◌∷◌, ◌++◌, Some, None, Result, Ok, Err, map}
+use Rattle.std.specs.Prelude.{◌≡◌, ℕ, List, ◌++◌, Some, None, Result, Ok, Err, map}
 use Rattle.std.specs.declared.option.Option.{Option}
-use Rattle.dev_io.specs.Known.{KnownFiles, LastFailure, NoFailure, OpenHeld, OpenMissing, ReadOf}
+use Rattle.dev_io.specs.Known.{LastFailure, NoFailure, OpenHeld, OpenMissing, ReadOf}
 use Rattle.dev_io.specs.Causes.{Rose}
 use Rattle.source_files.specs.Reasons.{reason_text}
-use Rattle.source_files.specs.Order.{EachIs, FirstIsNot}
+use Rattle.source_files.specs.Order.{EachIs}
 use Rattle.source_files.specs.Formats.{Holds, Refuses, IsCalm}
-use Rattle.source_files.specs.declared.file_kinds.Kind.{Kind}
-use Rattle.source_files.specs.declared.file_kinds.Content.{Content}
-use Rattle.source_files.specs.declared.file_kinds.Source as code
+use Rattle.source_files.specs.Kinds.{Kind}
+use Rattle.source_files.specs.Contents.{Content}
 use Rattle.source_files.specs.declared.read_faults.Refusal.{Refusal}
 use Rattle.source_files.specs.declared.read_faults.Refusal.TheVariants.{Broken, Memory}
 use Rattle.source_files.specs.declared.read_faults.ReadFault.{ReadFault}
@@ -24,8 +23,9 @@ pub record Source : Type 0 where
   pub name : List ℕ
   pub kind : Kind
 
-abbrev pub source_of : code.Source → Source
-source_of source = record { name = source.name.now; kind = source.kind }
+-- a file of that name that is read as this
+abbrev pub read_as : List ℕ → Kind → Source
+read_as name kind = record { name = name; kind = kind }
 
 -- the names of files
 abbrev pub names_of : List Source → List (List ℕ)
@@ -67,35 +67,14 @@ IsUnread held last source Absent = held source.name ≡ None
 IsUnread held last source Failed = IsFailureOf source (held source.name) last
 IsUnread held last source (Refused refusal) = IsRefused (IsRefusedIn held source) refusal
 
--- why the file isn't read, told under its name
-abbrev pub StopsAt : Held → LastFailure → Source → SourceFault → Type 0
-StopsAt held last source stop = (stop.name.now ≡ source.name) × IsUnread held last source stop.fault
+-- why the file of that name isn't read
+abbrev pub IsStopped : Held → LastFailure → ReadFault → Source → List ℕ → Type 0
+IsStopped held last fault source name = (name ≡ source.name) × IsUnread held last source fault
 
--- what reading a file gave; where it was read, that went to its end
-abbrev pub SourceReads : Source → Result Content ReadFault → Held → KnownFiles → Type 0
-SourceReads source (Ok content) held new =
-    IsRead held source content × (new.hand ≡ Some (source.name, []))
-SourceReads source (Err fault) held new = IsUnread held new.last source fault
-
-abbrev pub ReadsSource : Source → Result Content ReadFault → KnownFiles → KnownFiles → Type 0
-ReadsSource source result old new =
-    (new.held ≡ old.held) × SourceReads source result old.held new
-
--- The last of the files was read to its end; that the others were is seen of what they hold.
-abbrev pub EndsWith : List Source → KnownFiles → Type 0
-EndsWith [] known = Unit {0}
-EndsWith (source ∷ []) known = known.hand ≡ Some (source.name, [])
-EndsWith (source ∷ next ∷ more) known = EndsWith (next ∷ more) known
-
--- the files were read, one after another, and hold these
-abbrev pub HaveRead : List Source → List Content → KnownFiles → KnownFiles → Type 0
-HaveRead sources contents old new =
-    (new.held ≡ old.held) × AreRead old.held sources contents × EndsWith sources new
-
--- the first file that isn't read, and why; each before it was
-abbrev pub HasStopped : List Source → SourceFault → KnownFiles → KnownFiles → Type 0
-HasStopped sources stop old new =
-    (new.held ≡ old.held) × FirstIsNot (IsRead old.held) (StopsAt old.held new.last) sources stop
+-- what was read, as what a file holds
+abbrev pub held_as : {T : Type 0} → (T → Content) → Result T ReadFault → Result Content ReadFault
+held_as content (Ok value) = Ok (content value)
+held_as content (Err fault) = Err fault
 
 -- the count of the files rose where a call failed, and stands otherwise
 abbrev pub RaisedBy : ReadFault → ℕ → ℕ → Type 0

@@ -1,11 +1,11 @@
 // Reading a JSON text in pieces.
 ghost use Rattle.std.specs.Prelude.{◌≡◌, ◌≢◌, ℕ, List, IfOk};
-ghost use Rattle.dev_io.specs.Calls.{Tells};
 ghost use Rattle.json_text.specs.Reader.{HasRead};
 ghost use Rattle.json_text.specs.Grammar.{text_of};
 ghost use Rattle.source_files.specs.Faults.{json_fault_text};
 ghost use Rattle.source_files.specs.Formats.{IsJson, RefusesJson, IsCalmJson};
-ghost use Rattle.source_files.specs.Hand.{Judges, ReadsHand};
+ghost use Rattle.source_files.specs.Hand.{Judges};
+ghost use Rattle.source_files.specs.Following.{Follows};
 ghost use Rattle.source_files.specs.HandedFiles.{HandsOver, GivesHand};
 ghost use Rattle.source_files.specs.Reading.{IsRefused, Raised};
 
@@ -23,13 +23,12 @@ const MOST: usize = MOST_BYTES as usize;
 
 /// The value of the JSON text that is left of the file in hand. Each piece is judged before the
 /// next is read.
-#[tactic(auto, using(crate::proofs::Taking::same_at_first))]
 pub fn read_json<F: Files>(alloc: Global, files: &mut F) -> Result<Json, ReadFault>
-    ensures told { Tells (ReadsHand IsJson RefusesJson IsCalmJson result) (F.known files.old)
-        (F.known files.new) }
     ensures text { IfOk result (λ value. (bytes : List ℕ) × text_of bytes value) }
     ensures given { HandsOver (GivesHand IsJson RefusesJson IsCalmJson result)
         (F.handed files.old) (F.handed files.new) }
+    ensures followed { Follows (F.known files.old) (F.known files.new) (F.handed files.old)
+        (F.handed files.new) }
     ensures cause { Raised result (F.faults files.old) (F.faults files.new) }
 {
     let mut reader = JsonReader::new(alloc);

@@ -1,6 +1,5 @@
 // Reading a list in pieces.
 ghost use Rattle.std.specs.Prelude.{◌≡◌, ◌≢◌, ◌⊎◌, ◌≤◌, ◌++◌, ℕ, List, length, IfOk, IfErr, OnOk};
-ghost use Rattle.dev_io.specs.Calls.{Tells};
 ghost use Rattle.edl_list.specs.Formed.{IsWellFormed};
 ghost use Rattle.edl_text.specs.Lists.{IsList, IsEarlyFault};
 ghost use Rattle.edl_text.specs.Reader.{HasRead};
@@ -8,7 +7,8 @@ ghost use Rattle.limits.specs.Limits.{most_bytes};
 ghost use Rattle.note_text.specs.Reader.{HasHeard};
 ghost use Rattle.source_files.specs.Faults.{list_fault_text};
 ghost use Rattle.source_files.specs.Formats.{IsNotedList, RefusesList, IsCalmList, SuitsNotes};
-ghost use Rattle.source_files.specs.Hand.{Judges, ReadsHand};
+ghost use Rattle.source_files.specs.Hand.{Judges};
+ghost use Rattle.source_files.specs.Following.{Follows};
 ghost use Rattle.source_files.specs.HandedFiles.{HandsOver, GivesHand};
 ghost use Rattle.source_files.specs.Reading.{IsRefused, Raised};
 
@@ -27,13 +27,12 @@ use tick_time::Rate;
 const MOST: usize = MOST_BYTES as usize;
 
 /// The list that is left of the file in hand. Each piece is judged before the next is read.
-#[tactic(auto, using(crate::proofs::Taking::same_at_first))]
 pub fn read_list<F: Files>(alloc: Global, rate: Rate, files: &mut F) -> Result<EventList, ReadFault>
-    ensures told { Tells (ReadsHand (IsList rate) (RefusesList rate) (IsCalmList rate) result)
-        (F.known files.old) (F.known files.new) }
     ensures formed { IfOk result (λ list. IsWellFormed list) }
     ensures given { HandsOver (GivesHand (IsList rate) (RefusesList rate) (IsCalmList rate) result)
         (F.handed files.old) (F.handed files.new) }
+    ensures followed { Follows (F.known files.old) (F.known files.new) (F.handed files.old)
+        (F.handed files.new) }
     ensures cause { Raised result (F.faults files.old) (F.faults files.new) }
 {
     let mut reader = EdlReader::new(alloc, rate);
@@ -61,17 +60,16 @@ pub fn read_list<F: Files>(alloc: Global, rate: Rate, files: &mut F) -> Result<E
 
 /// The list that is left of the file in hand, and its notes. Each piece is judged before the next
 /// is read, and its notes are kept, not its bytes.
-#[tactic(auto, using(crate::proofs::Taking::same_at_first))]
 pub fn read_noted_list<F: Files>(
     alloc: Global,
     rate: Rate,
     files: &mut F,
 ) -> Result<(EventList, Notes), ReadFault>
-    ensures told { Tells (ReadsHand (λ bytes read. IsNotedList rate bytes read.0 read.1)
-        (RefusesList rate) (IsCalmList rate) result) (F.known files.old) (F.known files.new) }
     ensures suits { IfOk result (λ read. SuitsNotes read.0 read.1) }
     ensures given { HandsOver (GivesHand (λ bytes read. IsNotedList rate bytes read.0 read.1)
         (RefusesList rate) (IsCalmList rate) result) (F.handed files.old) (F.handed files.new) }
+    ensures followed { Follows (F.known files.old) (F.known files.new) (F.handed files.old)
+        (F.handed files.new) }
     ensures cause { Raised result (F.faults files.old) (F.faults files.new) }
 {
     let mut reader = EdlReader::new(alloc, rate);

@@ -1,10 +1,10 @@
 // Reading a log.
 ghost use Rattle.std.specs.Prelude.{◌≡◌, ◌≢◌, ℕ, List};
 ghost use Rattle.ale_text.specs.Logs.{IsLog};
-ghost use Rattle.dev_io.specs.Calls.{Tells};
 ghost use Rattle.source_files.specs.Faults.{ale_fault_text};
 ghost use Rattle.source_files.specs.Formats.{RefusesLog, IsCalmLog};
-ghost use Rattle.source_files.specs.Hand.{Judges, ReadsHand};
+ghost use Rattle.source_files.specs.Hand.{Judges};
+ghost use Rattle.source_files.specs.Following.{Follows};
 ghost use Rattle.source_files.specs.HandedFiles.{HandsOver, GivesHand};
 ghost use Rattle.source_files.specs.Reading.{IsRefused, Raised};
 
@@ -21,12 +21,11 @@ use std::alloc::Global;
 const MOST: usize = MOST_BYTES as usize;
 
 /// The media list of the log that is left of the file in hand. It is judged when all of it is read.
-#[tactic(auto, using(crate::proofs::Taking::same_at_first))]
 pub fn read_log<F: Files>(alloc: Global, files: &mut F) -> Result<MediaList, ReadFault>
-    ensures told { Tells (ReadsHand IsLog RefusesLog IsCalmLog result)
-        (F.known files.old) (F.known files.new) }
     ensures given { HandsOver (GivesHand IsLog RefusesLog IsCalmLog result)
         (F.handed files.old) (F.handed files.new) }
+    ensures followed { Follows (F.known files.old) (F.known files.new) (F.handed files.old)
+        (F.handed files.new) }
     ensures cause { Raised result (F.faults files.old) (F.faults files.new) }
 {
     let mut bytes = Vec::new(alloc);

@@ -1,10 +1,10 @@
 // Reading a media list in pieces.
 ghost use Rattle.std.specs.Prelude.{◌≡◌, ◌≢◌, ℕ, List};
-ghost use Rattle.dev_io.specs.Calls.{Tells};
 ghost use Rattle.media_list.specs.Lists.{IsMediaList};
 ghost use Rattle.source_files.specs.Faults.{media_fault_text};
 ghost use Rattle.source_files.specs.Formats.{RefusesMedia, IsCalmMedia};
-ghost use Rattle.source_files.specs.Hand.{Judges, ReadsHand};
+ghost use Rattle.source_files.specs.Hand.{Judges};
+ghost use Rattle.source_files.specs.Following.{Follows};
 ghost use Rattle.source_files.specs.HandedFiles.{HandsOver, GivesHand};
 ghost use Rattle.source_files.specs.Reading.{IsRefused, Raised};
 
@@ -20,12 +20,11 @@ use std::mem;
 const MOST: usize = MOST_BYTES as usize;
 
 /// The media list that is left of the file in hand. It is judged when all of it was read.
-#[tactic(auto, using(crate::proofs::Taking::same_at_first))]
 pub fn read_media<F: Files>(alloc: Global, files: &mut F) -> Result<MediaList, ReadFault>
-    ensures told { Tells (ReadsHand IsMediaList RefusesMedia IsCalmMedia result)
-        (F.known files.old) (F.known files.new) }
     ensures given { HandsOver (GivesHand IsMediaList RefusesMedia IsCalmMedia result)
         (F.handed files.old) (F.handed files.new) }
+    ensures followed { Follows (F.known files.old) (F.known files.new) (F.handed files.old)
+        (F.handed files.new) }
     ensures cause { Raised result (F.faults files.old) (F.faults files.new) }
 {
     let mut reader = MediaReader::new(alloc);

@@ -1,6 +1,5 @@
 // Objects of OpenTimelineIO in the file in hand.
 ghost use Rattle.std.specs.Prelude.{◌≡◌, ◌≢◌, ◌≤◌, ℕ, List, IfOk};
-ghost use Rattle.dev_io.specs.Calls.{Tells};
 ghost use Rattle.limits.specs.Limits.{most_items};
 ghost use Rattle.json_value.specs.declared.Json.{Json as JsonValue};
 ghost use Rattle.schema_up.specs.Upgrades.{upgraded};
@@ -10,7 +9,8 @@ ghost use Rattle.schema_rows.specs.Numerals.{HasNumerals};
 ghost use Rattle.schema_rows.specs.Stands.{Stands};
 ghost use Rattle.schema_rows.specs.declared.faults.SchemaFault.TheVariants.{Memory as WantOfMemory};
 ghost use Rattle.source_files.specs.Formats.{IsObject, IsOfTables, IsTimeline, IsCalmJson, RefusesValue, RefusesObject, RefusesTimeline};
-ghost use Rattle.source_files.specs.Hand.{Judges, ReadsHand};
+ghost use Rattle.source_files.specs.Hand.{Judges};
+ghost use Rattle.source_files.specs.Following.{Follows};
 ghost use Rattle.source_files.specs.HandedFiles.{HandsOver, GivesHand};
 ghost use Rattle.source_files.specs.Values.{StandsAs};
 ghost use Rattle.source_files.specs.Reading.{IsRefused, Raised};
@@ -30,13 +30,13 @@ use std::mem;
 /// The object in the file in hand, of at most 100 000 items; or the first fault of its text, or
 /// else of its value.
 pub fn read_object<F: Files>(alloc: Global, files: &mut F) -> Result<Object, ReadFault>
-    ensures told { Tells (ReadsHand IsObject RefusesObject IsCalmJson result) (F.known files.old)
-        (F.known files.new) }
     ensures few { IfOk result (λ object. count_of object ≤ most_items) }
     ensures stands { IfOk result (λ object.
         (value : JsonValue) × (upgraded value ≡ value) × Stands value object) }
     ensures given { HandsOver (GivesHand IsObject RefusesObject IsCalmJson result)
         (F.handed files.old) (F.handed files.new) }
+    ensures followed { Follows (F.known files.old) (F.known files.new) (F.handed files.old)
+        (F.handed files.new) }
     ensures cause { Raised result (F.faults files.old) (F.faults files.new) }
 {
     match read_json(alloc, files) {
@@ -48,11 +48,11 @@ pub fn read_object<F: Files>(alloc: Global, files: &mut F) -> Result<Object, Rea
 /// The timeline in the file in hand, of at most 100 000 items; or the first fault of its object, or
 /// else that it is no timeline.
 pub fn read_timeline<F: Files>(alloc: Global, files: &mut F) -> Result<Timeline, ReadFault>
-    ensures told { Tells (ReadsHand IsTimeline RefusesTimeline IsCalmJson result)
-        (F.known files.old) (F.known files.new) }
     ensures tables { IfOk result IsOfTables }
     ensures given { HandsOver (GivesHand IsTimeline RefusesTimeline IsCalmJson result)
         (F.handed files.old) (F.handed files.new) }
+    ensures followed { Follows (F.known files.old) (F.known files.new) (F.handed files.old)
+        (F.handed files.new) }
     ensures cause { Raised result (F.faults files.old) (F.faults files.new) }
 {
     match read_object(alloc, files) {

@@ -1,9 +1,9 @@
 // Reading an edit script.
 ghost use Rattle.std.specs.Prelude.{◌≡◌, ◌≢◌, ◌++◌, ℕ, List, OnOk};
-ghost use Rattle.dev_io.specs.Calls.{Tells};
 ghost use Rattle.source_files.specs.Faults.{script_fault_text};
 ghost use Rattle.source_files.specs.Formats.{IsCommands, RefusesScript, IsCalmScript};
-ghost use Rattle.source_files.specs.Hand.{Judges, ReadsHand};
+ghost use Rattle.source_files.specs.Hand.{Judges};
+ghost use Rattle.source_files.specs.Following.{Follows};
 ghost use Rattle.source_files.specs.HandedFiles.{HandsOver, GivesHand};
 ghost use Rattle.source_files.specs.Reading.{IsRefused, Raised};
 
@@ -19,15 +19,14 @@ const MOST: usize = MOST_BYTES as usize;
 
 /// The commands of the script that is left of the file in hand. It is judged when all of it was
 /// read.
-#[tactic(auto, using(crate::proofs::Taking::same_at_first))]
 pub fn read_commands<F: Files>(
     alloc: Global,
     files: &mut F,
 ) -> Result<Vec<ScriptCommand>, ReadFault>
-    ensures told { Tells (ReadsHand IsCommands RefusesScript IsCalmScript result)
-        (F.known files.old) (F.known files.new) }
     ensures given { HandsOver (GivesHand IsCommands RefusesScript IsCalmScript result)
         (F.handed files.old) (F.handed files.new) }
+    ensures followed { Follows (F.known files.old) (F.known files.new) (F.handed files.old)
+        (F.handed files.new) }
     ensures cause { Raised result (F.faults files.old) (F.faults files.new) }
 {
     let mut bytes = Vec::new(alloc);

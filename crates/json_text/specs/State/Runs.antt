@@ -33,6 +33,14 @@ pub record IsEscape (count character : ℕ) (bytes : List ℕ) : Type 0 where
   pub some : 0 < count
   pub meant : StandsFor (take count bytes) (encode_utf8 character)
 
+-- These digits of base 16 have the number.
+pub record IsNumber (a b c d number : ℕ) : Type 0 where
+  pub first : digit_value a < 16
+  pub second : digit_value b < 16
+  pub third : digit_value c < 16
+  pub fourth : digit_value d < 16
+  pub code : number ≡ of_digits16 a b c d
+
 -- These digits of base 16 are the code of the character.
 pub record IsCode (a b c d character : ℕ) : Type 0 where
   pub first : digit_value a < 16

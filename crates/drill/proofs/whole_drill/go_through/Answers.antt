@@ -12,4 +12,4 @@ returns-in-Ok-clause-gone c =
     c.run_edits.new.edited.timeline c.undo_all.new.timeline c.args.edited.now.log c.run_edits.new.edited.log
     c.undo_all.new.log _ c.requires.media c.in_ok-edits.ensures.drills c.in_ok-edits.ensures.few
     refl c.track_children-items.ensures c.in_ok-carried.ensures c.in_ok-undo_all.ensures.state
-    c.in-Ok.ensures)
+    c.in-Ok.ensures.sum)

@@ -4,4 +4,4 @@ use Rattle.flat_stack.proofs.KnowLemmas.{AreSeated}
 use Rattle.flat_stack.proofs.inputs.part_of.Given as goal
 
 abbrev pub invariant-children : goal.invariant-children
-invariant-children l = AreSeated l.tracks l.seats.items (items_of l.children) l.index
+invariant-children l = AreSeated l.tracks l.seats.items (items_of l.children) l.number

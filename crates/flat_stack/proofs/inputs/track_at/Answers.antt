@@ -10,8 +10,8 @@ use Rattle.flat_stack.proofs.inputs.track_at.Goals as goal
 pub returns-then-index-len : goal.returns-then-index-len
 returns-then-index-len c =
     let is : get_by (λ k. slice_cmp nat_cmp c.args.kind.now k.now) c.args.tracks.now ≡ Some c.in-Some.of_kind.now = sym c.get.ensures.value ∙ ap option_copied c.in-Some.is in
-    let at : slice_get c.in-Some.of_kind.now.items c.args.index ≡ Some c.item_at.result.now = ap (λ l. slice_get l c.args.index) (sym c.as_slice.ensures.value) ∙ c.item_at.ensures in
-    λ l knows. found_in c.args.tracks.now l c.args.kind.now c.args.index c.in-Some.of_kind.now (Some c.item_at.result.now) knows is at
+    let at : slice_get c.in-Some.of_kind.now.items c.args.index ≡ Some c.number_at.result = ap (λ l. slice_get l c.args.index) (sym c.as_slice.ensures.value) ∙ c.number_at.ensures in
+    λ l knows. found_in c.args.tracks.now l c.args.kind.now c.args.index c.in-Some.of_kind.now (Some c.number_at.result) knows is at
 
 pub returns-else-index-len : goal.returns-else-index-len
 returns-else-index-len c =

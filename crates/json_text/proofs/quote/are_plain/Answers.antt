@@ -1,4 +1,4 @@
-use Rattle.std.proofs.Common.{◌≡◌, arith}
+use Rattle.std.proofs.Common.{arith}
 use Rattle.std.proofs.lemmas.Bool.Decides.{nat_tests}
 use Rattle.json_text.proofs.Escaping.{more_plain, whole_plain}
 use Rattle.json_text.proofs.quote.are_plain.Goals as goal

@@ -11,32 +11,19 @@ overflow_add-result c =
     omega (
       arith,
       c.in-Some.ensures.found.before,
-      c.min-most.ensures,
-      c.saturating_sub.ensures,
+      c.most_before-most.ensures,
       c.ranges.end,
     )
 
 pub returns-in-Some-clause-found : goal.returns-in-Some-clause-found
 returns-in-Some-clause-found c =
     lit_found c.numbered_piece-piece.ensures (omega arith)
-    (omega (
-      arith,
-      c.min-most.ensures,
-      c.len.ensures,
-      c.saturating_sub.ensures,
-      c.numbered_piece-piece.result.now.items.ok,
-    ))
+    c.most_before-most.ensures
     c.pieces.invariant.none c.in-Some.ensures.found
 
 pub pieces-preserved : goal.pieces-preserved
 pieces-preserved c = record {
   none = lit_more c.args.at c.numbered_piece-piece.ensures (omega arith)
-      (omega (
-        arith,
-        c.min-most.ensures,
-        c.len.ensures,
-        c.saturating_sub.ensures,
-        c.numbered_piece-piece.result.now.items.ok,
-      ))
+      c.most_before-most.ensures
       c.pieces.invariant.none c.in_default.ensures.none;
 }

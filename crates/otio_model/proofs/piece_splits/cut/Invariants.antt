@@ -6,9 +6,9 @@ use Rattle.otio_model.proofs.piece_splits.cut.Given as goal
 
 abbrev pub invariant-cuts : goal.invariant-cuts
 invariant-cuts l = record {
-  items : l.fn.mid.items ≡ all_items l.made.items ++ reverse l.mid.items;
-  all : AllPieces l.made.items;
-  full : 32 ≤ vec_len l.fn.mid → AllFull l.made.items;
+  items : l.fn.mid.items ≡ l.mid.items ++ all_items (reverse l.made.items);
+  all : AllPieces (reverse l.made.items);
+  full : 32 ≤ vec_len l.fn.mid → AllFull (reverse l.made.items);
   rest : 32 ≤ vec_len l.fn.mid → (vec_len l.mid ≡ 0) ⊎ (32 ≤ vec_len l.mid);
   few : vec_len l.fn.mid ≤ 32
       → (vec_len l.mid ≡ vec_len l.fn.mid) × (vec_len l.made ≡ 0) ⊎ (vec_len l.mid ≡ 0)

@@ -10,6 +10,9 @@ pieces-init c = record {
   passing = passing_none c.args.pieces.now c.args.first c.args.from c.args.to;
 }
 
+pub returns-then-saturating_add-piece : goal.returns-then-saturating_add-piece
+returns-then-saturating_add-piece c = passed_whole c.pieces.invariant.passing
+
 pub returns-then-not-is_quiet : goal.returns-then-not-is_quiet
 returns-then-not-is_quiet c = passed_whole c.pieces.invariant.passing
 

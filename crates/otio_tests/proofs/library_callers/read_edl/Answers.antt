@@ -1,5 +1,5 @@
 use Rattle.std.proofs.Common.{ℕ, List, []}
-use Rattle.std.proofs.lemmas.Result.{IfOk-weaker, err_from_is_err_and}
+use Rattle.std.proofs.lemmas.Result.{IfErr-weaker, IfOk-weaker, err_from_is_err_and}
 use Rattle.tick_time.specs.declared.rates.Rate.{Rate}
 use Rattle.edl_list.specs.Formed.{IsWellFormed}
 use Rattle.edl_text.specs.Reader.{HasRead}
@@ -21,3 +21,17 @@ returns-clause-formed c =
     (λ list f. f c.args.rate c.args.bytes.now
     (c.in_ok-feed.ensures.read c.args.rate [] c.new-reader.ensures))
     c.finish.ensures.well_formed
+
+pub returns-clause-list : goal.returns-clause-list
+returns-clause-list c =
+    IfOk-weaker c.finish.result _ _
+    (λ list f. f c.args.rate c.args.bytes.now
+    (c.in_ok-feed.ensures.read c.args.rate [] c.new-reader.ensures))
+    c.finish.ensures.list
+
+pub returns-clause-fault : goal.returns-clause-fault
+returns-clause-fault c =
+    IfErr-weaker c.finish.result _ _
+    (λ fault f. f c.args.rate c.args.bytes.now
+    (c.in_ok-feed.ensures.read c.args.rate [] c.new-reader.ensures))
+    c.finish.ensures.fault

@@ -1,82 +1,131 @@
-use Rattle.std.proofs.Common.{◌∷◌, ◌++◌, ap, map, ◌∙◌}
+use Rattle.std.proofs.Common.{◌≡◌, ◌∷◌, ◌++◌, List, ap, length, map, sym, ◌∙◌}
 use Rattle.command_words.specs.Asked.{other_names}
-use Rattle.source_files.specs.Reading.{source_of}
+use Rattle.source_files.specs.Inputs.{input_content, input_source}
+use Rattle.source_files.specs.Reading.{Source}
 use Rattle.otio_tools.specs.Asked.{input_named, media_source}
+use Rattle.otio_tools.specs.Plan.{media_content}
 use Rattle.otio_tools.specs.Several.{names_now}
 use Rattle.otio_tools.specs.Texts.{text_at}
-use Rattle.otio_tools.proofs.SeveralFiles.{several_given, several_planned, several_stopped, several_unread_given}
+use Rattle.otio_tools.proofs.SeveralFiles.{names_length, several_given, several_unread_given}
+use Rattle.otio_tools.proofs.WorkPlans.{among_after, among_before, inputs_many, inputs_suit, length_mapped, unread_before}
 use Rattle.otio_tools.proofs.Reporting.{several_named, several_unread}
+use Rattle.source_files.proofs.FollowingLemmas.{follows_then}
 use Rattle.otio_tools.proofs.cat_and_tool.plan_several.Goals as goal
 
-pub returns-in-Ok-read_sources-clause-told : goal.returns-in-Ok-read_sources-clause-told
-returns-in-Ok-read_sources-clause-told g c = λ target.
-    let media = text_at c.args.others.media in
-    several_planned c.args.command c.args.name.now (other_names c.args.others) target
-    (map source_of c.as_slice-3.result.now) (names_now c.in-Ok.names.items)
-    c.in-Ok-read_sources.contents.items c.judged_several.result _ _ c.requires.several
-    c.requires.scripted
-    (ap (map source_of) c.as_slice-3.ensures.value ∙ c.in-Ok-sources_of.ensures
-    ∙ ap (λ n. map (input_named c.args.command) (names_now n) ++ media_source media)
-    c.as_slice-2.ensures.value)
-    (c.in-Ok.ensures ∙ ap (λ n. c.args.name.now ∷ names_now n) c.as_slice.ensures.value)
-    c.in-Ok-read_sources.ensures.read
-    (rw c.as_slice-in-Ok-read_sources.ensures.value at (c.judged_several.ensures.told media))
-    c.judged_several.ensures.desk
+pub judged_several-requires-clause-same : goal.judged_several-requires-clause-same
+judged_several-requires-clause-same g c =
+    inputs_many c.as_slice-3.result.now c.in-Ok-input_files.inputs.items c.in-Ok-input_files.ensures.suits
+    ∙ ap length (ap (map input_source) c.as_slice-3.ensures.value ∙ c.in-Ok-sources_of.ensures
+    ∙ ap (λ n. map (input_named c.args.command) (names_now n)) c.as_slice-2.ensures.value)
+    ∙ length_mapped (input_named c.args.command) (names_now c.in-Ok.names.items)
+    ∙ names_length c.in-Ok.names.items ∙ sym (ap length c.as_slice-in-Ok-media_after.ensures.value)
 
-pub returns-clause-told : goal.returns-clause-told
-returns-clause-told g c = λ target.
-    let media = text_at c.args.others.media in
-    several_stopped c.args.command c.args.name.now (other_names c.args.others) target
-    (map source_of c.as_slice-3.result.now) (names_now c.in-Ok.names.items) c.in-Err.stop _ _
-    c.requires.several c.requires.scripted
-    (ap (map source_of) c.as_slice-3.ensures.value ∙ c.in-Ok-sources_of.ensures
-    ∙ ap (λ n. map (input_named c.args.command) (names_now n) ++ media_source media)
-    c.as_slice-2.ensures.value)
-    (c.in-Ok.ensures ∙ ap (λ n. c.args.name.now ∷ names_now n) c.as_slice.ensures.value)
-    c.in-Err.ensures.stopped
+pub judged_several-requires-clause-editable : goal.judged_several-requires-clause-editable
+judged_several-requires-clause-editable g c =
+    inputs_suit c.as_slice-3.result.now c.in-Ok-input_files.inputs.items
+    c.in-Ok-input_files.ensures.suits
 
-pub returns-in-Ok-read_sources-clause-named : goal.returns-in-Ok-read_sources-clause-named
-returns-in-Ok-read_sources-clause-named g c =
+pub returns-in-Ok-media_after-clause-named : goal.returns-in-Ok-media_after-clause-named
+returns-in-Ok-media_after-clause-named g c =
     several_named c.args.command c.args.name.now (other_names c.args.others)
     (names_now c.in-Ok.names.items) c.judged_several.result c.requires.several
     c.requires.scripted
     (c.in-Ok.ensures ∙ ap (λ n. c.args.name.now ∷ names_now n) c.as_slice.ensures.value)
-    (rw c.as_slice-in-Ok-read_sources.ensures.value at c.judged_several.ensures.named)
+    (rw c.as_slice-in-Ok-media_after.ensures.value at c.judged_several.ensures.named)
+
+pub returns-in-Ok-input_files-clause-named : goal.returns-in-Ok-input_files-clause-named
+returns-in-Ok-input_files-clause-named g c =
+    let media = text_at c.args.others.media in
+    let slice = c.as_slice-3.result.now in
+    let front = map input_source slice in
+    let names = names_now c.in-Ok.names.items in
+    let named : names ≡ c.args.name.now ∷ (other_names c.args.others).more =
+    c.in-Ok.ensures ∙ ap (λ n. c.args.name.now ∷ names_now n) c.as_slice.ensures.value in
+    let same : front ++ media_source media ≡ map (input_named c.args.command) names ++ media_source media =
+    ap (λ (l : List Source). l ++ media_source media)
+    (ap (map input_source) c.as_slice-3.ensures.value ∙ c.in-Ok-sources_of.ensures
+    ∙ ap (λ n. map (input_named c.args.command) (names_now n)) c.as_slice-2.ensures.value) in
+    several_unread c.args.command c.args.name.now (other_names c.args.others) (front ++ media_source media) names
+    c.in-Err-media_after.stop.name.now c.requires.several c.requires.scripted same named
+    (among_after front (media_source media) c.in-Err-media_after.stop.name.now
+    c.in-Err-media_after.ensures.named)
 
 pub returns-clause-named : goal.returns-clause-named
 returns-clause-named g c =
     let media = text_at c.args.others.media in
-    several_unread c.args.command c.args.name.now (other_names c.args.others)
-    (map source_of c.as_slice-3.result.now) (names_now c.in-Ok.names.items)
-    c.in-Err.stop.name.now c.requires.several c.requires.scripted
-    (ap (map source_of) c.as_slice-3.ensures.value ∙ c.in-Ok-sources_of.ensures
-    ∙ ap (λ n. map (input_named c.args.command) (names_now n) ++ media_source media)
-    c.as_slice-2.ensures.value)
-    (c.in-Ok.ensures ∙ ap (λ n. c.args.name.now ∷ names_now n) c.as_slice.ensures.value)
-    c.in-Err.ensures.named
+    let slice = c.as_slice-3.result.now in
+    let front = map input_source slice in
+    let names = names_now c.in-Ok.names.items in
+    let named : names ≡ c.args.name.now ∷ (other_names c.args.others).more =
+    c.in-Ok.ensures ∙ ap (λ n. c.args.name.now ∷ names_now n) c.as_slice.ensures.value in
+    let same : front ++ media_source media ≡ map (input_named c.args.command) names ++ media_source media =
+    ap (λ (l : List Source). l ++ media_source media)
+    (ap (map input_source) c.as_slice-3.ensures.value ∙ c.in-Ok-sources_of.ensures
+    ∙ ap (λ n. map (input_named c.args.command) (names_now n)) c.as_slice-2.ensures.value) in
+    several_unread c.args.command c.args.name.now (other_names c.args.others) (front ++ media_source media) names
+    c.in-Err.stop.name.now c.requires.several c.requires.scripted same named
+    (among_before front (media_source media) c.in-Err.stop.name.now c.in-Err.ensures.named)
 
-pub returns-in-Ok-read_sources-clause-given : goal.returns-in-Ok-read_sources-clause-given
-returns-in-Ok-read_sources-clause-given g c = λ target.
+pub returns-in-Ok-media_after-clause-given : goal.returns-in-Ok-media_after-clause-given
+returns-in-Ok-media_after-clause-given g c = λ target.
     let media = text_at c.args.others.media in
-    several_given c.args.command c.args.name.now (other_names c.args.others) target
-    (map source_of c.as_slice-3.result.now) (names_now c.in-Ok.names.items)
-    c.in-Ok-read_sources.contents.items c.judged_several.result _ _ c.requires.several
-    c.requires.scripted
-    (ap (map source_of) c.as_slice-3.ensures.value ∙ c.in-Ok-sources_of.ensures
-    ∙ ap (λ n. map (input_named c.args.command) (names_now n) ++ media_source media)
-    c.as_slice-2.ensures.value)
-    (c.in-Ok.ensures ∙ ap (λ n. c.args.name.now ∷ names_now n) c.as_slice.ensures.value)
-    c.in-Ok-read_sources.ensures.given
-    (rw c.as_slice-in-Ok-read_sources.ensures.value at (c.judged_several.ensures.told media))
+    let slice = c.as_slice-3.result.now in
+    let front = map input_source slice in
+    let names = names_now c.in-Ok.names.items in
+    let named : names ≡ c.args.name.now ∷ (other_names c.args.others).more =
+    c.in-Ok.ensures ∙ ap (λ n. c.args.name.now ∷ names_now n) c.as_slice.ensures.value in
+    let same : front ++ media_source media ≡ map (input_named c.args.command) names ++ media_source media =
+    ap (λ (l : List Source). l ++ media_source media)
+    (ap (map input_source) c.as_slice-3.ensures.value ∙ c.in-Ok-sources_of.ensures
+    ∙ ap (λ n. map (input_named c.args.command) (names_now n)) c.as_slice-2.ensures.value) in
+    let held = map input_content c.in-Ok-input_files.inputs.items in
+    several_given c.args.command c.args.name.now (other_names c.args.others) target (front ++ media_source media) names
+    (held ++ media_content c.in-Ok-media_after.rows) c.judged_several.result _ _
+    c.requires.several c.requires.scripted same named
+    (c.in-Ok-media_after.ensures.given front held _ c.in-Ok-input_files.ensures.given)
+    (rw c.as_slice-in-Ok-media_after.ensures.value at (c.judged_several.ensures.told media))
+    c.judged_several.ensures.desk
+
+pub returns-in-Ok-input_files-clause-given : goal.returns-in-Ok-input_files-clause-given
+returns-in-Ok-input_files-clause-given g c = λ target.
+    let media = text_at c.args.others.media in
+    let slice = c.as_slice-3.result.now in
+    let front = map input_source slice in
+    let names = names_now c.in-Ok.names.items in
+    let named : names ≡ c.args.name.now ∷ (other_names c.args.others).more =
+    c.in-Ok.ensures ∙ ap (λ n. c.args.name.now ∷ names_now n) c.as_slice.ensures.value in
+    let same : front ++ media_source media ≡ map (input_named c.args.command) names ++ media_source media =
+    ap (λ (l : List Source). l ++ media_source media)
+    (ap (map input_source) c.as_slice-3.ensures.value ∙ c.in-Ok-sources_of.ensures
+    ∙ ap (λ n. map (input_named c.args.command) (names_now n)) c.as_slice-2.ensures.value) in
+    let held = map input_content c.in-Ok-input_files.inputs.items in
+    several_unread_given c.args.command c.args.name.now (other_names c.args.others) target (front ++ media_source media) names
+    c.in-Err-media_after.stop _ _ c.requires.several c.requires.scripted same named
+    (c.in-Err-media_after.ensures.given front held _ c.in-Ok-input_files.ensures.given)
 
 pub returns-clause-given : goal.returns-clause-given
 returns-clause-given g c = λ target.
     let media = text_at c.args.others.media in
-    several_unread_given c.args.command c.args.name.now (other_names c.args.others) target
-    (map source_of c.as_slice-3.result.now) (names_now c.in-Ok.names.items) c.in-Err.stop _ _
-    c.requires.several c.requires.scripted
-    (ap (map source_of) c.as_slice-3.ensures.value ∙ c.in-Ok-sources_of.ensures
-    ∙ ap (λ n. map (input_named c.args.command) (names_now n) ++ media_source media)
-    c.as_slice-2.ensures.value)
-    (c.in-Ok.ensures ∙ ap (λ n. c.args.name.now ∷ names_now n) c.as_slice.ensures.value)
-    c.in-Err.ensures.given
+    let slice = c.as_slice-3.result.now in
+    let front = map input_source slice in
+    let names = names_now c.in-Ok.names.items in
+    let named : names ≡ c.args.name.now ∷ (other_names c.args.others).more =
+    c.in-Ok.ensures ∙ ap (λ n. c.args.name.now ∷ names_now n) c.as_slice.ensures.value in
+    let same : front ++ media_source media ≡ map (input_named c.args.command) names ++ media_source media =
+    ap (λ (l : List Source). l ++ media_source media)
+    (ap (map input_source) c.as_slice-3.ensures.value ∙ c.in-Ok-sources_of.ensures
+    ∙ ap (λ n. map (input_named c.args.command) (names_now n)) c.as_slice-2.ensures.value) in
+    several_unread_given c.args.command c.args.name.now (other_names c.args.others) target (front ++ media_source media) names
+    c.in-Err.stop _ _ c.requires.several c.requires.scripted same named
+    (unread_before front (media_source media) c.in-Err.stop.name.now c.in-Err.stop.fault _ _
+    c.in-Err.ensures.given)
+
+pub returns-in-Ok-media_after-clause-followed : goal.returns-in-Ok-media_after-clause-followed
+returns-in-Ok-media_after-clause-followed g c =
+    follows_then _ _ _ _ _ _ c.in-Ok-input_files.ensures.followed
+    c.in-Ok-media_after.ensures.followed
+
+pub returns-in-Ok-input_files-clause-followed : goal.returns-in-Ok-input_files-clause-followed
+returns-in-Ok-input_files-clause-followed g c =
+    follows_then _ _ _ _ _ _ c.in-Ok-input_files.ensures.followed
+    c.in-Err-media_after.ensures.followed

@@ -1,5 +1,5 @@
+use Rattle.source_files.specs.Reading.{read_as}
 use Rattle.std.proofs.Common.{ap}
-use Rattle.otio_tools.specs.Asked.{read_as}
 use Rattle.otio_tools.proofs.SeveralFiles.{sources_next}
 use Rattle.otio_tools.proofs.cat_and_tool.sources_of.Goals as goal
 

@@ -1,27 +1,12 @@
 use Rattle.command_words.specs.Asked.{other_names}
-use Rattle.otio_tools.proofs.RunEnds.{carried, carried_still, carried_calm, never_usage}
+use Rattle.otio_tools.proofs.RunEnds.{carried_still, carried_calm, never_usage}
 use Rattle.otio_tools.proofs.Working.{leaves, untouched}
 use Rattle.std.proofs.Common.{◌∙◌}
 use Rattle.otio_tools.specs.Texts.{text_at}
 use Rattle.otio_tools.proofs.Reporting.{carried_reported}
 use Rattle.otio_tools.proofs.Serving.{served}
+use Rattle.source_files.proofs.FollowingLemmas.{follows_at_last}
 use Rattle.otio_tools.proofs.command.serve.Goals as goal
-
-pub returns-clause-ends : goal.returns-clause-ends
-returns-clause-ends g c = λ words asked.
-    let plan = c.plan-planned.ensures in
-    carried words c.args.request.command c.args.request.name.now
-    (other_names c.args.request.others) (text_at c.args.request.target) _ _ _ _ _
-    c.plan-planned.result c.carry_out.result asked (plan.told (text_at c.args.request.target))
-    plan.kind plan.cause c.carry_out.ensures.carried
-
-pub returns-clause-worked : goal.returns-clause-worked
-returns-clause-worked g c = λ words asked.
-    leaves words c.args.request.command c.args.request.name.now
-    (other_names c.args.request.others) (text_at c.args.request.target) _ _ _
-    c.plan-planned.result c.carry_out.result _ _ asked
-    (c.plan-planned.ensures.told (text_at c.args.request.target)) c.carry_out.ensures.carried
-    c.carry_out.ensures.desk
 
 pub returns-clause-unworked : goal.returns-clause-unworked
 returns-clause-unworked g c = λ other.
@@ -56,7 +41,18 @@ returns-clause-reported g c = λ words asked.
 pub returns-clause-given : goal.returns-clause-given
 returns-clause-given g c = λ words asked.
     served words c.args.request.command c.args.request.name.now
-    (other_names c.args.request.others) (text_at c.args.request.target) c.plan-planned.result _
+    (other_names c.args.request.others) (text_at c.args.request.target) _ _ c.plan-planned.result _
     c.carry_out.result _ _ asked
     (c.plan-planned.ensures.given (text_at c.args.request.target)) c.plan-planned.ensures.kind
-    c.carry_out.ensures.carried
+    c.plan-planned.ensures.cause c.carry_out.ensures.carried
+
+pub returns-clause-worked : goal.returns-clause-worked
+returns-clause-worked g c = λ words asked.
+    leaves words c.args.request.command c.args.request.name.now
+    (other_names c.args.request.others) (text_at c.args.request.target) _ c.plan-planned.result
+    c.carry_out.result _ _ _ _ asked
+    (c.plan-planned.ensures.given (text_at c.args.request.target)) c.carry_out.ensures.carried
+    c.carry_out.ensures.desk
+
+pub returns-clause-followed : goal.returns-clause-followed
+returns-clause-followed g c = follows_at_last _ _ _ _ c.plan-planned.ensures.followed

@@ -1,54 +1,73 @@
-use Rattle.std.proofs.Common.{ap}
-use Rattle.source_files.specs.declared.file_kinds.Content.TheVariants as content
-use Rattle.otio_tools.specs.Asked.{kind_of}
+use Rattle.std.proofs.Common.{◌≡◌, ◌∷◌, Ok, refl}
+use Rattle.tick_time.specs.declared.rates.Rate.{Rate}
+use Rattle.command_words.specs.declared.requests.Command.TheVariants as asked
+use Rattle.source_files.specs.Contents as content
 use Rattle.otio_tools.specs.Plan.{media_content}
-use Rattle.otio_tools.proofs.PlanLemmas.{held_as, media_is, objects_as, suits_of_list}
+use Rattle.otio_tools.specs.Works.{is_noted, list_content}
+use Rattle.otio_tools.specs.declared.planning.Planned.TheVariants as planned
+use Rattle.otio_tools.proofs.WorkPlans.{counts_held, events_held, frames_held, held_for, pull_held}
 use Rattle.otio_tools.proofs.planning.judge.Goals as goal
 
-pub list_to_objects-requires : goal.list_to_objects-requires
-list_to_objects-requires c = (_, rw c.in-ListToObjects.is at c.requires.suits)
+pub returns-in-Json-clause-owed : goal.returns-in-Json-clause-owed
+returns-in-Json-clause-owed c = λ command file more is.
+    let k : command ≡ asked.ToJson = rw c.in-Json.is at is in
+    rw c.in-Json.is (held_for command asked.ToJson file more
+    (content.Value c.in-Json.value ∷ media_content c.args.media)
+    (Ok (planned.Value c.in-Json.value)) k (λ target. refl))
 
-pub returns-in-TimelineToList-clause-owed : goal.returns-in-TimelineToList-clause-owed
-returns-in-TimelineToList-clause-owed c = λ file more.
-    held_as c.args.command _ c.args.content (content.Film c.timeline_in.result)
-    (media_content c.args.media) file more c.timeline_to_list.result
-    c.in-TimelineToList.is c.timeline_in.ensures
-    (rw (media_is c.args.media) (c.timeline_to_list.ensures.owed file.name))
+pub returns-in-Root-clause-owed : goal.returns-in-Root-clause-owed
+returns-in-Root-clause-owed c = λ command file more is.
+    let k : command ≡ asked.ToObjects c.in-Root.older = rw c.in-Root.is at is in
+    rw c.in-Root.is (held_for command (asked.ToObjects c.in-Root.older) file more
+    (content.Root c.in-Root.object ∷ media_content c.args.media) c.object_to_write.result k
+    (c.object_to_write.ensures.owed file.name))
 
-pub returns-in-ListToObjects-clause-owed : goal.returns-in-ListToObjects-clause-owed
-returns-in-ListToObjects-clause-owed c = λ file more.
-    objects_as c.args.command _ _ _ c.args.content (media_content c.args.media) file more
-    c.list_to_objects.result c.in-ListToObjects.is c.list_to_objects.ensures.owed
+pub returns-in-Log-clause-owed : goal.returns-in-Log-clause-owed
+returns-in-Log-clause-owed c = λ command file more is.
+    let k : command ≡ asked.LogToMedia = rw c.in-Log.is at is in
+    rw c.in-Log.is (held_for command asked.LogToMedia file more
+    (content.Rows c.in-Log.rows ∷ media_content c.args.media)
+    (Ok (planned.Media c.in-Log.rows)) k (λ target. refl))
 
-pub list_in-requires : goal.list_in-requires
-list_in-requires c =
-    suits_of_list _ _ c.args.content (ap kind_of c.in-ListFrames.is) c.requires.suits
+pub returns-in-List-clause-owed : goal.returns-in-List-clause-owed
+returns-in-List-clause-owed c = λ command file more is.
+    let made = c.in-List in
+    let k : (rate : Rate) × (command ≡ asked.ListToList rate made.drop made.wide (is_noted made.list)) =
+    rw made.is at is in
+    rw made.is (held_for command (asked.ListToList k.0 made.drop made.wide (is_noted made.list)) file more
+    (list_content made.list ∷ media_content c.args.media) c.list_again.result k.1
+    (c.list_again.ensures.owed k.0 file more (media_content c.args.media)))
 
-pub returns-in-ListFrames-clause-owed : goal.returns-in-ListFrames-clause-owed
-returns-in-ListFrames-clause-owed c = λ file more.
-    held_as c.args.command _ c.args.content (content.Events c.list_in.result)
-    (media_content c.args.media) file more c.conformed_frames_to_write.result
-    c.in-ListFrames.is c.list_in.ensures
-    (rw (media_is c.args.media) (c.conformed_frames_to_write.ensures.owed file.name))
+pub returns-in-Conform-clause-owed : goal.returns-in-Conform-clause-owed
+returns-in-Conform-clause-owed c = λ command file more is.
+    let made = c.in-Conform in
+    let k : (rate : Rate) × (command ≡ asked.ListToObjects rate made.older (is_noted made.list)) =
+    rw made.is at is in
+    rw made.is (held_for command (asked.ListToObjects k.0 made.older (is_noted made.list)) file more
+    (list_content made.list ∷ media_content c.args.media) c.list_to_objects.result k.1
+    (c.list_to_objects.ensures.owed k.0 file more))
 
-pub returns-in-ListStat-clause-owed : goal.returns-in-ListStat-clause-owed
-returns-in-ListStat-clause-owed c = λ file more.
-    held_as c.args.command _ c.args.content (content.Events c.list_in-in-ListStat.result)
-    (media_content c.args.media) file more c.conformed_counts_to_write.result
-    c.in-ListStat.is c.list_in-in-ListStat.ensures
-    (rw (media_is c.args.media) (c.conformed_counts_to_write.ensures.owed file.name))
+pub returns-in-Events-clause-owed : goal.returns-in-Events-clause-owed
+returns-in-Events-clause-owed c = λ command file more is.
+    let ways = c.in-Events.ways in
+    let k : command ≡ asked.TimelineToList ways.drop ways.wide ways.notes =
+    rw c.in-Events.is at is in
+    rw c.in-Events.is (held_for command (asked.TimelineToList ways.drop ways.wide ways.notes) file
+    more (content.Film c.in-Events.timeline ∷ media_content c.args.media)
+    c.timeline_to_list.result k (events_held ways.drop ways.wide ways.notes c.in-Events.timeline
+    c.args.media file more c.timeline_to_list.result (c.timeline_to_list.ensures.owed file.name)))
 
-pub conformed_pull_to_write-requires-clause-handles
-    : goal.conformed_pull_to_write-requires-clause-handles
-conformed_pull_to_write-requires-clause-handles c = rw c.in-ListPull.is at c.requires.handles
+pub returns-in-Frames-clause-owed : goal.returns-in-Frames-clause-owed
+returns-in-Frames-clause-owed c = λ command file more is.
+    rw c.in-Frames.is (frames_held command c.in-Frames.input c.in-Frames.asked c.args.media file more
+    c.frames_of.result (rw c.in-Frames.is at is) (c.frames_of.ensures.owed file.name))
 
-pub returns-in-ListPull-clause-owed : goal.returns-in-ListPull-clause-owed
-returns-in-ListPull-clause-owed c = λ file more.
-    held_as c.args.command _ c.args.content (content.Events c.list_in-in-ListPull.result)
-    (media_content c.args.media) file more c.conformed_pull_to_write.result
-    c.in-ListPull.is c.list_in-in-ListPull.ensures
-    (rw (media_is c.args.media) (c.conformed_pull_to_write.ensures.owed file.name))
+pub returns-in-Stat-clause-owed : goal.returns-in-Stat-clause-owed
+returns-in-Stat-clause-owed c = λ command file more is.
+    rw c.in-Stat.is (counts_held command c.in-Stat.input c.args.media file more c.counts_of.result
+    (rw c.in-Stat.is at is) (c.counts_of.ensures.owed file.name))
 
-pub returns-in_default-clause-owed : goal.returns-in_default-clause-owed
-returns-in_default-clause-owed c = λ file more.
-    c.judge_alone.ensures.owed file more (media_content c.args.media)
+pub returns-in-Pull-clause-owed : goal.returns-in-Pull-clause-owed
+returns-in-Pull-clause-owed c = λ command file more is.
+    rw c.in-Pull.is (pull_held command c.in-Pull.input c.in-Pull.handles c.args.media file more
+    c.pull_of.result (rw c.in-Pull.is at is) (c.pull_of.ensures.owed file.name))

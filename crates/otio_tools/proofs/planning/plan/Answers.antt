@@ -1,7 +1,5 @@
 use Rattle.std.proofs.Common.{subst, sym}
-use Rattle.dev_io.specs.Calls.{Tells}
 use Rattle.command_words.specs.Asked.{other_names}
-use Rattle.otio_tools.specs.Plan.{Plans}
 use Rattle.otio_tools.specs.Served.{PlansGiven}
 use Rattle.source_files.specs.HandedFiles.{HandsOver}
 use Rattle.otio_tools.proofs.SeveralFiles.{asked_as}
@@ -10,13 +8,6 @@ use Rattle.source_files.specs.Order.{IsAmong}
 use Rattle.source_files.specs.Reading.{names_of}
 use Rattle.otio_tools.specs.Asked.{Asked}
 use Rattle.otio_tools.proofs.planning.plan.Goals as goal
-
-pub returns-else-takes_several-clause-told : goal.returns-else-takes_several-clause-told
-returns-else-takes_several-clause-told g c = λ target.
-    subst (λ a. Tells (Plans a c.plan_alone.result) (g.F.Files.known c.args.files.now)
-    (g.F.Files.known c.plan_alone.new.files))
-    (asked_as c.args.command c.args.name.now (other_names c.args.others) target
-    (sym c.if-takes_several.ensures)) (c.plan_alone.ensures.told target)
 
 pub returns-else-takes_several-clause-named : goal.returns-else-takes_several-clause-named
 returns-else-takes_several-clause-named g c =

@@ -1,11 +1,10 @@
 -- What was fed so far was taken from the file in hand.
 use Rattle.std.proofs.Common.{◌≡◌, ◌+◌, ◌-◌, ℕ, List, length}
-use Rattle.dev_io.specs.Calls.{Tells}
 use Rattle.json_text.specs.Reader.{HasRead}
 use Rattle.source_files.specs.declared.json.TheConstants.{MOST}
 use Rattle.source_files.specs.Formats.{IsCalmJson}
+use Rattle.source_files.specs.Following.{Follows}
 use Rattle.source_files.specs.HandedFiles.{HandsOver, Took}
-use Rattle.source_files.proofs.Taking.{Takes, SameFiles}
 use Rattle.source_files.proofs.json.read_json.Given as goal
 
 abbrev pub invariant-pieces : goal.invariant-pieces
@@ -13,9 +12,9 @@ invariant-pieces g l =
     let files = g.F.Files in
     record {
       fed : (bytes : List ℕ) × HasRead bytes l.reader × (length bytes ≡ l.taken)
-          × Tells (Takes bytes) (files.known l.fn.files) (files.known l.files)
           × HandsOver (Took IsCalmJson bytes) (files.handed l.fn.files) (files.handed l.files);
-      same : Tells SameFiles (files.known l.fn.files) (files.known l.files);
+      followed : Follows (files.known l.fn.files) (files.known l.files)
+          (files.handed l.fn.files) (files.handed l.files);
       calm : files.faults l.files ≡ files.faults l.fn.files;
     }
 

@@ -1,11 +1,10 @@
 -- What was fed so far was taken from the file in hand.
 use Rattle.std.proofs.Common.{◌≡◌, ◌+◌, ◌-◌, ◌≤◌, ℕ, List, length}
-use Rattle.dev_io.specs.Calls.{Tells}
 use Rattle.edl_text.specs.Reader.{HasRead}
 use Rattle.source_files.specs.declared.lists.TheConstants.{MOST}
 use Rattle.source_files.specs.Formats.{IsCalmList}
+use Rattle.source_files.specs.Following.{Follows}
 use Rattle.source_files.specs.HandedFiles.{HandsOver, Took}
-use Rattle.source_files.proofs.Taking.{Takes, SameFiles}
 use Rattle.source_files.proofs.lists.read_list.Given as goal
 
 abbrev pub invariant-pieces : goal.invariant-pieces
@@ -13,11 +12,11 @@ invariant-pieces g l =
     let files = g.F.Files in
     record {
       fed : (bytes : List ℕ) × HasRead l.fn.rate bytes l.reader × (length bytes ≡ l.taken)
-          × (length bytes ≤ MOST) × Tells (Takes bytes) (files.known l.fn.files)
-          (files.known l.files)
+          × (length bytes ≤ MOST)
           × HandsOver (Took (IsCalmList l.fn.rate) bytes) (files.handed l.fn.files)
           (files.handed l.files);
-      same : Tells SameFiles (files.known l.fn.files) (files.known l.files);
+      followed : Follows (files.known l.fn.files) (files.known l.files)
+          (files.handed l.fn.files) (files.handed l.files);
       calm : files.faults l.files ≡ files.faults l.fn.files;
     }
 

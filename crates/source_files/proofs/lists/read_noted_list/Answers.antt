@@ -5,9 +5,8 @@ use Rattle.edl_list.specs.declared.list.EventList.{EventList}
 use Rattle.note_text.specs.declared.notes.Note.{Note}
 use Rattle.dev_io.specs.declared.files.Failed.{Failed as FailedCall}
 use Rattle.source_files.specs.Formats.{IsNotedList, RefusesList, IsCalmList}
-use Rattle.source_files.proofs.Taking.{took_nothing, same_at_first, takes_more, takes_all, same_more}
+use Rattle.source_files.proofs.FollowingLemmas.{follows_none, follows_gave, follows_broke}
 use Rattle.source_files.proofs.HandedLemmas.{took_none, took_more, ended, broken, early}
-use Rattle.source_files.proofs.Handing.{judged, refused, failed}
 use Rattle.source_files.proofs.ListLemmas.{front_refused, read_is_calm}
 use Rattle.source_files.proofs.lists.read_noted_list.Goals as goal
 
@@ -19,10 +18,9 @@ pieces-init g c = record {
     c.new-listener.ensures,
     refl,
     omega arith,
-    took_nothing _,
     took_none (IsCalmList c.args.rate) _,
   );
-  same = same_at_first _;
+  followed = follows_none _ _;
   calm = refl;
 }
 
@@ -38,26 +36,14 @@ pieces-preserved g c =
         c.in-Ok-feed_both.ensures.heard c.args.rate i.fed.0 i.fed.2,
         grind (arith, common_steps),
         (c.in-Ok-feed_both.ensures.live c.args.rate i.fed.0 i.fed.1).0,
-        takes_more FailedCall i.fed.0 _ _ _ n buf i.fed.5 c.in-Ok.ensures.told,
         took_more FailedCall (IsCalmList c.args.rate) i.fed.0 _ _ _ n buf
             (read_is_calm c.args.rate i.fed.0 _ i.fed.1 i.fed.4) c.in-Ok.count-test.1
-            c.in-Ok.ensures.bound.0 (omega arith) i.fed.6 c.in-Ok.ensures.handed,
+            c.in-Ok.ensures.bound.0 (omega arith) i.fed.5 c.in-Ok.ensures.handed,
       );
-      same = same_more FailedCall _ _ _ (Ok n) buf i.same c.in-Ok.ensures.told;
+      followed = follows_gave FailedCall c.in-Ok.count c.read.new.buf _ _ _ _ _ _ i.followed
+          c.in-Ok.ensures.bound.0 c.in-Ok.ensures.told c.in-Ok.ensures.handed;
       calm = omega (arith, c.in-Ok.ensures.cause.failed, i.calm);
     }
-
-pub returns-in-Ok-eq0-clause-told : goal.returns-in-Ok-eq0-clause-told
-returns-in-Ok-eq0-clause-told g c =
-    let i = c.pieces.invariant in
-    let rate = c.args.rate in
-    let told = rw c.in-Ok-eq0.field-0-test at c.in-Ok-eq0.ensures.told in
-    judged (λ bytes read. IsNotedList rate bytes read.0 read.1) (RefusesList rate)
-    (IsCalmList rate) i.fed.0 _ _ c.noted_of.result
-    (same_more FailedCall _ _ _ (Ok c.in-Ok-eq0.field-0) c.read.new.buf i.same
-    c.in-Ok-eq0.ensures.told)
-    (takes_all FailedCall i.fed.0 _ _ _ c.read.new.buf i.fed.5 told)
-    (c.noted_of.ensures.read rate i.fed.0 i.fed.1 i.fed.2)
 
 pub returns-in-Ok-eq0-clause-suits : goal.returns-in-Ok-eq0-clause-suits
 returns-in-Ok-eq0-clause-suits g c =
@@ -68,28 +54,6 @@ pub noted_of-requires : goal.noted_of-requires
 noted_of-requires g c =
     let i = c.pieces.invariant in (c.args.rate, i.fed.0, i.fed.1)
 
-pub returns-in-Err-clause-told : goal.returns-in-Err-clause-told
-returns-in-Err-clause-told g c =
-    let i = c.pieces.invariant in
-    let rate = c.args.rate in
-    failed (EventList × Sequence Note) (λ bytes read. IsNotedList rate bytes read.0 read.1)
-    (RefusesList rate) (IsCalmList rate) i.fed.0 _ _ _
-    (read_is_calm rate i.fed.0 _ i.fed.1 i.fed.4) i.same i.fed.5 c.in-Err.ensures.told
-
-pub returns-in-Err-feed_both-clause-told : goal.returns-in-Err-feed_both-clause-told
-returns-in-Err-feed_both-clause-told g c =
-    let i = c.pieces.invariant in
-    let rate = c.args.rate in
-    let buf = c.read.new.buf in
-    let n = c.in-Ok.count in
-    refused (EventList × Sequence Note) (λ bytes read. IsNotedList rate bytes read.0 read.1)
-    (RefusesList rate) (IsCalmList rate) (i.fed.0 ++ take n buf) _ _ c.list_refusal-refusal.result
-    (same_more FailedCall _ _ _ (Ok n) buf i.same c.in-Ok.ensures.told)
-    (takes_more FailedCall i.fed.0 _ _ _ n buf i.fed.5 c.in-Ok.ensures.told)
-    (λ rest. front_refused rate c.in-Err-feed_both.fault (i.fed.0
-    ++ take n buf) rest c.list_refusal-refusal.result
-    (c.in-Err-feed_both.ensures.fault rate i.fed.0 i.fed.1) c.list_refusal-refusal.ensures)
-
 pub returns-in-Ok-eq0-clause-given : goal.returns-in-Ok-eq0-clause-given
 returns-in-Ok-eq0-clause-given g c =
     let i = c.pieces.invariant in
@@ -97,7 +61,7 @@ returns-in-Ok-eq0-clause-given g c =
     let handed = rw c.in-Ok-eq0.field-0-test at c.in-Ok-eq0.ensures.handed in
     ended (λ bytes read. IsNotedList rate bytes read.0 read.1) (RefusesList rate)
     (IsCalmList rate) i.fed.0 _ _ _ c.noted_of.result
-    (read_is_calm rate i.fed.0 _ i.fed.1 i.fed.4) i.fed.6 handed
+    (read_is_calm rate i.fed.0 _ i.fed.1 i.fed.4) i.fed.5 handed
     (c.noted_of.ensures.read rate i.fed.0 i.fed.1 i.fed.2)
 
 pub returns-in-Err-clause-given : goal.returns-in-Err-clause-given
@@ -106,7 +70,7 @@ returns-in-Err-clause-given g c =
     let rate = c.args.rate in
     broken (EventList × Sequence Note) (λ bytes read. IsNotedList rate bytes read.0 read.1)
     (RefusesList rate) (IsCalmList rate) i.fed.0 _ _ _
-    (read_is_calm rate i.fed.0 _ i.fed.1 i.fed.4) i.fed.6 c.in-Err.ensures.handed
+    (read_is_calm rate i.fed.0 _ i.fed.1 i.fed.4) i.fed.5 c.in-Err.ensures.handed
 
 pub returns-in-Err-feed_both-clause-given : goal.returns-in-Err-feed_both-clause-given
 returns-in-Err-feed_both-clause-given g c =
@@ -119,7 +83,24 @@ returns-in-Err-feed_both-clause-given g c =
     c.list_refusal-refusal.result
     (took_more FailedCall (IsCalmList rate) i.fed.0 _ _ _ n buf
     (read_is_calm rate i.fed.0 _ i.fed.1 i.fed.4) c.in-Ok.count-test.1 c.in-Ok.ensures.bound.0 (omega arith)
-    i.fed.6 c.in-Ok.ensures.handed)
+    i.fed.5 c.in-Ok.ensures.handed)
     (λ rest. front_refused rate c.in-Err-feed_both.fault (i.fed.0 ++ take n buf) rest
     c.list_refusal-refusal.result (c.in-Err-feed_both.ensures.fault rate i.fed.0 i.fed.1)
     c.list_refusal-refusal.ensures)
+
+pub returns-in-Ok-eq0-clause-followed : goal.returns-in-Ok-eq0-clause-followed
+returns-in-Ok-eq0-clause-followed g c =
+    let i = c.pieces.invariant in
+    follows_gave FailedCall c.in-Ok-eq0.field-0 c.read.new.buf _ _ _ _ _ _ i.followed
+    c.in-Ok-eq0.ensures.bound.0 c.in-Ok-eq0.ensures.told c.in-Ok-eq0.ensures.handed
+
+pub returns-in-Err-feed_both-clause-followed : goal.returns-in-Err-feed_both-clause-followed
+returns-in-Err-feed_both-clause-followed g c =
+    let i = c.pieces.invariant in
+    follows_gave FailedCall c.in-Ok.count c.read.new.buf _ _ _ _ _ _ i.followed
+    c.in-Ok.ensures.bound.0 c.in-Ok.ensures.told c.in-Ok.ensures.handed
+
+pub returns-in-Err-clause-followed : goal.returns-in-Err-clause-followed
+returns-in-Err-clause-followed g c =
+    let i = c.pieces.invariant in
+    follows_broke _ _ _ _ _ _ i.followed c.in-Err.ensures.told c.in-Err.ensures.handed

@@ -4,7 +4,6 @@ use Rattle.json_law.proofs.UpgradedTwice.{read_stays}
 use Rattle.otio_model.specs.declared.objects.Object.{Object}
 use Rattle.json_value.specs.declared.Json.{Json}
 use Rattle.source_files.specs.Formats.{IsJson, IsObject, IsCalmJson, RefusesJson, RefusesObject}
-use Rattle.source_files.proofs.Handing.{judged_further, fault_further}
 use Rattle.source_files.proofs.HandedLemmas.{given_further, given_narrower}
 use Rattle.schema_up.specs.Upgrades.{upgraded}
 use Rattle.source_files.proofs.ObjectLemmas.{object_judged, stands_for}
@@ -15,20 +14,6 @@ object_in-requires g c = record {
   numerals =
       upgraded_numerals c.in-Ok.ensures.text.0 c.in-Ok.value c.in-Ok.ensures.text.1;
 }
-
-pub returns-in-Ok-clause-told : goal.returns-in-Ok-clause-told
-returns-in-Ok-clause-told g c =
-    judged_further IsJson RefusesJson IsCalmJson IsObject RefusesObject _ _ c.in-Ok.value
-    c.object_in.result
-    (λ bytes is. object_judged c.in-Ok.value c.object_in.result bytes c.object_in.ensures.stands
-    c.object_in.ensures.few is)
-    c.in-Ok.ensures.told
-
-pub returns-in-Err-clause-told : goal.returns-in-Err-clause-told
-returns-in-Err-clause-told g c =
-    fault_further Json Object IsJson RefusesJson IsCalmJson IsObject RefusesObject _ _
-    c.in-Err.fault (λ bytes why r. inl r)
-    c.in-Err.ensures.told
 
 pub returns-in-Ok-clause-stands : goal.returns-in-Ok-clause-stands
 returns-in-Ok-clause-stands g c =

@@ -1,20 +1,19 @@
 -- What was gathered so far was taken from the file in hand.
 use Rattle.std.proofs.Common.{◌≡◌, ◌+◌, ◌-◌, length}
-use Rattle.dev_io.specs.Calls.{Tells}
 use Rattle.source_files.specs.declared.scripts.TheConstants.{MOST}
 use Rattle.source_files.specs.Formats.{IsCalmScript}
+use Rattle.source_files.specs.Following.{Follows}
 use Rattle.source_files.specs.HandedFiles.{HandsOver, Took}
-use Rattle.source_files.proofs.Taking.{Takes, SameFiles}
 use Rattle.source_files.proofs.scripts.read_commands.Given as goal
 
 abbrev pub invariant-pieces : goal.invariant-pieces
 invariant-pieces g l =
     let files = g.F.Files in
     record {
-      fed : Tells (Takes l.bytes.items) (files.known l.fn.files) (files.known l.files);
       given : HandsOver (Took IsCalmScript l.bytes.items) (files.handed l.fn.files)
           (files.handed l.files);
-      same : Tells SameFiles (files.known l.fn.files) (files.known l.files);
+      followed : Follows (files.known l.fn.files) (files.known l.files)
+          (files.handed l.fn.files) (files.handed l.files);
       calm : files.faults l.files ≡ files.faults l.fn.files;
     }
 
