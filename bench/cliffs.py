@@ -116,7 +116,7 @@ def dark_stack(size):
 
 def nested_tracks(size):
     tracks = [track([clip(index, '', 100 * size)]) for index in range(49 * size)]
-    lines = numbered(10 * size, lambda index: f'overwrite 0/0/0 {index % (90 * size)} gap 1')
+    lines = numbered(10 * size, lambda index: f'overwrite 0/0/0 {index % size} gap 1')
     return edited(timeline([track([stack(tracks)])]), lines)
 
 

@@ -51,20 +51,45 @@ def nested(size):
     return '[' + ','.join([lists] * max(1, size // (len(lists) + 1))) + ']'
 
 
-def strings(size, text):
-    """A list of strings; `text` makes the next one."""
+def items(size, item):
+    """A list of this size; `item` makes the next item."""
     parts, length = [], 0
     while length < size:
-        parts.append('"' + text() + '"')
+        parts.append(item())
         length += len(parts[-1].encode('utf-8')) + 1
     return '[' + ','.join(parts) + ']'
+
+
+def strings(size, text):
+    """A list of strings; `text` makes the next one."""
+    return items(size, lambda: '"' + text() + '"')
+
+
+def word(chance, least, most):
+    return ''.join(chance.choice('abcdefghijklmnopqrstuvwxyz') for _ in range(chance.randrange(least, most + 1)))
+
+
+def small_objects(size):
+    chance = random.Random(11)
+    return items(size, lambda: f'{{"a":{chance.randrange(1000)},"b":"{word(chance, 1, 5)}"}}')
+
+
+def short_strings(size):
+    chance = random.Random(12)
+    return strings(size, lambda: word(chance, 3, 12))
+
+
+def dense(size):
+    """Strings of 8 to 39 escapes and nothing else."""
+    chance = random.Random(13)
+    return strings(size, lambda: ''.join(chance.choice(ESCAPES) for _ in range(chance.randrange(8, 40))))
 
 
 def escaped(size):
     """Strings of 4 to 12 words of up to 6 letters, an escape behind each."""
     chance = random.Random(5)
-    word = lambda: 'abcdef'[: chance.randrange(7)] + chance.choice(ESCAPES)
-    return strings(size, lambda: ''.join(word() for _ in range(chance.randrange(4, 13))))
+    part = lambda: 'abcdef'[: chance.randrange(7)] + chance.choice(ESCAPES)
+    return strings(size, lambda: ''.join(part() for _ in range(chance.randrange(4, 13))))
 
 
 def foreign(size):
@@ -141,6 +166,7 @@ def written(folder, name, text):
 
 JSON = [
     ('compact', compact, 27_000_000), ('pretty', pretty, 27_000_000), ('lists nested 126 deep', nested, 33_500_000), ('strings with escapes', escaped, 27_000_000),
+    ('escapes alone', dense, 27_000_000), ('small objects', small_objects, 27_000_000), ('short strings', short_strings, 27_000_000),
     ('remarks of editors', remarks, 27_000_000), ('strings that are not ASCII', foreign, 27_000_000), ('a million names in random order', names, 33_000_000),
     ('one string', one_string, LIMIT),
 ]

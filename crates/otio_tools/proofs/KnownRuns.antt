@@ -81,8 +81,15 @@ sent_known words before now d answer Output old new a r s = record {
   message = s.3;
 }
 sent_known words before now d answer Memory old new a r s = (
-  inr (record { frames = s.1; answer = answer; owed = a; status = s.0; output = s.2 }),
-  s.3,
+  inr (record {
+    frames = s.1;
+    answer = answer;
+    owed = a;
+    status = s.0;
+    mixed = s.2;
+    output = s.3;
+  }),
+  s.4,
 )
 
 ends_by : (words : List (List ℕ)) (before now : ℕ) (d : Streams) (result : Status)

@@ -3,7 +3,7 @@ use Rattle.std.proofs.Common.{◌≡◌, ◌≢◌, ℕ, List, [], Some, None, R
 use Rattle.std.specs.declared.option.Option.{Option}
 use Rattle.dev_io.specs.Known.{KnownOut}
 use Rattle.dev_io.specs.Calls.{Tells, Adds, AddsPrefix, SendsAll, Aims}
-use Rattle.dev_io.specs.OutputCauses.{IsOutputCause}
+use Rattle.dev_io.specs.OutputCauses.{HasOutputCause, IsOutputCause}
 use Rattle.dev_io.specs.declared.output_faults.OutputFault.{OutputFault}
 use Rattle.dev_io.specs.declared.output_faults.OutputFault.TheVariants.{Sink, Memory as NoMemory}
 use Rattle.source_files.specs.Reading.{RaisedAt, RaisedBy}
@@ -16,11 +16,12 @@ use Rattle.command_words.specs.declared.faults.WordsFault.{WordsFault}
 use Rattle.command_words.specs.declared.requests.Command.{Command}
 use Rattle.command_words.proofs.Asking.{ask_once}
 use Rattle.otio_tools.specs.Asked.{Asked, Asks, ListsFrames, asked_for}
-use Rattle.otio_tools.specs.Run.{Streams, SendsNothing, Directs, Message, AsksFrames, KeepsStill}
-use Rattle.otio_tools.specs.Plan.{AreRows, IsFor, Carries, Complains, Writes, WritesTo, text_planned, status_unsent, message_unsent}
+use Rattle.otio_tools.specs.Run.{Streams, SendsNothing, Directs, HasMixedRows, Message, AsksFrames, KeepsStill}
+use Rattle.otio_tools.specs.Plan.{AreMixedRows, AreRows, IsFor, Carries, Complains, Writes, WritesTo, text_planned, status_unsent, message_unsent}
 use Rattle.otio_tools.specs.declared.Status.{Status}
 use Rattle.otio_tools.specs.declared.Status.TheVariants.{Done, Usage, Refused, Input, Output, Memory}
 use Rattle.otio_tools.specs.declared.planning.Planned.{Planned}
+use Rattle.otio_tools.specs.declared.planning.Planned.TheVariants.{Events, Noted, Value, Root, OldRoot, Rows, Edited, Listed, Text, Media}
 
 -- sending nothing sends no bytes
 pub nothing_added : (a b : Option KnownOut) → Tells SendsNothing a b → Tells (Directs None []) a b
@@ -78,6 +79,41 @@ pub asks_nothing : (words : List (List ℕ)) (why : WordsFault) → why ≡ Word
     → NoRequest words why → AskNothing words
 asks_nothing words why e h = subst (NoRequest words) e h
 
+-- rows that show a mix are rows
+pub mixed_rows : (planned : Planned) → AreMixedRows planned → AreRows planned
+mixed_rows (Events list drop wide) m = m
+mixed_rows (Noted list notes drop wide) m = m
+mixed_rows (Value value) m = m
+mixed_rows (Root object) m = m
+mixed_rows (OldRoot object) m = m
+mixed_rows (Rows timeline listing) m = tt
+mixed_rows (Edited desk) m = m
+mixed_rows (Listed timeline asked) m = m
+mixed_rows (Text text) m = m
+mixed_rows (Media list) m = m
+
+-- so is the text of them
+pub rows_mixed : (planned : Planned) → AreMixedRows planned → HasMixedRows (text_planned planned)
+rows_mixed (Events list drop wide) m = absurd m
+rows_mixed (Noted list notes drop wide) m = absurd m
+rows_mixed (Value value) m = absurd m
+rows_mixed (Root object) m = absurd m
+rows_mixed (OldRoot object) m = absurd m
+rows_mixed (Rows timeline listing) m =
+    record { timeline = timeline; listing = listing; is = refl; mix = m }
+rows_mixed (Edited desk) m = absurd m
+rows_mixed (Listed timeline asked) m = absurd m
+rows_mixed (Text text) m = absurd m
+rows_mixed (Media list) m = absurd m
+
+-- memory runs out over rows only where one of them shows a mix
+pub mixed_cause : (may : Type 0) (before now : ℕ) (result : Result (Unit {0}) OutputFault)
+    → HasOutputCause (Unit {0}) before now result → (result ≡ Err NoMemory → may)
+    → HasOutputCause may before now result
+mixed_cause may before now (Ok u) h m = record { later = h.later; failed = tt }
+mixed_cause may before now (Err Sink) h m = record { later = h.later; failed = h.failed }
+mixed_cause may before now (Err NoMemory) h m = record { later = h.later; failed = m refl }
+
 fault_calm : (name : List ℕ) (before now : ℕ) (d : Streams) (why : ReadFault) (status : Status)
     → RaisedBy why before now
     → Complains name why d status → status ≢ Input → now ≡ before
@@ -117,7 +153,7 @@ carried_still words command name others target d (Ok planned) Usage w k c = absu
 carried_still words command name others target d (Ok planned) Refused w k c = absurd c
 carried_still words command name others target d (Ok planned) Input w k c = absurd c
 carried_still words command name others target d (Ok planned) Memory w k c =
-    inr (asks_frames words command name others target w (k c.0))
+    inr (asks_frames words command name others target w (k (mixed_rows planned c.0)))
 carried_still words command name others target d (Err stop) status w k c =
     (fault_still words stop.name.now d stop.fault status c).1
 
@@ -167,7 +203,7 @@ unwritten F name text e (Some old) (Some new) a = inl a
 
 -- an output that isn't whole, and its message
 pub unsent : (target : Option (List ℕ)) (planned : Planned) (d : Streams) (fault : OutputFault)
-    (status : Status) → IsOutputCause (AreRows planned) d.out_before d.out_now fault
+    (status : Status) → IsOutputCause (AreMixedRows planned) d.out_before d.out_now fault
     → Tells (WritesTo {T = Unit {0}} target (text_planned planned) (Err fault)) d.out_old d.out_new
     → status ≡ status_unsent fault → Message (message_unsent fault) d
     → Writes target planned d status

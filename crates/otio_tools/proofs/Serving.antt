@@ -27,7 +27,7 @@ use Rattle.otio_tools.specs.declared.Status.{Status}
 use Rattle.otio_tools.specs.declared.Status.TheVariants.{Done, Usage, Refused, Input, Output, Memory}
 use Rattle.otio_tools.specs.declared.planning.Planned.{Planned}
 use Rattle.otio_tools.proofs.DrillEnds.{tallied}
-use Rattle.otio_tools.proofs.RunEnds.{asks_for, nothing_added}
+use Rattle.otio_tools.proofs.RunEnds.{asks_for, mixed_rows, nothing_added, rows_mixed}
 
 -- ---- what is planned
 
@@ -92,7 +92,7 @@ sent_by words asked before now planned d Output calls contents a g p k r c =
 sent_by words asked before now planned d Memory calls contents a g p k r c =
     Answered (done asked.target (text_planned planned))
     (AskedFiles asked a (ByContents contents g (p asked.target))) r
-    (refl, asks_frames words asked a (k c.0), c.1, c.2)
+    (refl, asks_frames words asked a (k (mixed_rows planned c.0)), rows_mixed planned c.0, c.1, c.2)
 sent_by words asked before now planned d Usage calls contents a g p k r c = absurd c
 sent_by words asked before now planned d Refused calls contents a g p k r c = absurd c
 sent_by words asked before now planned d Input calls contents a g p k r c = absurd c

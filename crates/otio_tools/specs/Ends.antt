@@ -8,7 +8,7 @@ use Rattle.source_files.specs.declared.read_faults.ReadFault.TheVariants.{Failed
 use Rattle.otio_tools.specs.Asked.{Asked, Asks}
 use Rattle.otio_tools.specs.Forms.{Answer, read_failed}
 use Rattle.otio_tools.specs.Answer.{Answers}
-use Rattle.otio_tools.specs.Run.{AsksFrames, Streams, Sends, SendsNothing, Directs, DirectsFront, DirectsPrefix, Message, OutFailed, no_memory, output_failed}
+use Rattle.otio_tools.specs.Run.{AsksFrames, HasMixedRows, Streams, Sends, SendsNothing, Directs, DirectsFront, DirectsPrefix, Message, OutFailed, no_memory, output_failed}
 use Rattle.otio_tools.specs.declared.Status.{Status}
 use Rattle.otio_tools.specs.declared.Status.TheVariants.{Done, Usage, Refused, Input, Output, Memory}
 
@@ -30,12 +30,14 @@ pub record Stops (words : List (List ℕ)) (held : Held) (d : Streams) : Type 0 
   pub output : Sends (DirectsPrefix answer.target answer.output) d
   pub message : Message output_failed d
 
--- The answer was an output, the rows of frames, and memory ran out over them: a prefix was sent.
+-- The answer was an output, the rows of frames, one of which shows a mix, and memory ran out over
+-- them: a prefix was sent.
 pub record Breaks (words : List (List ℕ)) (held : Held) (d : Streams) : Type 0 where
   pub frames : AsksFrames words
   pub answer : Answer
   pub owed : Answers words held answer
   pub status : answer.status ≡ Done
+  pub mixed : HasMixedRows answer.output
   pub output : Sends (DirectsFront answer.target answer.output) d
 
 -- Opening or reading the file of that name failed, each file before it holds what it is read as,

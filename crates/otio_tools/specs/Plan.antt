@@ -18,7 +18,7 @@ use Rattle.edit_script.specs.Runs.{Halts}
 use Rattle.edit_script.specs.declared.faults.CommandFault.{CommandFault}
 use Rattle.edit_script.specs.declared.commands.ScriptCommand as script
 use Rattle.source_files.specs.Formats.{IsOfTables, Suits}
-use Rattle.show_prog.specs.Rows.{listing_text}
+use Rattle.show_prog.specs.Rows.{ListsMix, listing_text}
 use Rattle.dev_io.specs.declared.output_faults.OutputFault.{OutputFault}
 use Rattle.dev_io.specs.declared.output_faults.OutputFault.TheVariants.{Sink, Memory as NoMemory}
 use Rattle.source_files.specs.Reasons.{reason_text}
@@ -222,12 +222,25 @@ AreRows (Listed timeline asked) = ⊥
 AreRows (Text text) = ⊥
 AreRows (Media list) = ⊥
 
+-- rows are planned, one of which shows a mix
+abbrev pub AreMixedRows : Planned → Type 0
+AreMixedRows (Events list drop wide) = ⊥
+AreMixedRows (Noted list notes drop wide) = ⊥
+AreMixedRows (Value value) = ⊥
+AreMixedRows (Root object) = ⊥
+AreMixedRows (OldRoot object) = ⊥
+AreMixedRows (Rows timeline listing) = ListsMix timeline listing
+AreMixedRows (Edited desk) = ⊥
+AreMixedRows (Listed timeline asked) = ⊥
+AreMixedRows (Text text) = ⊥
+AreMixedRows (Media list) = ⊥
+
 -- rows are planned for frames alone
 abbrev pub IsFor : Command → Planned → Type 0
 IsFor command planned = AreRows planned → ListsFrames command
 
 -- the text was sent to the target; or a prefix of it, and the stream failed; or a prefix of rows,
--- and memory ran out
+-- one of which shows a mix, and memory ran out
 abbrev pub Writes : Option (List ℕ) → Planned → Streams → Status → Type 0
 Writes target planned d status.Done = Sends (Directs target (text_planned planned)) d × Message [] d
 Writes target planned d status.Output =
@@ -236,7 +249,8 @@ Writes target planned d status.Usage = ⊥
 Writes target planned d status.Refused = ⊥
 Writes target planned d status.Input = ⊥
 Writes target planned d status.Memory =
-    AreRows planned × Sends (DirectsFront target (text_planned planned)) d × Message no_memory d
+    AreMixedRows planned × Sends (DirectsFront target (text_planned planned)) d
+    × Message no_memory d
 
 -- the same of what was sent alone
 abbrev pub WritesTo : {T : Type 0} → Option (List ℕ) → List ℕ → Result T OutputFault → KnownOut

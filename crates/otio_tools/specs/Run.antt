@@ -6,6 +6,9 @@ use Rattle.dev_io.specs.Calls.{Tells, Adds, AddsPrefix}
 use Rattle.dev_io.specs.Causes.{Rose}
 use Rattle.command_words.specs.Asked.{Ask, OtherNames}
 use Rattle.command_words.specs.declared.requests.Command.{Command}
+use Rattle.otio_model.specs.declared.timelines.Timeline.{Timeline}
+use Rattle.show_prog.specs.Rows.{ListsMix, listing_text}
+use Rattle.show_prog.specs.declared.frame_range.Listing.{Listing}
 use Rattle.otio_tools.specs.Asked.{ListsFrames}
 use Rattle.otio_tools.specs.declared.Status.{Status}
 use Rattle.otio_tools.specs.declared.Status.TheVariants.{Done, Usage, Refused, Input, Output, Memory}
@@ -85,6 +88,13 @@ pub record AsksFrames (words : List (List ℕ)) : Type 0 where
   pub others : OtherNames
   pub target : Option (List ℕ)
   pub ask : Ask words command name others target
+
+-- the text is rows of frames, and one of these rows shows a mix
+pub record HasMixedRows (text : List ℕ) : Type 0 where
+  pub timeline : Timeline
+  pub listing : Listing
+  pub is : text ≡ listing_text timeline listing
+  pub mix : ListsMix timeline listing
 
 -- What is known whatever the files tell: under every status but Done and Output nothing is sent,
 -- but where memory runs out over the rows of frames.

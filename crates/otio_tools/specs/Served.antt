@@ -16,7 +16,7 @@ use Rattle.otio_tools.specs.Asked.{Asked, Asks}
 use Rattle.otio_tools.specs.Forms.{Answer, absent, read_failed, refused, usage}
 use Rattle.otio_tools.specs.Answer.{AnswersDrill, AnswersHeld}
 use Rattle.otio_tools.specs.Plan.{LeavesWork, PlansHeld}
-use Rattle.otio_tools.specs.Run.{AsksFrames, Streams, Sends, SendsNothing, Directs, DirectsFront, DirectsPrefix, Message, OutFailed, no_memory, output_failed}
+use Rattle.otio_tools.specs.Run.{AsksFrames, HasMixedRows, Streams, Sends, SendsNothing, Directs, DirectsFront, DirectsPrefix, Message, OutFailed, no_memory, output_failed}
 use Rattle.otio_tools.specs.declared.Status.{Status}
 use Rattle.otio_tools.specs.declared.Status.TheVariants.{Done, Usage, Refused, Input, Output, Memory}
 use Rattle.otio_tools.specs.declared.planning.Planned.{Planned}
@@ -71,7 +71,8 @@ SendsWhole answer d result = (answer.status ≡ result)
     × Sends (Directs answer.target answer.output) d × Message answer.message d
 
 -- What is sent of the answer under each status: all of it under its own. Under `Output` the stream
--- failed, and under `Memory` memory ran out over the rows of frames: a prefix was sent.
+-- failed, and under `Memory` memory ran out over the rows of frames, one of which shows a mix: a
+-- prefix was sent.
 abbrev pub SendsAnswer : List (List ℕ) → Answer → Streams → Status → Type 0
 SendsAnswer words answer d Done = SendsWhole answer d Done
 SendsAnswer words answer d Usage = SendsWhole answer d Usage
@@ -80,7 +81,8 @@ SendsAnswer words answer d Input = SendsWhole answer d Input
 SendsAnswer words answer d Output = (answer.status ≡ Done) × OutFailed d
     × Sends (DirectsPrefix answer.target answer.output) d × Message output_failed d
 SendsAnswer words answer d Memory = (answer.status ≡ Done) × AsksFrames words
-    × Sends (DirectsFront answer.target answer.output) d × Message no_memory d
+    × HasMixedRows answer.output × Sends (DirectsFront answer.target answer.output) d
+    × Message no_memory d
 
 -- the calls read no file, all files that are asked for, or those up to one over which memory ran
 -- out

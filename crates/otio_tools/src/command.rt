@@ -5,7 +5,7 @@ ghost use Rattle.dev_io.specs.OutputCauses.{HasOutputCause};
 ghost use Rattle.edl_text.specs.Spelling.{spelling};
 ghost use Rattle.note_text.specs.NotedSpelling.{noted_spelling};
 ghost use Rattle.json_text.specs.Layout.{layout};
-ghost use Rattle.show_prog.specs.Rows.{listing_text};
+ghost use Rattle.show_prog.specs.Rows.{ListsMix, listing_text};
 ghost use Rattle.media_text.specs.Texts.{media_text};
 ghost use Rattle.command_words.specs.Asked.{Ask, AskNothing};
 ghost use Rattle.command_words.specs.Asked.{other_names};
@@ -21,7 +21,7 @@ ghost use Rattle.otio_tools.specs.Kept.{KeepsGiven};
 ghost use Rattle.otio_tools.specs.Reported.{Reports};
 ghost use Rattle.otio_tools.specs.Served.{Serves};
 ghost use Rattle.otio_tools.specs.Run.{Says, KeepsStill, no_memory, streams};
-ghost use Rattle.otio_tools.specs.Plan.{AreRows, CanBeShown, Carries, Fits, CanBeNoted, IsWritableIn, desk_after, desk_planned, Writes, WritesTo, text_planned, message_about, message_unsent, status_of, status_unsent};
+ghost use Rattle.otio_tools.specs.Plan.{AreMixedRows, CanBeShown, Carries, Fits, CanBeNoted, IsWritableIn, desk_after, desk_planned, Writes, WritesTo, text_planned, message_about, message_unsent, status_of, status_unsent};
 ghost use Rattle.source_files.specs.Following.{FollowsAtLast};
 ghost use Rattle.source_files.specs.HandedFiles.{HandsOver};
 ghost use Rattle.source_files.specs.declared.read_faults.ReadFault.TheVariants.{Refused as RefusedFor};
@@ -133,7 +133,8 @@ const USAGE: &[u8] = b"otio: usage
 /// `-o OUT` aims `out` at that file before anything is sent.
 /// Each status but `Done` sends one message to `err`; where `err` fails, a prefix of it was sent,
 /// and the status is the same. Nothing is sent to `out` before the file is judged. Memory may
-/// run out at any time: after a prefix of the rows of `frames`, and else before anything is sent.
+/// run out at any time: after a prefix of the rows of `frames`, where one of them shows a mix, and
+/// else before anything is sent.
 pub fn run<F: Files, W: Out, E: Out>(
     alloc: Global,
     words: &Vec<String>,
@@ -331,7 +332,7 @@ fn write_to<W: Out>(
     requires fresh { IsFresh (W.known out.old) }
     ensures told { Tells (WritesTo (text_at target.entry) (text_planned planned.now) result)
         (W.known out.old) (W.known out.new) }
-    ensures cause { HasOutputCause (AreRows planned.now) (W.faults out.old)
+    ensures cause { HasOutputCause (AreMixedRows planned.now) (W.faults out.old)
         (W.faults out.new) result }
 {
     match target {
@@ -347,7 +348,7 @@ fn write_planned<W: Out>(alloc: Global, planned: &Planned, out: &mut W) -> Resul
     requires { Fits planned.now }
     ensures told { Tells (SendsAll (text_planned planned.now) result) (W.known out.old)
         (W.known out.new) }
-    ensures cause { HasOutputCause (AreRows planned.now) (W.faults out.old)
+    ensures cause { HasOutputCause (AreMixedRows planned.now) (W.faults out.old)
         (W.faults out.new) result }
 {
     match planned {
@@ -463,7 +464,8 @@ fn write_frames<W: Out>(
     requires { CanBeShown timeline.now }
     ensures told { Tells (SendsAll (listing_text timeline.now listing.now) result) (W.known out.old)
         (W.known out.new) }
-    ensures cause { HasOutputCause (Unit {0}) (W.faults out.old) (W.faults out.new) result }
+    ensures cause { HasOutputCause (ListsMix timeline.now listing.now) (W.faults out.old)
+        (W.faults out.new) result }
 {
     write_rows(alloc, timeline, listing, out)
 }
