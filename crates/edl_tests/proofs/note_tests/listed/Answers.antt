@@ -14,6 +14,6 @@ returns-clause-list c =
     IfOk-weaker c.finish.result _ _
     (λ list k.
     let said = k c.args.rate c.args.text.now
-        (c.in_ok-feed.ensures.read c.args.rate [] c.new-reader.ensures)
+    (c.in_ok-feed.ensures.read c.args.rate [] c.new-reader.ensures)
     in subst (λ rate. IsList rate c.args.text.now list) (sym said.says.counted) said)
     c.finish.ensures.list
