@@ -106,8 +106,8 @@ impl<T: Drop> Sequence<T> {
     }
 
     /// Takes the members out. Few come in memory that just fits them, and the list keeps its own
-    /// for others; many come in the list's own memory. An error comes where memory runs out, and the
-    /// list is then as it was.
+    /// for others; many come in the list's own memory. An error comes where memory runs out, and
+    /// the list is then as it was.
     pub fn take_fitted(&mut self, alloc: Global) -> Result<Vec<T>, AllocError>
         ensures taken { IfOk result (λ taken. taken.items ≡ self.old) }
         ensures empty { OnOk result (self.new ≡ []) }
