@@ -78,6 +78,25 @@ none_parts k n h false = record { later = omega arith; goes = front_none k h }
 pub puts_none : (a : Standing) → Puts a a []
 puts_none a = none_parts a.known a.faults a.held a.failed
 
+adds_front : (a b : Option KnownOut) (held : List ℕ) → Tells (Adds held) a b → Tells (SendsFront (held ++ []) []) a b
+adds_front None b held p = tt
+adds_front (Some a) None held p = absurd p
+adds_front (Some a) (Some b) held p = (held, refl, p)
+
+sent_parts : {T E : Type 0} (k l : Option KnownOut) (d e : ℕ) (h : List ℕ) (u : T) → Flushes {T = T} {E = E} (at k d h false) (at l e [] false) (Ok u) → Puts (at k d h false) (at l e [] false) []
+sent_parts k l d e h u p = record { later = p.later; goes = adds_front k l h p.goes }
+
+sent_from : {T E : Type 0} (k l : Option KnownOut) (d e : ℕ) (g h : List ℕ) (f s : Bool) (u : T) → f ≡ false → s ≡ false → h ≡ [] → Flushes {T = T} {E = E} (at k d g f) (at l e h s) (Ok u) → Puts (at k d g f) (at l e h s) []
+sent_from {T} {E} k l d e g h f s u first sound none p =
+    let plain = subst (λ x. Flushes {T = T} {E = E} (at k d g false) (at l e [] x) (Ok u)) sound (subst (λ x. Flushes {T = T} {E = E} (at k d g false) (at l e x s) (Ok u)) none (subst (λ x. Flushes {T = T} {E = E} (at k d g x) (at l e h s) (Ok u)) first p)) in
+    let shown = sent_parts {T = T} {E = E} k l d e g u plain in
+    subst (λ x. Puts (at k d g x) (at l e h s) []) (sym first) (subst (λ x. Puts (at k d g false) (at l e x s) []) (sym none) (subst (λ x. Puts (at k d g false) (at l e [] x) []) (sym sound) shown))
+
+-- no bytes, where what was held is sent
+pub flush_puts : {T E : Type 0} {a b : Standing} {u : T} → a.failed ≡ false → b.failed ≡ false → b.held ≡ [] → Flushes {T = T} {E = E} a b (Ok u) → Puts a b []
+flush_puts {T} {E} {a} {b} {u} first sound none p =
+    sent_from {T = T} {E = E} a.known b.known a.faults b.faults a.held b.held a.failed b.failed u first sound none p
+
 -- all of the text was sent, where a flush behind it answers that it was
 all_told : (a b c : Option KnownOut) (text held : List ℕ) → Tells (SendsFront text held) a b → Tells (Adds held) b c → Tells (Adds text) a c
 all_told None b c text held p q = tt

@@ -1,5 +1,5 @@
 -- Bytes on their way to a stream through a buffer of fixed size.
-use Rattle.std.specs.Prelude.{◌≡◌, ◌≤◌, ℕ, Bool, List, ◌++◌, Result, MatchBool, MatchResult}
+use Rattle.std.specs.Prelude.{◌≡◌, ◌≤◌, ℕ, Bool, List, ◌++◌, Result, MatchBool, MatchResult, take}
 use Rattle.std.specs.declared.option.Option.{Option}
 use Rattle.dev_io.specs.Known.{KnownOut}
 use Rattle.dev_io.specs.Calls.{Tells, Adds, AddsPrefix}
@@ -21,7 +21,7 @@ abbrev pub standing : {W : Type 0} → (W → Option KnownOut) → (W → ℕ) �
 standing known faults out buffer = record {
   known = known out;
   faults = faults out;
-  held = buffer.held.items;
+  held = take buffer.count buffer.bytes;
   failed = buffer.failed;
 }
 
@@ -55,7 +55,7 @@ pub record Flushes {T E : Type 0} (old new : Standing) (result : Result T E) : T
 
 -- what a buffer holds
 abbrev pub held_of : OutBuffer → List ℕ
-held_of buffer = buffer.held.items
+held_of buffer = take buffer.count buffer.bytes
 
 -- whether a write through it has failed
 abbrev pub has_failed : OutBuffer → Bool

@@ -1,15 +1,17 @@
 // A buffer of fixed size beside a stream.
-ghost use Rattle.std.specs.Prelude.{◌≡◌, ◌↔◌, [], false, IsTrue, IsErr, OnOk};
+ghost use Rattle.std.specs.Prelude.{◌≡◌, ◌+◌, ◌<◌, ◌≤◌, ◌↔◌, ◌++◌, [], false, IsTrue, IsErr, OnOk, length};
 ghost use Rattle.dev_io.specs.Calls.{Tells, SendsAll};
 ghost use Rattle.dev_io.specs.Causes.{HasCause};
 ghost use Rattle.dev_io.specs.Parts.{joined};
 
 use crate::output::{Out, WriteFault, write_all};
-use arrayvec::ArrayVec;
 
 /// How many bytes a buffer holds at most, which is about the size of the pieces that a stream is
 /// handed.
 pub const BUFFER_SIZE: usize = 8192;
+
+// So few bytes are short.
+const SHORT: usize = 4;
 
 /// A buffer of fixed size that goes beside a stream, so that many small texts leave in pieces of
 /// some kilobytes.
@@ -19,8 +21,11 @@ pub const BUFFER_SIZE: usize = 8192;
 /// is dropped is not sent. It takes no memory.
 #[derive(Drop)]
 pub struct OutBuffer {
-    held: ArrayVec<u8, BUFFER_SIZE>,
+    bytes: [u8; BUFFER_SIZE],
+    // So many of the first bytes are held. The others have no meaning.
+    count: usize,
     failed: bool,
+    ghost fits: { count < 8193 },
 }
 
 impl OutBuffer {
@@ -32,7 +37,8 @@ impl OutBuffer {
         ensures failed { has_failed result ≡ false }
     {
         OutBuffer {
-            held: ArrayVec::new(),
+            bytes: [0; BUFFER_SIZE],
+            count: 0,
             failed: false,
         }
     }
@@ -47,10 +53,25 @@ impl OutBuffer {
         if self.failed {
             return;
         }
-        match self.held.try_extend_from_slice(bytes) {
-            Ok(()) => {}
-            Err(_) => self.put_past(out, bytes),
+        if bytes.len() <= BUFFER_SIZE - self.count {
+            self.hold(bytes);
+        } else {
+            self.put_past(out, bytes);
         }
+    }
+
+    // Holds these bytes too, for which there is room.
+    #[inline]
+    fn hold(&mut self, bytes: &[u8])
+        requires { self.old.count + length bytes.now ≤ 8192 }
+        ensures held { held_of self.new ≡ held_of self.old ++ bytes.now }
+        ensures count { self.new.count ≡ self.old.count + length bytes.now }
+        ensures failed { has_failed self.new ≡ has_failed self.old }
+    {
+        let start = self.count;
+        let end = start + bytes.len();
+        self.bytes[start..end].copy_from_slice(bytes);
+        self.count = end;
     }
 
     // Hands over bytes for which there is no room.
@@ -71,13 +92,45 @@ impl OutBuffer {
         requires sound { has_failed self.old ≡ false }
         ensures { HandsOver W.known W.faults out.old out.new self.old self.new bytes.now }
     {
-        match self.held.try_extend_from_slice(bytes) {
-            Ok(()) => {}
-            Err(_) => match write_all(out, bytes) {
-                Ok(()) => {}
-                Err(_) => self.failed = true,
-            },
+        if bytes.len() <= BUFFER_SIZE {
+            self.hold(bytes);
+            return;
         }
+        match write_all(out, bytes) {
+            Ok(()) => {}
+            Err(_) => self.failed = true,
+        }
+    }
+
+    /// Hands over a part between two others, which are short. Where a write fails, `flush` says so,
+    /// and nothing is sent from then on.
+    #[inline(always)]
+    pub fn put_between<W: Out>(&mut self, out: &mut W, before: &[u8], part: &[u8], after: &[u8])
+        ensures { HandsOver W.known W.faults out.old out.new self.old self.new
+            (before.now ++ (part.now ++ after.now)) }
+    {
+        if before.len() > SHORT || after.len() > SHORT || self.failed {
+            self.put_three(out, before, part, after);
+            return;
+        }
+        if part.len() + 2 * SHORT <= BUFFER_SIZE - self.count {
+            self.hold(before);
+            self.hold(part);
+            self.hold(after);
+        } else {
+            self.put_three(out, before, part, after);
+        }
+    }
+
+    // Hands over three parts, one after another.
+    #[inline(never)]
+    fn put_three<W: Out>(&mut self, out: &mut W, before: &[u8], part: &[u8], after: &[u8])
+        ensures { HandsOver W.known W.faults out.old out.new self.old self.new
+            (before.now ++ (part.now ++ after.now)) }
+    {
+        self.put(out, before);
+        self.put(out, part);
+        self.put(out, after);
     }
 
     /// Hands these parts over, one after another. Where a write fails, `flush` says so, and
@@ -102,9 +155,9 @@ impl OutBuffer {
         if self.failed {
             return Err(WriteFault::Sink);
         }
-        match write_all(out, self.held.as_slice()) {
+        match write_all(out, &self.bytes[..self.count]) {
             Ok(()) => {
-                self.held.clear();
+                self.count = 0;
                 Ok(())
             }
             Err(_) => {

@@ -1,8 +1,9 @@
 -- Bytes none of which is above the largest.
-use Rattle.std.proofs.Common.{ℕ, ◌+◌, ◌<◌, ◌≤◌, List, [], ◌∷◌, ◌++◌, take, length, get_or, sym, arith, subst}
+use Rattle.std.proofs.Common.{◌≡◌, true, ℕ, ◌+◌, ◌<◌, ◌≤◌, List, [], ◌∷◌, ◌++◌, take, length, get_or, sym, arith, subst}
 use Rattle.std.proofs.lemmas.List.{take_more, take_all}
 use Rattle.std.proofs.lemmas.Str.Ascii.{IsAscii-nil, IsAscii-cons}
-use Rattle.std.specs.Str.{IsAscii}
+use Rattle.std.proofs.lemmas.Str.{is_utf8-from_IsUtf8, IsUtf8-from_ascii}
+use Rattle.std.specs.Str.{IsAscii, is_utf8}
 
 abbrev pub AreAtMost : ℕ → List ℕ → Type 0
 AreAtMost n [] = Unit {0}
@@ -23,3 +24,7 @@ below n (b ∷ bs) h f = IsAscii-cons b bs (omega (arith, f.0, h)) (below n bs h
 -- all bytes
 pub all_ascii : (bytes : List ℕ) (i n : ℕ) → length bytes ≤ i → n < 128 → AreAtMost n (take i bytes) → IsAscii bytes
 all_ascii bytes i n h k f = below n bytes k (subst (AreAtMost n) (take_all i bytes h) f)
+
+-- so they are UTF-8
+pub at_most_utf8 : (bs : List ℕ) → AreAtMost 127 bs → is_utf8 bs ≡ true
+at_most_utf8 bs h = is_utf8-from_IsUtf8 bs (IsUtf8-from_ascii bs (below 127 bs (omega arith) h))

@@ -21,3 +21,4 @@ pub mod Escaping
 pub mod Indents
 pub mod Lines
 mod DigitTests
+mod WholeNumerals

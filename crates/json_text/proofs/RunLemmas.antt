@@ -219,6 +219,9 @@ take_of_take (suc n) zero bytes h = absurd (omega arith)
 take_of_take (suc n) (suc m) [] h = absurd (omega arith)
 take_of_take (suc n) (suc m) (b ∷ bytes) h = ap (λ x. b ∷ x) (take_of_take n m bytes (omega arith))
 
+pub front_of_front : (n m : ℕ) (bytes front : List ℕ) → front ≡ take m bytes → n ≤ length front → take n front ≡ take n bytes
+front_of_front n m bytes front is h = ap (take n) is ∙ take_of_take n m bytes (subst (λ (x : List ℕ). n ≤ length x) is h)
+
 pub open_within : (n m : ℕ) (bytes run : List ℕ) → run ≡ take m bytes → AreOpen (take m bytes) → n ≤ length run → AreOpen (take n bytes)
 open_within n m bytes run is all h =
     let l : n ≤ length (take m bytes) = subst (λ (x : List ℕ). n ≤ length x) is h in

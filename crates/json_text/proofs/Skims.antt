@@ -1,5 +1,5 @@
 -- Bytes that the machine takes at once.
-use Rattle.std.proofs.Common.{◌≡◌, ℕ, ◌+◌, ◌<◌, ◌≤◌, List, [], ◌∷◌, ◌++◌, length, take, get_or, true, Result, Ok, Err, Option, Some, refl, sym, ap, ◌∙◌, subst, arith, IfOk}
+use Rattle.std.proofs.Common.{◌≡◌, ℕ, ◌+◌, drop, length-drop, ◌<◌, ◌≤◌, List, [], ◌∷◌, ◌++◌, length, take, get_or, true, Result, Ok, Err, Option, Some, refl, sym, ap, ◌∙◌, subst, arith, IfOk}
 use Rattle.std.specs.Prelude.{reverse}
 use Rattle.std.specs.Str.{IsUtf8, is_utf8}
 use Rattle.json_value.specs.declared.Json.{Json}
@@ -19,7 +19,7 @@ use Rattle.json_text.specs.declared.state.Taken.TheVariants.{Goes, Stops}
 use Rattle.json_text.specs.declared.state.Place.{Place}
 use Rattle.json_text.specs.declared.state.Hand.TheVariants.{Value, FirstItem, FirstName, NextName, Behind, Number, Text}
 use Rattle.json_text.specs.declared.state.Part.TheVariants.{Plain}
-use Rattle.json_text.proofs.RunLemmas.{Stays, run_blank, value_stays, name_stays, item_stays, first_name_stays, behind_stays, run_open, run_string, run_number}
+use Rattle.json_text.proofs.RunLemmas.{Stays, run_blank, value_stays, name_stays, item_stays, first_name_stays, behind_stays, run_open, run_string, run_number, run_more, run_skim}
 
 -- no bytes
 pub none_skim : (m : Machine) (bytes : List ℕ) → Skims 0 (state_of m) bytes (state_of m)
@@ -90,6 +90,15 @@ pub number_skims : (old : Machine) (place next : Place) (bytes : List ℕ) (coun
 number_skims old place next bytes count e l f = record {
   within = l;
   ran = ap (λ h. run 127 (state (levels_of old) (hand_of h old.text.items old.root)) (take count bytes)) e ∙ run_number 127 (levels_of old) place next old.text.items (take count bytes) f;
+}
+
+-- a quote and bytes of its string
+pub quoted_skims : (s began new : spec.MachineState) (bytes rest : List ℕ) (n : ℕ) → 0 < length bytes → get_or bytes 0 0 ≡ 34 → spec.step 127 s.levels s.hand 34 ≡ Ok began
+    → rest ≡ drop 1 bytes → Skims n began rest new → Skims (1 + n) s bytes new
+quoted_skims s began new bytes rest n some quote begins is went = record {
+  within = omega (arith, went.within, some, ap length is, length-drop 1 bytes);
+  ran = run_skim 127 s began new bytes 1 n (run_more 127 s s bytes 0 some refl ∙ ap (λ b. spec.step 127 s.levels s.hand b) quote ∙ begins)
+      (subst (λ (x : List ℕ). run 127 began (take n x) ≡ Ok new) is went.ran);
 }
 
 -- a whole string

@@ -1,11 +1,12 @@
 //! Single bytes of JSON text, and what they stand for.
 
-ghost use Rattle.std.specs.Prelude.{◌≡◌, ◌≤◌, ◌<◌, ◌++◌, [], true, false, OnOk, IfOk, IfSome, MatchOption, IsTrue, length, take, drop};
+ghost use Rattle.std.specs.Prelude.{◌≡◌, ◌≤◌, ◌<◌, ◌++◌, ◌∷◌, [], List, Ok, true, false, OnOk, IfOk, IfSome, MatchOption, IsTrue, length, take, drop};
 ghost use Rattle.std.specs.Char as chars;
 ghost use Rattle.std.specs.Str.{is_utf8, IsAscii};
 ghost use Rattle.json_text.specs.Grammar as grammar;
 ghost use Rattle.json_text.specs.State.Machine as spec;
 ghost use Rattle.json_text.specs.State.Runs.{is_open, AreOpen};
+ghost use Rattle.json_text.specs.declared.state.Unclosed.{Unclosed};
 
 use crate::state::Place;
 use sequences::Text;
@@ -23,6 +24,14 @@ pub(crate) fn is_open(byte: u8) -> bool
     ensures { result ≡ is_open byte }
 {
     32 <= byte && byte != b'"' && byte != b'\\'
+}
+
+/// Whether the byte is a character of ASCII that stands for itself in a string.
+pub(crate) fn is_plain(byte: u8) -> bool
+    ensures opens { IsTrue result → is_open byte ≡ true }
+    ensures ascii { IsTrue result → byte < 128 }
+{
+    32 <= byte && byte < 128 && byte != b'"' && byte != b'\\'
 }
 
 /// Whether all bytes stand for themselves in a string. Each is looked at, which is quick.
@@ -54,7 +63,7 @@ pub(crate) fn before(bytes: &[u8], count: usize) -> &[u8]
     }
 }
 
-/// The bytes behind so many.
+/// The bytes after so many.
 pub(crate) fn after(bytes: &[u8], count: usize) -> &[u8]
     requires { count ≤ length bytes.now }
     ensures { result.now ≡ drop count bytes.now }
@@ -100,7 +109,7 @@ pub(crate) fn of_digits16(a: u8, b: u8, c: u8, d: u8) -> u32
     (high * 16 + u32::from(digit_value(c))) * 16 + u32::from(digit_value(d))
 }
 
-/// The ranges of the bytes behind the first byte of a character; none where no character of several
+/// The ranges of the bytes after the first byte of a character; none where no character of several
 /// bytes begins so.
 pub(crate) fn tails(byte: u8) -> &'static [(u8, u8)]
     ensures { result.now ≡ spec.tails byte }
@@ -117,7 +126,7 @@ pub(crate) fn tails(byte: u8) -> &'static [(u8, u8)]
     }
 }
 
-/// The place behind a further byte of a numeral; `None` where the numeral doesn't go on so.
+/// The place after a further byte of a numeral; `None` where the numeral doesn't go on so.
 pub(crate) fn next_place(place: Place, byte: u8) -> Option<Place>
     ensures { result ≡ spec.next_place place byte }
 {
@@ -177,6 +186,21 @@ pub(crate) fn text_from(alloc: Global, bytes: &[u8]) -> Result<Option<Text>, All
     match std::str::from_utf8(bytes) {
         Ok(text) => Ok(Some(Text::of(alloc, text)?)),
         Err(_) => Ok(None),
+    }
+}
+
+/// The place after the first byte of a numeral; `None` where none begins so.
+pub(crate) fn first_place(byte: u8) -> Option<Place>
+    ensures ascii { IfSome result (λ place. byte < 128) }
+    ensures begins { IfSome result (λ place. (levels : List Unclosed) →
+        spec.begin 127 levels spec.value byte
+        ≡ Ok (spec.state levels (spec.number (byte ∷ []) place))) }
+{
+    match byte {
+        b'-' => Some(Place::Minus),
+        b'0' => Some(Place::Nought),
+        b'1'..=b'9' => Some(Place::Whole),
+        _ => None,
     }
 }
 

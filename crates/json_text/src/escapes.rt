@@ -1,4 +1,4 @@
-//! Characters of a string that are gathered before they are put behind a text: a call for each of
+//! Characters of a string that are gathered before they are put after a text: a call for each of
 //! them would cost more than the characters.
 
 ghost use Rattle.std.specs.Prelude.{◌≡◌, ◌≤◌, ◌++◌, ◌+◌, length, take, get_or, IfSome};
@@ -60,7 +60,7 @@ fn escape(bytes: &[u8]) -> Option<(usize, char)>
     }
 }
 
-// The character of an escape of four digits that the bytes begin with, behind its backslash.
+// The character of an escape of four digits that the bytes begin with, after its backslash.
 fn coded(bytes: &[u8]) -> Option<(usize, char)>
     requires { get_or bytes.now 0 0 ≡ 92 }
     ensures { IfSome result (λ found. IsEscape found.0 found.1 bytes.now) }
@@ -78,7 +78,7 @@ fn coded(bytes: &[u8]) -> Option<(usize, char)>
 }
 
 // The character of two escapes of four digits that the bytes begin with, each for a half of it,
-// behind the first two bytes.
+// after the first two bytes.
 fn pair(bytes: &[u8]) -> Option<(usize, char)>
     requires slash { get_or bytes.now 0 0 ≡ 92 }
     requires letter { get_or bytes.now 1 0 ≡ 117 }

@@ -70,6 +70,7 @@ impl Machine {
     }
 
     /// Puts a value where it belongs.
+    #[inline(always)]
     pub(crate) fn place(&mut self, value: Json) -> Result<(), AllocError>
         ensures { OnOk result (state_of self.new ≡ spec.placed (levels_of self.old) value) }
     {
@@ -210,7 +211,7 @@ impl Machine {
         Ok(self.goes(Hand::Number(place)))
     }
 
-    // Takes the byte behind the bracket of a list.
+    // Takes the byte after the bracket of a list.
     fn first_item(&mut self, byte: u8) -> Result<Taken, AllocError>
         ensures { IfOk result (λ taken. IsTaken taken
             (spec.item_first 127 (levels_of self.old) byte) (state_of self.new)) }
@@ -261,7 +262,7 @@ impl Machine {
         }
     }
 
-    // Takes the byte behind the brace of an object.
+    // Takes the byte after the brace of an object.
     fn first_name(&mut self, byte: u8) -> Result<Taken, AllocError>
         ensures { IfOk result (λ taken. IsTaken taken (spec.name_first (levels_of self.old) byte)
             (state_of self.new)) }
@@ -276,7 +277,7 @@ impl Machine {
         }
     }
 
-    // Takes the byte behind a comma of an object.
+    // Takes the byte after a comma of an object.
     fn next_name(&mut self, byte: u8) -> Result<Taken, AllocError>
         ensures { IfOk result (λ taken. IsTaken taken (spec.name_next (levels_of self.old) byte)
             (state_of self.new)) }
@@ -296,7 +297,7 @@ impl Machine {
         }
     }
 
-    // Takes the byte behind a name.
+    // Takes the byte after a name.
     fn colon(&mut self, byte: u8) -> Taken
         ensures { IsTaken result (spec.at_colon (levels_of self.old) byte) (state_of self.new) }
     {
@@ -307,7 +308,7 @@ impl Machine {
         }
     }
 
-    // Takes the byte behind a value of a list or an object.
+    // Takes the byte after a value of a list or an object.
     fn behind(&mut self, byte: u8) -> Result<Taken, AllocError>
         ensures { IfOk result (λ taken. IsTaken taken (spec.behind_in (levels_of self.old) byte)
             (state_of self.new)) }
@@ -326,7 +327,7 @@ impl Machine {
         }
     }
 
-    // Takes the byte behind the whole value.
+    // Takes the byte after the whole value.
     fn done(&mut self, byte: u8) -> Taken
         ensures { IsTaken result (spec.at_end (levels_of self.old) self.old.root byte)
             (state_of self.new) }
@@ -356,7 +357,7 @@ impl Machine {
         }
     }
 
-    // Takes a byte in or behind a numeral.
+    // Takes a byte in or after a numeral.
     fn in_number(&mut self, place: Place, byte: u8) -> Result<Taken, AllocError>
         ensures { IfOk result (λ taken. IsTaken taken
             (spec.in_number (levels_of self.old) self.old.text.items place byte)
@@ -371,7 +372,7 @@ impl Machine {
         }
     }
 
-    // Takes the byte behind a numeral.
+    // Takes the byte after a numeral.
     fn end_number(&mut self, place: Place, byte: u8) -> Result<Taken, AllocError>
         ensures { IfOk result (λ taken. IsTaken taken
             (spec.number_ends (levels_of self.old) self.old.text.items place byte)
@@ -387,7 +388,7 @@ impl Machine {
         self.follow(byte)
     }
 
-    // Takes the byte behind a value that was just put where it belongs.
+    // Takes the byte after a value that was just put where it belongs.
     fn follow(&mut self, byte: u8) -> Result<Taken, AllocError>
         ensures { IfOk result (λ taken. IsTaken taken
             (spec.follow (levels_of self.old) (state_of self.old).hand byte) (state_of self.new)) }
@@ -401,6 +402,7 @@ impl Machine {
 }
 
 // Adds a value to a list, or to an object under the name at hand.
+#[inline(always)]
 fn add(level: &mut Unclosed, value: Json) -> Result<(), AllocError>
     ensures { OnOk result (level.new ≡ spec.added level.old value) }
 {

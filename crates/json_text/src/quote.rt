@@ -1,5 +1,5 @@
 // JSON strings as they are written.
-ghost use Rattle.std.specs.Prelude.{◌≡◌, ◌<◌, ◌≤◌, ◌+◌, ◌∷◌, ◌++◌, [], false, true, IsTrue, MatchOption, drop, length, position, take};
+ghost use Rattle.std.specs.Prelude.{◌≡◌, ◌<◌, ◌≤◌, ◌+◌, ◌∷◌, ◌++◌, [], false, true, IsTrue, MatchOption, Some, drop, length, position, take};
 ghost use Rattle.arrayvec.specs.ArrayVec.{array_vec_len};
 ghost use Rattle.std.specs.Char.{digit_char};
 ghost use Rattle.dev_io.specs.Buffer.{HandsOver};
@@ -22,25 +22,47 @@ const MOST: usize = 58;
 const NEAR: usize = 8;
 
 /// Hands these bytes over as a JSON string (RFC 8259, section 7): between `"`, with `"` and `\`
-/// behind a `\`, the control characters below U+0020 as `\b`, `\f`, `\n`, `\r`, `\t` or `\u00xx`,
+/// after a `\`, the control characters below U+0020 as `\b`, `\f`, `\n`, `\r`, `\t` or `\u00xx`,
 /// and every other byte as it stands.
 pub fn put_string<W: Out>(buffer: &mut OutBuffer, out: &mut W, bytes: &[u8])
     ensures { HandsOver W.known W.faults out.old out.new buffer.old buffer.new (quoted bytes.now) }
 {
-    buffer.put(out, b"\"");
-    put_escaped(buffer, out, bytes);
-    buffer.put(out, b"\"");
+    put_quoted(buffer, out, bytes, b"\"");
 }
 
 /// Hands these bytes over as the name of a member: as a JSON string, with a colon and a space
-/// behind it.
+/// after it.
 pub fn put_name<W: Out>(buffer: &mut OutBuffer, out: &mut W, bytes: &[u8])
     ensures { HandsOver W.known W.faults out.old out.new buffer.old buffer.new
         (quoted bytes.now ++ 58 ∷ 32 ∷ []) }
 {
+    put_quoted(buffer, out, bytes, b"\": ");
+}
+
+// Hands over a quote, what stands for these bytes in a JSON string, and what ends it.
+#[inline(always)]
+fn put_quoted<W: Out>(buffer: &mut OutBuffer, out: &mut W, bytes: &[u8], end: &[u8])
+    ensures { HandsOver W.known W.faults out.old out.new buffer.old buffer.new
+        (34 ∷ (escaped bytes.now ++ end.now)) }
+{
+    match first_escaped(bytes) {
+        None => buffer.put_between(out, b"\"", bytes, end),
+        Some(index) => put_from(buffer, out, bytes, index, end),
+    }
+}
+
+// The same for bytes of which this is the first that needs an escape.
+#[inline(never)]
+fn put_from<W: Out>(buffer: &mut OutBuffer, out: &mut W, bytes: &[u8], index: usize, end: &[u8])
+    requires { Some index ≡ position needs_escape bytes.now }
+    ensures { HandsOver W.known W.faults out.old out.new buffer.old buffer.new
+        (34 ∷ (escaped bytes.now ++ end.now)) }
+{
+    let (plain, behind) = bytes.split_at(index);
     buffer.put(out, b"\"");
-    put_escaped(buffer, out, bytes);
-    buffer.put(out, b"\": ");
+    buffer.put(out, plain);
+    put_escaped(buffer, out, behind);
+    buffer.put(out, end);
 }
 
 /// Hands these bytes over as they stand between the quotes of a JSON string (RFC 8259, section 7),
@@ -159,7 +181,7 @@ fn add_escape(made: &mut ArrayVec<u8, ROOM>, byte: u8)
     }
 }
 
-// What stands behind the backslash of a byte's escape of two characters, if it has one.
+// What stands after the backslash of a byte's escape of two characters, if it has one.
 fn letter(byte: u8) -> Option<u8>
     requires { needs_escape byte ≡ true }
     ensures { MatchOption result (escape byte ≡ code_escape byte)

@@ -157,7 +157,7 @@ fn fault_of(stop: Stop, offset: u64) -> JsonFault
     }
 }
 
-// Drops are written out: a derived one is proved anew in each crate that drops such a value.
+// Drops are written out: a derived one is proved again in each crate that drops such a value.
 
 impl Drop for JsonReader {
     fn drop(self) {

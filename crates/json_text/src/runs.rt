@@ -1,15 +1,16 @@
 //! Steps of the machine that reads JSON text, over many bytes.
 
-ghost use Rattle.std.specs.Prelude.{◌≡◌, ◌<◌, ◌≤◌, [], Some, IfOk, MatchOption, length, slice_index, take, drop};
-ghost use Rattle.std.specs.Str.{IsUtf8};
-ghost use Rattle.json_text.specs.State.Stands.{state_of};
+ghost use Rattle.std.specs.Prelude.{◌≡◌, ◌<◌, ◌≤◌, [], true, List, ℕ, Ok, Some, IfOk, IfSome, MatchOption, length, slice_index, take, drop};
+ghost use Rattle.std.specs.Str.{IsUtf8, is_utf8};
+ghost use Rattle.json_text.specs.State.Stands.{state_of, levels_of, hand_of};
 ghost use Rattle.json_text.specs.State.Machine as spec;
 ghost use Rattle.json_text.specs.Grammar.{AreBlank};
-ghost use Rattle.json_text.specs.State.Runs.{IsRan, Skims, AreOpen, EndsAt, place_behind};
+ghost use Rattle.json_text.specs.State.Runs.{IsRan, Skims, AreOpen, EndsAt, IsNumeral, place_behind};
 ghost use Rattle.json_text.specs.State.Stands.{AddsText};
 
 use crate::bytes::{
-    after, are_open, before, ends, is_ascii, is_open, is_whitespace, next_place, text_from,
+    after, are_open, before, ends, first_place, is_ascii, is_open, is_plain, is_whitespace,
+    next_place, text_from,
 };
 use crate::escapes::gathered;
 use crate::machine::Machine;
@@ -18,8 +19,11 @@ use json_value::Json;
 use sequences::{Text, TextRoom};
 use std::alloc::AllocError;
 
-/// Runs of a string that are shorter are gathered with the escapes behind them.
+/// Runs of a string that are shorter are gathered with the escapes after them.
 const FEW: usize = 32;
+
+/// Strings of ASCII that are shorter are taken at once.
+const SHORT: usize = 23;
 
 /// So many bytes are looked at one by one before whole blocks are.
 const HEAD: usize = 16;
@@ -34,12 +38,16 @@ impl Machine {
     {
         let mut at = 0;
         while at < bytes.len() {
-            match self.step(bytes[at])? {
-                Taken::Goes => {}
-                Taken::Stops(stop) => return Ok(Ran::Stops(at, stop)),
+            let count = self.skim(after(bytes, at))?;
+            if count > 0 {
+                at += count;
+            } else {
+                match self.step(bytes[at])? {
+                    Taken::Goes => {}
+                    Taken::Stops(stop) => return Ok(Ran::Stops(at, stop)),
+                }
+                at += 1;
             }
-            at += 1;
-            at += self.skim(after(bytes, at))?;
         }
         Ok(Ran::All)
     }
@@ -55,11 +63,90 @@ impl Machine {
                 Part::Plain => self.skim_text(role, bytes),
                 _ => Ok(0),
             },
-            Hand::Value => Ok(blank_count(bytes)),
-            Hand::NextName => Ok(blank_count(bytes)),
+            Hand::Value => self.skim_value(bytes),
+            Hand::NextName => self.skim_name(bytes),
             Hand::FirstItem | Hand::FirstName | Hand::Behind => Ok(self.skim_blank(bytes)),
             Hand::Number(place) => self.skim_number(place, bytes),
             _ => Ok(0),
+        }
+    }
+
+    // Takes white space before a name, or a quote and bytes of the string that it begins.
+    fn skim_name(&mut self, bytes: &[u8]) -> Result<usize, AllocError>
+        requires { self.old.hand ≡ Hand.NextName }
+        ensures { IfOk result (λ count. Skims count (state_of self.old) bytes.now
+            (state_of self.new)) }
+    {
+        if !bytes.is_empty() && bytes[0] == b'"' {
+            return self.skim_quoted(Role::Name, bytes);
+        }
+        Ok(blank_count(bytes))
+    }
+
+    // Takes a quote that begins a string, and bytes of the string.
+    fn skim_quoted(&mut self, role: Role, bytes: &[u8]) -> Result<usize, AllocError>
+        requires some { 0 < length bytes.now }
+        requires quote { slice_index bytes.now 0 ≡ 34 }
+        requires begins { spec.step 127 (levels_of self.old) (state_of self.old).hand 34
+            ≡ Ok (spec.state (levels_of self.old) (spec.text role [] spec.plain)) }
+        ensures { IfOk result (λ count. Skims count (state_of self.old) bytes.now
+            (state_of self.new)) }
+    {
+        self.text.clear();
+        self.hand = Hand::Text(role, Part::Plain);
+        let count = self.skim_text(role, after(bytes, 1))?;
+        Ok(1 + count)
+    }
+
+    // Takes white space before a value, a whole numeral with the comma after it, or a quote and
+    // bytes of the string that it begins.
+    fn skim_value(&mut self, bytes: &[u8]) -> Result<usize, AllocError>
+        requires { self.old.hand ≡ Hand.Value }
+        ensures { IfOk result (λ count. Skims count (state_of self.old) bytes.now
+            (state_of self.new)) }
+    {
+        if !bytes.is_empty() && bytes[0] == b'"' {
+            return self.skim_quoted(Role::Content, bytes);
+        }
+        let blank = blank_count(bytes);
+        if blank > 0 {
+            return Ok(blank);
+        }
+        let count = numeral_count(bytes);
+        if count > 0 {
+            self.whole_number(bytes, count)
+        } else {
+            Ok(0)
+        }
+    }
+
+    // Takes a whole numeral of so many bytes, with the comma after it.
+    fn whole_number(&mut self, bytes: &[u8], count: usize) -> Result<usize, AllocError>
+        requires hand { self.old.hand ≡ Hand.Value }
+        requires whole { IsNumeral count bytes.now }
+        ensures { IfOk result (λ taken. Skims taken (state_of self.old) bytes.now
+            (state_of self.new)) }
+    {
+        let Some(next) = self.behind_comma() else {
+            return Ok(0);
+        };
+        let numeral = Text::front(self.alloc, bytes, count)?;
+        self.place(Json::Num(numeral))?;
+        self.hand = next;
+        Ok(count + 1)
+    }
+
+    // What is at hand after a comma of the innermost list or object.
+    fn behind_comma(&self) -> Option<Hand>
+        ensures { IfSome result (λ hand. (value root : Json) (text : List ℕ) →
+            spec.behind_placed (levels_of self.now) value 44
+            ≡ Ok (spec.state (spec.placed (levels_of self.now) value).levels
+            (hand_of hand text root))) }
+    {
+        match self.inner {
+            None => None,
+            Some(Unclosed::List(_)) => Some(Hand::Value),
+            Some(Unclosed::Map(_, _)) => Some(Hand::NextName),
         }
     }
 
@@ -91,7 +178,14 @@ impl Machine {
         ensures { IfOk result (λ count. Skims count (state_of self.old) bytes.now
             (state_of self.new)) }
     {
-        let count = open_count(bytes);
+        let short = short_count(bytes);
+        if self.text.is_empty() && short < bytes.len() && bytes[short] == b'"' {
+            return match role {
+                Role::Content => self.short_content(bytes, short),
+                Role::Name => self.short_name(bytes, short),
+            };
+        }
+        let count = open_from(bytes, short);
         if self.text.is_empty() && count < bytes.len() && bytes[count] == b'"' {
             return match role {
                 Role::Content => self.whole_content(bytes, count),
@@ -102,6 +196,78 @@ impl Machine {
             self.skim_gathered(role, bytes)
         } else {
             self.skim_open(bytes, count)
+        }
+    }
+
+    // Takes a whole string of ASCII that is a value, with its end, which is at that index.
+    fn short_content(&mut self, bytes: &[u8], count: usize) -> Result<usize, AllocError>
+        requires hand { self.old.hand ≡ Hand.Text Role.Content Part.Plain }
+        requires fresh { self.old.text.items ≡ [] }
+        requires whole { EndsAt count bytes.now }
+        requires utf8 { is_utf8 (take count bytes.now) ≡ true }
+        ensures { IfOk result (λ taken. Skims taken (state_of self.old) bytes.now
+            (state_of self.new)) }
+    {
+        let text = Text::front(self.alloc, bytes, count)?;
+        self.place(Json::Str(text))?;
+        Ok(self.skim_follow(bytes, count + 1))
+    }
+
+    // Takes a whole string of ASCII that is a name, with its end, which is at that index.
+    fn short_name(&mut self, bytes: &[u8], count: usize) -> Result<usize, AllocError>
+        requires hand { self.old.hand ≡ Hand.Text Role.Name Part.Plain }
+        requires fresh { self.old.text.items ≡ [] }
+        requires whole { EndsAt count bytes.now }
+        requires utf8 { is_utf8 (take count bytes.now) ≡ true }
+        ensures { IfOk result (λ taken. Skims taken (state_of self.old) bytes.now
+            (state_of self.new)) }
+    {
+        let Some(level) = &self.inner else {
+            return Ok(0);
+        };
+        match level {
+            Unclosed::Map(_, _) => {}
+            Unclosed::List(_) => return Ok(0),
+        }
+        let text = Text::front(self.alloc, bytes, count)?;
+        self.names(text);
+        Ok(self.skim_follow(bytes, count + 1))
+    }
+
+    // Takes a colon after a name or a comma after a value, where so many bytes were taken, and
+    // says how many are taken then.
+    fn skim_follow(&mut self, bytes: &[u8], taken: usize) -> usize
+        requires { taken ≤ length bytes.now }
+        ensures { (state : spec.MachineState) → Skims taken state bytes.now (state_of self.old)
+            → Skims result state bytes.now (state_of self.new) }
+    {
+        if taken >= bytes.len() {
+            return taken;
+        }
+        match self.hand_after(bytes[taken]) {
+            Some(hand) => {
+                self.hand = hand;
+                taken + 1
+            }
+            None => taken,
+        }
+    }
+
+    // What is at hand after a colon after a name, and after a comma after a value; `None` at any
+    // other byte.
+    fn hand_after(&self, byte: u8) -> Option<Hand>
+        ensures { IfSome result (λ hand. (text : List ℕ) (root : Json) →
+            spec.step 127 (levels_of self.now) (state_of self.now).hand byte
+            ≡ Ok (spec.state (levels_of self.now) (hand_of hand text root))) }
+    {
+        match self.hand {
+            Hand::Colon if byte == b':' => Some(Hand::Value),
+            Hand::Behind if byte == b',' => match self.inner {
+                None => None,
+                Some(Unclosed::List(_)) => Some(Hand::Value),
+                Some(Unclosed::Map(_, _)) => Some(Hand::NextName),
+            },
+            _ => None,
         }
     }
 
@@ -202,6 +368,20 @@ impl Machine {
     }
 }
 
+// The same of bytes of which the first, so many, are known to stand there.
+fn open_from(bytes: &[u8], known: usize) -> usize
+    requires within { known ≤ length bytes.now }
+    requires opens { AreOpen (take known bytes.now) }
+    ensures within { result ≤ length bytes.now }
+    ensures opens { AreOpen (take result bytes.now) }
+{
+    if known < SHORT && known < bytes.len() && bytes[known] < 128 {
+        known
+    } else {
+        open_count(bytes)
+    }
+}
+
 // How many of the first bytes stand before a quote, a backslash or a control character.
 fn open_count(bytes: &[u8]) -> usize
     ensures within { result ≤ length bytes.now }
@@ -232,6 +412,30 @@ fn open_front(bytes: &[u8]) -> usize
     bytes.len()
 }
 
+// How many of the first bytes, of no more than a short string has, are characters of ASCII that
+// stand for themselves.
+fn short_count(bytes: &[u8]) -> usize
+    ensures within { result ≤ length bytes.now }
+    ensures opens { AreOpen (take result bytes.now) }
+    ensures utf8 { is_utf8 (take result bytes.now) ≡ true }
+{
+    plain_count(before(bytes, SHORT))
+}
+
+// How many of the first bytes are characters of ASCII that stand for themselves, one by one.
+fn plain_count(bytes: &[u8]) -> usize
+    ensures within { result ≤ length bytes.now }
+    ensures opens { AreOpen (take result bytes.now) }
+    ensures utf8 { is_utf8 (take result bytes.now) ≡ true }
+{
+    for (index, byte) in bytes.iter().enumerate() {
+        if !is_plain(*byte) {
+            return index;
+        }
+    }
+    bytes.len()
+}
+
 // How many of the first bytes are characters that stand for themselves, of so many bytes none of
 // which ends them.
 fn utf8_count(bytes: &[u8], most: usize) -> usize
@@ -250,7 +454,7 @@ fn utf8_count(bytes: &[u8], most: usize) -> usize
     }
 }
 
-// How many of the first bytes go on in the numeral, and the place behind them.
+// How many of the first bytes go on in the numeral, and the place after them.
 fn numeral_run(place: Place, bytes: &[u8]) -> (usize, Place)
     ensures within { result.0 ≤ length bytes.now }
     ensures goes { place_behind (Some place) (take result.0 bytes.now) ≡ Some result.1 }
@@ -263,6 +467,24 @@ fn numeral_run(place: Place, bytes: &[u8]) -> (usize, Place)
         }
     }
     (bytes.len(), last)
+}
+
+// How many of the first bytes are a numeral with a comma after it; 0 where none is there.
+fn numeral_count(bytes: &[u8]) -> usize
+    ensures { 0 < result → IsNumeral result bytes.now }
+{
+    let Some((first, rest)) = bytes.split_first() else {
+        return 0;
+    };
+    let Some(place) = first_place(*first) else {
+        return 0;
+    };
+    let (count, last) = numeral_run(place, rest);
+    if count < rest.len() && rest[count] == b',' && ends(last) {
+        1 + count
+    } else {
+        0
+    }
 }
 
 // How many of the first bytes are white space.

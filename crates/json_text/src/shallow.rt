@@ -1,11 +1,7 @@
 // Levels whose spaces are one slice.
-ghost use Rattle.std.specs.Prelude.{◌≡◌, ◌<◌, ◌+◌, ◌∷◌, IfSome, MatchOption};
+ghost use Rattle.std.specs.Prelude.{◌≡◌, ◌<◌, ◌+◌, MatchOption};
 
 static SPACES: [u8; 512] = [b' '; 512];
-
-// A comma, a line feed and the spaces of 20 levels.
-static LINE: &[u8; 82] =
-    b",\n                                                                                ";
 
 /// A number of levels, at most 128, as deep as JSON is read.
 #[derive(Clone, Copy)]
@@ -16,7 +12,7 @@ pub struct Shallow {
 }
 
 impl Shallow {
-    ghost use Rattle.json_text.specs.Layout.{indent, newline};
+    ghost use Rattle.json_text.specs.Layout.{indent};
 
     /// No level.
     pub fn top() -> Shallow
@@ -36,17 +32,6 @@ impl Shallow {
         } else {
             None
         }
-    }
-
-    /// A comma, a line feed and the spaces before a line, or `None` where they are no slice of
-    /// those here.
-    pub fn next_line(self) -> Option<&'static [u8]>
-        ensures { IfSome result (λ line. line.now ≡ 44 ∷ newline self.levels) }
-    {
-        if self.levels > 20 {
-            return None;
-        }
-        Some(LINE.split_at(2 + 4 * self.levels).0)
     }
 
     /// The spaces before a line: four a level.

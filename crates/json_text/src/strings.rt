@@ -42,7 +42,7 @@ impl Machine {
         self.goes(Hand::Text(role, part))
     }
 
-    // Goes on in the string behind one more byte.
+    // Goes on in the string after one more byte.
     fn text_adds(&mut self, role: Role, byte: u8, part: Part) -> Result<Taken, AllocError>
         ensures { IfOk result (λ taken. IsTaken taken
             (spec.text_goes (levels_of self.old) role (self.old.text.items ++ (byte ∷ []))
@@ -145,6 +145,7 @@ impl Machine {
     }
 
     /// Puts a name at hand in the innermost object.
+    #[inline(always)]
     pub(crate) fn names(&mut self, text: Text) -> Taken
         ensures { IsTaken result (spec.named (levels_of self.old) text) (state_of self.new) }
     {
@@ -167,7 +168,7 @@ impl Machine {
         }
     }
 
-    // Takes the byte behind a backslash.
+    // Takes the byte after a backslash.
     fn in_escape(&mut self, role: Role, byte: u8) -> Result<Taken, AllocError>
         ensures { IfOk result (λ taken. IsTaken taken
             (spec.in_escape (levels_of self.old) role self.old.text.items byte)
@@ -263,6 +264,7 @@ impl Machine {
 }
 
 // Puts a text in the place of another.
+#[inline(always)]
 fn put_text(place: &mut Text, text: Text)
     ensures { place.new ≡ text }
 {

@@ -5,7 +5,7 @@ ghost use Rattle.dev_io.specs.Buffer.{HandsOver};
 ghost use Rattle.json_text.specs.Levels.{deep};
 ghost use Rattle.json_text.specs.Layout.{layout, text_at, list_text, object_text, item_lines, member_lines};
 
-use crate::level::{Level, inside, put_line, top};
+use crate::level::{Level, inside, put_end, put_line, top};
 use crate::quote::{put_name, put_string};
 use dev_io::{Out, OutBuffer, WriteFault};
 use json_value::{Json, Members};
@@ -53,8 +53,7 @@ fn put_list<W: Out>(buffer: &mut OutBuffer, out: &mut W, items: &[Json], level: 
         return;
     }
     put_items(buffer, out, items, &inside(&*level));
-    put_line(buffer, out, b"\n", level);
-    buffer.put(out, b"]");
+    put_end(buffer, out, level, b"]");
 }
 
 #[cycle(put)]
@@ -81,8 +80,7 @@ pub fn put_object<W: Out>(buffer: &mut OutBuffer, out: &mut W, members: &Members
         return;
     }
     put_members(buffer, out, members, &inside(&*level));
-    put_line(buffer, out, b"\n", level);
-    buffer.put(out, b"}");
+    put_end(buffer, out, level, b"}");
 }
 
 #[cycle(put)]

@@ -1,6 +1,7 @@
 //! Texts of few bytes, which lie in the value itself.
 
-ghost use Rattle.std.specs.Prelude.{◌≡◌, [], IfSome};
+ghost use Rattle.std.specs.Prelude.{◌≡◌, [], IfSome, true, take};
+ghost use Rattle.std.specs.Str.{is_utf8};
 
 use std::marker::Model;
 use std::str;
@@ -49,6 +50,23 @@ impl Short {
         Some(Short {
             len: text.len() as u8,
             bytes,
+        })
+    }
+
+    /// A copy of the first bytes, so many, where they and what stands after them fill the room.
+    #[inline(always)]
+    pub(crate) fn front(bytes: &[u8], count: usize) -> Option<Short>
+        requires { is_utf8 (take count bytes.now) ≡ true }
+        ensures { IfSome result (λ made. made ≡ take count bytes.now) }
+    {
+        if count > ROOM || bytes.len() < ROOM {
+            return None;
+        }
+        let mut room = [0; ROOM];
+        room.copy_from_slice(&bytes[..ROOM]);
+        Some(Short {
+            len: count as u8,
+            bytes: room,
         })
     }
 

@@ -1,10 +1,12 @@
 //! A text that contracts see as its UTF-8 bytes.
 
-ghost use Rattle.std.specs.Prelude.{◌≡◌, [], IfOk, string_bytes};
+ghost use Rattle.std.specs.Prelude.{◌≡◌, ◌≤◌, [], IfOk, true, length, take, string_bytes};
+ghost use Rattle.std.specs.Str.{is_utf8};
 
 use crate::short::Short;
 use std::alloc::{AllocError, Global};
 use std::marker::Model;
+use std::str;
 
 /// A text in UTF-8, which contracts see as the list of its bytes. A text of few bytes takes no
 /// memory beside the value.
@@ -51,6 +53,21 @@ impl Text {
             }
         };
         Ok(Text { held })
+    }
+
+    /// A text of the first bytes, so many, which are UTF-8. An error comes where memory runs out.
+    #[inline(always)]
+    pub fn front(alloc: Global, bytes: &[u8], count: usize) -> Result<Text, AllocError>
+        requires within { count ≤ length bytes.now }
+        requires utf8 { is_utf8 (take count bytes.now) ≡ true }
+        ensures { IfOk result (λ made. made ≡ take count bytes.now) }
+    {
+        match Short::front(bytes, count) {
+            Some(short) => Ok(Text {
+                held: Held::Short(short),
+            }),
+            None => Text::of(alloc, unsafe { str::from_utf8_unchecked(&bytes[..count]) }),
+        }
     }
 
     /// The characters of `text`: in its memory, or in the value where they are few. An error comes

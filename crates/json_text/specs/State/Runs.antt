@@ -1,6 +1,7 @@
 -- What came of several bytes.
 use Rattle.std.specs.Prelude.{◌≡◌, ℕ, ◌<◌, ◌≤◌, Bool, true, not, ◌&&◌, ◌==◌, nat_le, List, [], ◌∷◌, ◌++◌, Option, Some, None, Ok, Err, length, take, slice_index}
 use Rattle.std.specs.Char.{IsScalar, digit_value, encode_utf8}
+use Rattle.std.specs.Str.{is_utf8}
 use Rattle.json_text.specs.declared.state.Ran.{Ran}
 use Rattle.json_text.specs.declared.state.Ran.TheVariants.{All, Stops}
 use Rattle.json_text.specs.declared.state.Stop.{Stop}
@@ -9,7 +10,7 @@ use Rattle.json_text.specs.declared.faults.JsonFault.{JsonFault}
 use Rattle.json_text.specs.declared.state.Unclosed.{Unclosed}
 use Rattle.json_text.specs.declared.state.Role.{Role}
 use Rattle.json_text.specs.Grammar.{of_digits16}
-use Rattle.json_text.specs.State.Machine.{MachineState, state, text, plain, run, step, next_place}
+use Rattle.json_text.specs.State.Machine.{MachineState, state, value, number, text, plain, run, step, next_place, ends}
 use Rattle.json_text.specs.declared.state.Place.{Place}
 
 -- a byte that stands for itself in a string, alone or in a character of several bytes
@@ -79,6 +80,16 @@ abbrev pub place_behind : Option Place → List ℕ → Option Place
 place_behind None bytes = None
 place_behind (Some place) [] = Some place
 place_behind (Some place) (b ∷ bs) = place_behind (next_place place b) bs
+
+-- The first bytes, so many, are a numeral where a value begins, and a comma comes after them.
+pub record IsNumeral (count : ℕ) (bytes : List ℕ) : Type 0 where
+  pub within : count < length bytes
+  pub comma : slice_index bytes count ≡ 44
+  pub utf8 : is_utf8 (take count bytes) ≡ true
+  pub place : Place
+  pub whole : ends place ≡ true
+  pub ran : (levels : List Unclosed) → run 127 (state levels value) (take count bytes)
+      ≡ Ok (state levels (number (take count bytes) place))
 
 -- The machine takes so many of the bytes, to the new state.
 pub record Skims (count : ℕ) (s : MachineState) (bytes : List ℕ) (new : MachineState) : Type 0 where

@@ -17,13 +17,13 @@ pub put_list-returns : goal.put_list-returns
 put_list-returns g t c =
     let some : 0 < length c.args.items.now = grind (arith, nat_tests) in
     rw (list_text-lines (deep c.args.level.now) c.args.items.now some)
-    (puts_then (rw c.inside.ensures at c.put_items.ensures) (puts_then c.put_line.ensures c.put-2.ensures))
+    (puts_then (rw c.inside.ensures at c.put_items.ensures) c.put_end.ensures)
 
 pub put_object-returns : goal.put_object-returns
 put_object-returns g t c =
     let some : 0 < length c.args.members.now = grind (arith, nat_tests, c.as_slice.ensures.pairs) in
     rw (object_text-lines (deep c.args.level.now) c.args.members.now some)
-    (puts_then (rw c.inside.ensures at c.put_members.ensures) (puts_then c.put_line.ensures c.put-2.ensures))
+    (puts_then (rw c.inside.ensures at c.put_members.ensures) c.put_end.ensures)
 
 pub put_items-loop-item-init : goal.put_items-loop-item-init
 put_items-loop-item-init g t c = (91, refl, leaves_all _ _)

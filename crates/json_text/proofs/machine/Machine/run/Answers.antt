@@ -4,15 +4,43 @@ use Rattle.json_text.specs.State.Stands.{state_of}
 use Rattle.json_text.proofs.RunLemmas.{run_more, run_skim}
 use Rattle.json_text.proofs.machine.Machine.run.Goals as goal
 
-pub loop-at-preserved : goal.loop-at-preserved
-loop-at-preserved c =
-    let n = c.in_ok-at.field-0 in
+pub loop-at-preserved-then-count-gt0 : goal.loop-at-preserved-then-count-gt0
+loop-at-preserved-then-count-gt0 c =
+    let n = c.in_ok-count.count in
     let bytes = c.args.bytes.now in
     let at = c.loop-at.at in
-    let went = run_more 127 (state_of c.args.self.now) (state_of c.loop-at.self) bytes at (omega arith) c.loop-at.invariant.ran ∙ rw c.in-Goes.is at c.in_ok-step.ensures in
-    let on = subst (λ x. run 127 (state_of c.step.new.self) (take n x) ≡ Ok (state_of c.skim.new.self)) c.after.ensures c.in_ok-at.ensures.ran in
-    let some = c.in_ok-at.ensures.within in
+    let on = subst (λ x. run 127 (state_of c.loop-at.self) (take n x) ≡ Ok (state_of c.skim.new.self)) c.after.ensures c.in_ok-count.ensures.ran in
+    let some = c.in_ok-count.ensures.within in
     record {
-      within = omega (arith, ap length c.after.ensures, length-drop (at + 1) bytes);
-      ran = run_skim 127 (state_of c.args.self.now) (state_of c.step.new.self) (state_of c.skim.new.self) bytes (at + 1) n went on;
+      within = omega (arith, ap length c.after.ensures, length-drop at bytes);
+      ran = run_skim 127 (state_of c.args.self.now) (state_of c.loop-at.self) (state_of c.skim.new.self) bytes at n c.loop-at.invariant.ran on;
+    }
+
+pub loop-at-preserved : goal.loop-at-preserved
+loop-at-preserved c =
+    let n = c.in_ok-count.count in
+    let bytes = c.args.bytes.now in
+    let at = c.loop-at.at in
+    let on = subst (λ x. run 127 (state_of c.loop-at.self) (take n x) ≡ Ok (state_of c.skim.new.self)) c.after.ensures c.in_ok-count.ensures.ran in
+    let same : at + n ≡ at = omega (arith, c.if-count-gt0.false) in
+    let went = subst (λ m. run 127 (state_of c.args.self.now) (take m bytes) ≡ Ok (state_of c.skim.new.self)) same
+    (run_skim 127 (state_of c.args.self.now) (state_of c.loop-at.self) (state_of c.skim.new.self) bytes at n c.loop-at.invariant.ran on) in
+    record {
+      within = omega arith;
+      ran = run_more 127 (state_of c.args.self.now) (state_of c.skim.new.self) bytes at (omega arith) went ∙ rw c.in-Goes.is at c.in_ok-step.ensures;
+    }
+
+pub returns-in-Stops : goal.returns-in-Stops
+returns-in-Stops c =
+    let n = c.in_ok-count.count in
+    let bytes = c.args.bytes.now in
+    let at = c.loop-at.at in
+    let on = subst (λ x. run 127 (state_of c.loop-at.self) (take n x) ≡ Ok (state_of c.skim.new.self)) c.after.ensures c.in_ok-count.ensures.ran in
+    let same : at + n ≡ at = omega (arith, c.if-count-gt0.false) in
+    record {
+      within = omega arith;
+      before = state_of c.skim.new.self;
+      ran = subst (λ m. run 127 (state_of c.args.self.now) (take m bytes) ≡ Ok (state_of c.skim.new.self)) same
+          (run_skim 127 (state_of c.args.self.now) (state_of c.loop-at.self) (state_of c.skim.new.self) bytes at n c.loop-at.invariant.ran on);
+      stops = rw c.in-Stops.is at c.in_ok-step.ensures;
     }
