@@ -10,6 +10,7 @@ use Rattle.otio_model.specs.declared.media.Media.{Media}
 use Rattle.otio_model.specs.declared.media.Media.TheVariants as M
 use Rattle.otio_model.specs.declared.compositions.Clip.{Clip as ClipRow}
 use Rattle.otio_model.specs.Lengths.{active_media, clip_range}
+pub use Rattle.otio_model.specs.Reels.{member_in}
 use Rattle.coord.specs.Looks.{Key, Url, Sequence, Generator, Reel, Name, FrameRate}
 
 -- the characters of a string
@@ -20,15 +21,6 @@ text_in (Json-F.Num n) = None
 text_in (Json-F.Str s) = Some s
 text_in (Json-F.List l) = None
 text_in (Json-F.Map m) = None
-
--- the value of a member of an object
-abbrev pub member_in : List ℕ → Json-F Json → Option Json
-member_in name Json-F.Null = None
-member_in name (Json-F.Bool b) = None
-member_in name (Json-F.Num n) = None
-member_in name (Json-F.Str s) = None
-member_in name (Json-F.List l) = None
-member_in name (Json-F.Map m) = value_of name m
 
 -- the reel that lists (CMX 3600) know the clip's media by
 abbrev pub reel_of : ClipRow → Option (List ℕ)

@@ -20,22 +20,12 @@ fn text_in(value: &Json) -> Option<&Text>
     }
 }
 
-// The value of a member of an object in a clip's metadata.
-fn member_in<'a>(name: &str, value: &'a Json, clip: &Clip) -> Option<&'a Json>
-    ensures { option_copied result ≡ keys.member_in name.now (out-Json value.now) }
-{
-    match value {
-        Json::Map(members) => clip.inner_value(members, name),
-        _ => None,
-    }
-}
-
 /// The reel that lists (CMX 3600) know the clip's media by: the string `reel` of its metadata's
 /// object `cmx_3600`, `None` where there is no such string.
 pub fn own_reel(clip: &Clip) -> Option<&Text>
     ensures { option_copied result ≡ keys.reel_of clip.now }
 {
-    text_in(member_in("reel", clip.metadata_value("cmx_3600")?, clip)?)
+    text_in(clip.listed_reel()?)
 }
 
 /// The rate of the clip's media: of their available range, else of its source_range. `None` where

@@ -90,6 +90,6 @@ started x t start items track tracks begins drawn e f g h i j k =
         global_start_time = i a;
         tracks = whole a;
         rest = k a;
-        spare = record { room = 0; taken = 0 };
+        spare = record { room = 0; taken = 0; loose = 0 };
       };
     }

@@ -45,7 +45,7 @@ timeline_with start xs = record {
   global_start_time = Some start;
   tracks = root_of (video_track xs);
   rest = [];
-  spare = record { room = 0; taken = 0 };
+  spare = record { room = 0; taken = 0; loose = 0 };
 }
 
 -- the generator's number after so many clips

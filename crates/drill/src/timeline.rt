@@ -11,7 +11,7 @@ use crate::clips::start_items;
 use crate::generator::Random;
 use media_list::MediaList;
 use otio_model::{
-    Children, Effects, Item, ItemOf, Items, Markers, Stack, StackOf, Timeline, TrackOf,
+    Children, Effects, Item, ItemOf, Items, Markers, Metadata, Stack, StackOf, Timeline, TrackOf,
 };
 use sequences::{NamedValues, Text};
 use std::alloc::{AllocError, Global};
@@ -31,7 +31,7 @@ fn track(alloc: Global, items: Items) -> Result<Item, AllocError>
     let children = Children::of(alloc, items)?;
     let kind = Text::of(alloc, "Video")?;
     Ok(ItemOf::Track(TrackOf {
-        metadata: NamedValues::new(alloc),
+        metadata: Metadata::new(alloc),
         name: Text::empty(),
         source_range: None,
         effects: Effects::new(alloc),
@@ -58,7 +58,7 @@ fn tracks(alloc: Global, track: Item) -> Result<Stack, AllocError>
     let children = Children::of(alloc, Items::of(list))?;
     let name = Text::of(alloc, "tracks")?;
     Ok(StackOf {
-        metadata: NamedValues::new(alloc),
+        metadata: Metadata::new(alloc),
         name,
         source_range: None,
         effects: Effects::new(alloc),

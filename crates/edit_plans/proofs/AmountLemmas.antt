@@ -10,7 +10,7 @@ use Rattle.edit_plans.specs.declared.totals.Amount.{Amount}
 use Rattle.edit_plans.specs.Amounts.{amount_in, more, ticks_in}
 use Rattle.edit_plans.proofs.PinLemmas.{up_to}
 
-amounts_by : (a b : Amount) → a.ticks ≡ b.ticks → a.items ≡ b.items → a ≡ b
+pub amounts_by : (a b : Amount) → a.ticks ≡ b.ticks → a.items ≡ b.items → a ≡ b
 amounts_by a b t n = λ i. record { ticks = t i; items = n i }
 
 pub ticks-append : (xs ys : List (ItemOf Listed)) → ticks_in (xs ++ ys) ≡ ticks_in xs + ticks_in ys
@@ -52,3 +52,11 @@ pub stretch_more : (xs : List (ItemOf Listed)) (at k i : ℕ) (x : ItemOf Listed
     → more a x ≡ amount_in (take (k + 1) (drop at xs))
 stretch_more xs at k i x a e h f = amount_more (drop at xs) k x a
     (dropped at k xs ∙ sym (ap (slice_get xs) h) ∙ e) f
+
+-- a stretch that is the whole list
+pub stretch_whole : (xs : List (ItemOf Listed)) (at n : ℕ) (a : Amount) → n ≡ length xs
+    → at + n ≤ length xs → a ≡ amount_in xs → a ≡ amount_in (take n (drop at xs))
+stretch_whole xs at n a e h f =
+    let first : 0 ≡ at = omega (arith, e, h) in
+    f ∙ ap amount_in (sym (taken_all xs n (omega (arith, e))))
+    ∙ ap (λ i. amount_in (take n (drop i xs))) first

@@ -15,8 +15,8 @@ use Rattle.otio_model.specs.Trees.{items_of, listed}
 use Rattle.otio_model.proofs.LengthLimits.{short_enough}
 use Rattle.otio_model.proofs.Views.{listed-items}
 use Rattle.edits_law.proofs.Anywhere.{count_at}
-use Rattle.edit_plans.specs.Amounts.{ticks_in}
-use Rattle.edit_plans.proofs.AmountLemmas.{ticks-append}
+use Rattle.edit_plans.specs.Amounts.{amount_in, ticks_in}
+use Rattle.edit_plans.proofs.AmountLemmas.{amounts_by, ticks-append}
 use Rattle.edit_plans.proofs.WayLemmas.{lengths_map}
 
 -- a list in three parts
@@ -140,3 +140,13 @@ items_then place l c at n all gone come r put t h e f g k =
     (count (with_at place (listed (replaced at n put (items_of c))) l)) gone come r
     (count_items c ∙ all_items at n (items_of c)) (omega (arith, w, b)) (omega (arith, w, h))
     (q ∙ new_items at n put (items_of c)) (omega (arith, m, w)) f g k
+
+-- what all children come to
+pub whole_is : (c : Listed) (t n : ℕ) → count c < 2 ^ 32 → t ≡ added (lengths c)
+    → n ≡ capped_count (count c) → record { ticks = t; items = n } ≡ amount_in (items_of c)
+whole_is c t n few e f =
+    let whole = ticks_whole c t few e in
+    let short = ticks_short c t few e in
+    amounts_by (record { ticks = t; items = n }) (amount_in (items_of c))
+    (omega (arith, whole, short))
+    (f ∙ ap capped_count (ap count (sym (listed-items c)) ∙ count-listed (items_of c)))

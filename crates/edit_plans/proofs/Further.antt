@@ -2,7 +2,7 @@
 use Rattle.std.proofs.Common.{◌≡◌, refl, sym, subst, ap, ap₂, ◌∙◌, ℕ, zero, suc, ◌+◌, ◌-◌, ◌≤◌}
 use Rattle.std.proofs.Common.{◌<◌, ◌^◌, ℤ, pos, ◌+ℤ◌, ◌-ℤ◌, ◌≤ℤ◌, ◌<ℤ◌, Bool, true, false}
 use Rattle.std.proofs.Common.{List, [], ◌∷◌, Some, take, drop, length, slice_get, cond, arith}
-use Rattle.std.specs.Prelude.{int_le, ◌&&◌, ◌||◌}
+use Rattle.std.specs.Prelude.{int_le, IsSomeAnd, ◌&&◌, ◌||◌}
 use Rattle.std.proofs.lemmas.Int.{ints}
 use Rattle.std.proofs.lemmas.List.{drop-drop, length-drop}
 use Rattle.std.proofs.Math.Seq.{take-add}
@@ -15,19 +15,21 @@ use Rattle.otio_model.specs.Counts.{count}
 use Rattle.otio_model.specs.Lengths.{start_of}
 use Rattle.otio_model.specs.Trees.{items_of}
 use Rattle.otio_model.specs.declared.quiet.Quiet.{Quiet}
+use Rattle.otio_model.specs.declared.seeks.Seat.{Seat}
+use Rattle.otio_model.specs.Seats.{IsSeat}
 use Rattle.otio_model.specs.Zones.{IsQuiet, NoneReached, crosses, is_reached}
 use Rattle.otio_model.proofs.LengthLimits.{few_enough, short_enough}
-use Rattle.coord.proofs.Members.{got_below}
+use Rattle.coord.proofs.Members.{got_below, next}
 use Rattle.edits.specs.Children.{ticks}
 use Rattle.edits.specs.Edges.{added}
-use Rattle.edits.specs.Narrow.{ahead, is_met}
+use Rattle.edits.specs.Narrow.{ahead, is_met, touched}
 use Rattle.edits_law.proofs.Parted.{added_low}
 use Rattle.pieces.specs.Short.{AreShort, IsShort}
 use Rattle.pieces.proofs.Grown.{ticks_are}
-use Rattle.edit_plans.specs.Parts.{IsFurther, IsPassed, NoneMet}
+use Rattle.edit_plans.specs.Parts.{IsFurther, IsMetAt, IsPassed, IsStarted, NoneMet}
 use Rattle.edit_plans.proofs.Holding.{start_ticks, sum_ticks, take_more}
 use Rattle.edit_plans.proofs.Passing.{Passing, Reaching, added_both, added_taken, ahead_count}
-use Rattle.edit_plans.proofs.Passing.{met_as, pass_as, pass_next, reach_pass}
+use Rattle.edit_plans.proofs.Passing.{met_as, pass_as, pass_next, reach_pass, reach_touched}
 use Rattle.edit_plans.proofs.Reached.{start_inside}
 
 -- ---- none that the zone reaches is met
@@ -239,3 +241,117 @@ reach-child onto rest more a b at now k n i m q x true p e f h z high o =
     met_as onto rest more a b at now k n i m q x true p e f refl h z (omega (arith, ints)) high o
 reach-child onto rest more a b at now k n i m q x false p e f h z high o =
     pass_as onto rest more a b at now k n i m q x false p e f refl h z (omega (arith, ints)) high o
+
+-- ---- up to a child that is met
+
+-- the touched ones, sought from the first to an index
+abbrev Sought : List (ItemOf Listed) → ℤ → ℤ → ℕ → ℕ → ℕ → Type 0
+Sought l a b i s n = Reaching (length (touched l a b)) (drop s l) a b (added (take s l)) (s - i) n s
+
+sought-first : (l : List (ItemOf Listed)) (a b : ℤ) (i : ℕ) → AreShort l → i ≡ length (ahead l a b)
+    → Sought l a b i i 0
+sought-first l a b i short e =
+    let none : 0 ≡ i - i = omega arith in
+    let long : added (take i l) ≡ added (ahead l a b) =
+    ap (λ m. added (take m l)) e ∙ sym (ap added (ahead-taken l a b)) in
+    subst (λ k. Reaching (length (touched l a b)) (drop i l) a b (added (take i l)) k 0 i) none
+    (reach_touched l (drop i l) a b (added (take i l)) i short e long refl)
+
+sought-next : (l : List (ItemOf Listed)) (a b : ℤ) (i s n q : ℕ) (x : ItemOf Listed) (r : Bool)
+    → Sought l a b i s n → i ≤ s → slice_get l s ≡ Some x → IsShort x
+    → r ≡ is_met x (a -ℤ added (take s l)) (b -ℤ added (take s l)) → q ≡ cond r ((s + 1) - i) n
+    → Sought l a b i (s + 1) q
+sought-next l a b i s n q x r p h e short f g =
+    reach-child _ (drop s l) (drop (s + 1) l) a b (added (take s l)) (added (take (s + 1) l)) (s - i)
+    n s ((s + 1) - i) q x r p (next l s x e) f (omega (arith, h)) (take_more l s x e) short.short g
+
+got : (l : List (ItemOf Listed)) (s : ℕ) → s < length l
+    → (x : ItemOf Listed) × (slice_get l s ≡ Some x)
+got [] s h = absurd (omega (arith, h))
+got (x ∷ l) zero h = (x, refl)
+got (x ∷ l) (suc s) h = got l s (omega (arith, h))
+
+sought : (l : List (ItemOf Listed)) (a b : ℤ) (i d s : ℕ) → AreShort l → i ≡ length (ahead l a b)
+    → s ≡ i + d → s ≤ length l → (n : ℕ) × Sought l a b i s n
+sought l a b i zero s short e f h =
+    let same : i ≡ s = omega (arith, f) in
+    (0, subst (λ k. Sought l a b i k 0) same (sought-first l a b i short e))
+sought l a b i (suc d) s short e f h =
+    let same : (i + d) + 1 ≡ s = omega (arith, f) in
+    let p = sought l a b i d (i + d) short e refl (omega (arith, f, h)) in
+    let x = got l (i + d) (omega (arith, f, h)) in
+    let at : ℤ = added (take (i + d) l) in
+    let n : ℕ = cond (is_met x.0 (a -ℤ at) (b -ℤ at)) (((i + d) + 1) - i) p.0 in
+    let q : Sought l a b i ((i + d) + 1) n =
+    sought-next l a b i (i + d) p.0 n x.0 (is_met x.0 (a -ℤ at) (b -ℤ at)) p.1 (omega arith) x.1
+    (short (i + d) x.0 x.1) refl refl in
+    (n, subst (λ k. Sought l a b i k n) same q)
+
+sought-met : (l : List (ItemOf Listed)) (a b : ℤ) (i s : ℕ) → AreShort l → i ≡ length (ahead l a b)
+    → i ≤ s → s < length l → IsMetAt l a b s → Sought l a b i (s + 1) ((s + 1) - i)
+sought-met l a b i s short e h k m =
+    let x = got l s k in
+    let p = sought l a b i (s - i) s short e (omega (arith, h)) (omega (arith, k)) in
+    let met : is_met x.0 (a -ℤ added (take s l)) (b -ℤ added (take s l)) ≡ true =
+    subst (λ o. IsSomeAnd o
+    (λ y. is_met y (a -ℤ added (take s l)) (b -ℤ added (take s l)) ≡ true)) x.1 m in
+    sought-next l a b i s p.0 _ x.0 true p.1 h x.1 (short s x.0 x.1) (sym met) refl
+
+sought-by : (l : List (ItemOf Listed)) (a b now : ℤ) (i j d : ℕ) → AreShort l
+    → i ≡ length (ahead l a b) → IsStarted l a b i j now → d ≡ j - i → Sought l a b i j (j - i)
+sought-by l a b now i j zero short e s f =
+    let order = s.order in
+    let same : i ≡ j = omega (arith, f, order) in
+    let none : 0 ≡ i - i = omega arith in
+    subst (λ k. Sought l a b i k (k - i)) same
+    (subst (λ n. Sought l a b i i n) none (sought-first l a b i short e))
+sought-by l a b now i j (suc d) short e s f =
+    let within = s.passed.within in
+    let same : (j - 1) + 1 ≡ j = omega (arith, f) in
+    subst (λ k. Sought l a b i k (k - i)) same
+    (sought-met l a b i (j - 1) short e (omega (arith, f)) (omega (arith, f, within))
+    (s.met (omega (arith, f))))
+
+-- the search may begin behind a child that is met
+pub reach-started : (l : List (ItemOf Listed)) (a b now u v : ℤ) (i j n : ℕ) → AreShort l
+    → i ≡ length (ahead l u v) → IsStarted l a b i j now → a ≡ u → b ≡ v → n ≡ j - i
+    → Reaching (length (touched l a b)) (drop j l) a b now (j - i) n j
+reach-started l a b now u v i j n short e s f g h =
+    let first : i ≡ length (ahead l a b) = e ∙ sym (ap₂ (λ c d. length (ahead l c d)) f g) in
+    subst (λ m. Reaching (length (touched l a b)) (drop j l) a b now (j - i) m j) (sym h)
+    (subst (λ z. Reaching (length (touched l a b)) (drop j l) a b z (j - i) (j - i) j)
+    (sym s.passed.long)
+    (sought-by l a b now i j (j - i) short first s refl))
+
+pub seat-passed : (l : Listed) (t : ℤ) (s : Seat) → IsSeat l t s
+    → IsPassed (items_of l) s.index s.start
+seat-passed l t s h =
+    let within = h.within in
+    record { within = omega (arith, within); long = h.starts ∙ start_ticks l s.index }
+
+-- those ahead are a start
+pub started-ahead : (l : List (ItemOf Listed)) (a b now : ℤ) (i : ℕ) → IsPassed l i now
+    → IsStarted l a b i i now
+started-ahead l a b now i p = record {
+  passed = p;
+  order = omega arith;
+  met = λ h. absurd (omega (arith, h));
+}
+
+-- and so are those up to a child that is met
+pub started-met : (l : List (ItemOf Listed)) (a b u v at now : ℤ) (i s j : ℕ) (x : ItemOf Listed)
+    (r : Bool) → IsPassed l s at → slice_get l s ≡ Some x → i ≤ s → r ≡ is_met x (u -ℤ at) (v -ℤ at)
+    → r ≡ true → u ≡ a → v ≡ b → j ≡ s + 1 → now ≡ at +ℤ ticks x → IsStarted l a b i j now
+started-met l a b u v at now i s j x r p e h f g y z k m =
+    let last : j - 1 ≡ s = omega (arith, k) in
+    let here : is_met x (a -ℤ at) (b -ℤ at) ≡ true =
+    sym (ap₂ (λ c d. is_met x (c -ℤ at) (d -ℤ at)) y z) ∙ sym f ∙ g in
+    let met : is_met x (a -ℤ added (take s l)) (b -ℤ added (take s l)) ≡ true =
+    subst (λ w. is_met x (a -ℤ w) (b -ℤ w) ≡ true) p.long here in
+    let there : IsMetAt l a b s = subst (λ o. IsSomeAnd o
+    (λ y. is_met y (a -ℤ added (take s l)) (b -ℤ added (take s l)) ≡ true)) (sym e) met in
+    record {
+      passed = passed-next l s j at now x p e k m;
+      order = omega (arith, h, k);
+      met = λ _. subst (IsMetAt l a b) (sym last) there;
+    }

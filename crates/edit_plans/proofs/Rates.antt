@@ -36,7 +36,7 @@ empty_timeline rate = record {
     rest = [];
   };
   rest = [];
-  spare = record { room = 0; taken = 0 };
+  spare = record { room = 0; taken = 0; loose = 0 };
 }
 
 -- the record rate is that of the start

@@ -1,6 +1,6 @@
 -- The child that holds an instant, by its index, and children that are clear of a zone.
-use Rattle.std.specs.Prelude.{◌≡◌, ℕ, ◌+◌, ◌-◌, ◌≤◌, ◌<◌, ℤ, pos, ◌+ℤ◌, ◌-ℤ◌, ◌<ℤ◌, false}
-use Rattle.std.specs.Prelude.{List, [], ◌∷◌, Some, take, drop, length, slice_get}
+use Rattle.std.specs.Prelude.{◌≡◌, ℕ, ◌+◌, ◌-◌, ◌≤◌, ◌<◌, ℤ, pos, ◌+ℤ◌, ◌-ℤ◌, ◌<ℤ◌, false, true}
+use Rattle.std.specs.Prelude.{List, [], ◌∷◌, IsSomeAnd, Some, take, drop, length, slice_get}
 use Rattle.otio_model.specs.declared.compositions.ItemOf.{ItemOf}
 use Rattle.otio_model.specs.declared.compositions.Listed.{Listed}
 use Rattle.otio_model.specs.Kept.{reach_in}
@@ -41,3 +41,15 @@ pub record IsFurther (l : List (ItemOf Listed)) (a b : ℤ) (i : ℕ) (at : ℤ)
   pub passed : IsPassed l j now
   pub long : now ≡ at +ℤ added (take (j - i) (drop i l))
   pub unmet : NoneMet (take (j - i) (drop i l)) (a -ℤ at) (b -ℤ at)
+
+-- the zone from a to b meets the child at this index
+abbrev pub IsMetAt : List (ItemOf Listed) → ℤ → ℤ → ℕ → Type 0
+IsMetAt l a b i = IsSomeAnd (slice_get l i)
+    (λ x. is_met x (a -ℤ added (take i l)) (b -ℤ added (take i l)) ≡ true)
+
+-- j first children are so long: the i that stand ahead of the zone from a to b, or more, of which
+-- the zone meets the last one
+pub record IsStarted (l : List (ItemOf Listed)) (a b : ℤ) (i j : ℕ) (now : ℤ) : Type 0 where
+  pub passed : IsPassed l j now
+  pub order : i ≤ j
+  pub met : i < j → IsMetAt l a b (j - 1)

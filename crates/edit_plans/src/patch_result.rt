@@ -20,7 +20,7 @@ use crate::replaced_children::Middle;
 use crate::totals::{Amount, amount_of, stretch_amount};
 use crate::tracks::track_of;
 use limits::MOST_ITEMS;
-use otio_model::{EditFault, Items, Patch, Place, Timeline};
+use otio_model::{EditFault, Patch, Place, PutItems, Timeline};
 
 // So many ticks without those that go and with those that come, up to the greatest number.
 fn exchanged_ticks(all: u128, gone: u128, come: u128) -> u128
@@ -104,6 +104,6 @@ pub fn finish(timeline: &Timeline, place: Place, middle: Middle) -> Result<Patch
         place,
         at: middle.at,
         count: middle.count,
-        put: Items::of(middle.put),
+        put: PutItems::of(middle.put),
     })
 }

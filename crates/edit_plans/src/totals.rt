@@ -53,13 +53,28 @@ pub(crate) fn amount_of(list: &[Item]) -> Amount
     all
 }
 
+// What all children come to.
+#[tactic(auto, using(crate::proofs::Exchanges::whole_is))]
+fn whole_amount(children: &Children) -> Amount
+    requires few { count children.now < 2 ^ 32 }
+    ensures { result ≡ amount_in (items_of children.now) }
+{
+    Amount {
+        ticks: children.added_ticks(),
+        items: children.items_below(),
+    }
+}
+
 /// What so many children from an index on come to.
-#[tactic(auto, using(crate::proofs::AmountLemmas::stretch_more))]
+#[tactic(auto, using(crate::proofs::AmountLemmas::stretch_more, crate::proofs::AmountLemmas::stretch_whole))]
 pub(crate) fn stretch_amount(children: &Children, at: usize, many: usize) -> Amount
     requires few { count children.now < 2 ^ 32 }
     requires there { at + many ≤ length (items_of children.now) }
     ensures { result ≡ amount_in (take many (drop at (items_of children.now))) }
 {
+    if many == children.len() {
+        return whole_amount(children);
+    }
     let mut all = Amount { ticks: 0, items: 0 };
     'children: for index in at..at + many {
         all = with_item(all, children.child(index));

@@ -9,7 +9,7 @@ ghost use Rattle.otio_model.specs.Trees.{items_of};
 ghost use Rattle.edits.specs.Narrow as narrow;
 ghost use Rattle.edits.specs.Edges.{added, held_at};
 ghost use Rattle.pieces.specs.Short.{IsShort, AreShort};
-ghost use Rattle.edit_plans.specs.Parts.{IsClear, IsFurther, IsHeldAt, IsPassed};
+ghost use Rattle.edit_plans.specs.Parts.{IsClear, IsFurther, IsHeldAt, IsPassed, IsStarted};
 
 use otio_model::{Children, Item, Seat};
 use pieces::{is_stripped, ticks_of};
@@ -153,6 +153,52 @@ fn met_up_to(met: bool, passed: usize, count: usize) -> usize
     if met { passed } else { count }
 }
 
+// The last instant before the end of a zone, or of the children where that comes first.
+fn last_instant(children: &Children, to: i128) -> i128
+    requires few { count children.now < 2 ^ 32 }
+{
+    match i128::try_from(children.added_ticks()) {
+        Ok(end) => to.min(end).saturating_sub(1),
+        Err(_) => to,
+    }
+}
+
+// First children up to the one at a seat, where a zone meets that one; else those ahead of it.
+fn started_at(children: &Children, ahead: Passed, seat: Seat, from: i128, to: i128) -> Passed
+    requires few { count children.now < 2 ^ 32 }
+    requires short { AreShort (items_of children.now) }
+    requires ahead { IsPassed (items_of children.now) ahead.count ahead.ticks }
+    requires seat { IsPassed (items_of children.now) seat.index seat.start }
+    requires there { seat.index < length (items_of children.now) }
+    ensures { IsStarted (items_of children.now) from to ahead.count result.count result.ticks }
+{
+    if seat.index < ahead.count {
+        return ahead;
+    }
+    let item = children.child(seat.index);
+    if is_met(item, seat.start, from, to) {
+        return Passed {
+            count: seat.index + 1,
+            ticks: seat.start + ticks_of(item),
+        };
+    }
+    ahead
+}
+
+// First children up to the last one that starts before the end of a zone, where the zone meets
+// that one; else those ahead of the zone.
+fn started(children: &Children, ahead: Passed, from: i128, to: i128) -> Passed
+    requires few { count children.now < 2 ^ 32 }
+    requires short { AreShort (items_of children.now) }
+    requires ahead { IsPassed (items_of children.now) ahead.count ahead.ticks }
+    ensures { IsStarted (items_of children.now) from to ahead.count result.count result.ticks }
+{
+    match children.holder(last_instant(children, to)) {
+        Some(seat) => started_at(children, ahead, seat, from, to),
+        None => ahead,
+    }
+}
+
 /// How many children there are from the first to the last that a zone touches, where those before
 /// the first are given. The end of the list counts as touched where the zone begins after it.
 /// `from` and `to`, the ends of the zone, are in ticks from the start of the list.
@@ -165,8 +211,8 @@ pub fn touched(children: &Children, ahead: Passed, from: i128, to: i128) -> usiz
     ensures { result ≡ length (narrow.touched (items_of children.now) from to) }
 {
     let reach = reach(children);
-    let mut passed = ahead;
-    let mut count = 0;
+    let mut passed = started(children, ahead, from, to);
+    let mut count = passed.count - ahead.count;
     'children: while passed.count < children.len() {
         if to < passed.ticks - reach {
             return count;

@@ -15,7 +15,7 @@ ghost use Rattle.tick_time.specs.Frames.{IsFrameSpan, in_ticks};
 use crate::commands::Put;
 use media_list::MediaList;
 use media_rows::MediaRow;
-use otio_model::{Clip, Effects, External, Item, ItemOf, Markers, Media, MediaMap};
+use otio_model::{Clip, Effects, External, Item, ItemOf, Markers, Media, MediaMap, Metadata};
 use pieces::short_gap;
 use sequences::{NamedValues, Text};
 use std::alloc::{AllocError, Global};
@@ -130,7 +130,7 @@ fn clip_of(alloc: Global, row: &MediaRow, name: &Text, shown: Span) -> Result<It
     let media_references = references_of(alloc, media_of(alloc, row)?)?;
     let key = Text::of(alloc, "DEFAULT_MEDIA")?;
     Ok(ItemOf::Clip(Clip {
-        metadata: NamedValues::new(alloc),
+        metadata: Metadata::new(alloc),
         name,
         source_range: Some(shown),
         effects: Effects::new(alloc),

@@ -18,8 +18,8 @@ use edl_list::{OWN_SPEED, Side, side_speed};
 use json_value::{Json, Members};
 use media_rows::MediaRow;
 use otio_model::{
-    Clip, Effect, Effects, External, Freeze, Gap, Item, ItemOf, Markers, Media, MediaMap, Missing,
-    Transition, Warp,
+    Clip, Effect, Effects, External, Freeze, Gap, Item, ItemOf, Markers, Media, MediaMap, Metadata,
+    Missing, Transition, Warp,
 };
 use owned::Owned;
 use sequences::{NamedValues, Text};
@@ -33,7 +33,7 @@ pub(crate) fn gap_of(alloc: Global, rate: Rate, count: i64) -> Item
     ensures { IsGap rate count result }
 {
     ItemOf::Gap(Gap {
-        metadata: Members::new(alloc),
+        metadata: Metadata::new(alloc),
         name: Text::empty(),
         source_range: Some(span(0, count, rate)),
         effects: Effects::new(alloc),
@@ -49,7 +49,7 @@ pub(crate) fn transition_of(alloc: Global, rate: Rate, kind: Text, count: u16) -
     ensures { IsTransition rate kind count result }
 {
     ItemOf::Transition(Transition {
-        metadata: Members::new(alloc),
+        metadata: Metadata::new(alloc),
         name: Text::empty(),
         transition_type: kind,
         in_offset: Some(Time::of_frames(0, rate)),
@@ -58,13 +58,14 @@ pub(crate) fn transition_of(alloc: Global, rate: Rate, kind: Text, count: u16) -
     })
 }
 
-// The members that tell of a reel.
-fn reel_members(alloc: Global, reel: &Text) -> Result<Members, AllocError>
+// The metadata that tell of a reel.
+fn reel_metadata(alloc: Global, reel: &Text) -> Result<Metadata, AllocError>
     ensures { IfOk result (TellsReel reel.now) }
 {
     let text = Text::of(alloc, reel.as_str())?;
     let inner = NamedValues::one(alloc, "reel", Json::Str(text))?;
-    NamedValues::one(alloc, "cmx_3600", Json::Map(inner))
+    let members = NamedValues::one(alloc, "cmx_3600", Json::Map(inner))?;
+    Ok(Metadata::of(members))
 }
 
 // A still.
@@ -176,7 +177,7 @@ pub(crate) fn clip_of(
     ensures { IfOk result (IsClip media.now.rate
         (rows.row_of (option_copied media.now.rows) reel.now) side.now reel.now count) }
 {
-    let metadata = reel_members(alloc, reel)?;
+    let metadata = reel_metadata(alloc, reel)?;
     let name = name_of(alloc, side, reel)?;
     let effects = effects_of(alloc, side_speed(media.rate, side))?;
     let reference = reference_of(alloc, row_of(media.rows, reel))?;

@@ -15,7 +15,9 @@ use crate::reel_rows::ListMedia;
 use edl_list::{Channel, Event, EventList};
 use json_value::Members;
 use media_list::MediaList;
-use otio_model::{Children, Effects, Item, ItemOf, Markers, Stack, StackOf, Timeline, TrackOf};
+use otio_model::{
+    Children, Effects, Item, ItemOf, Markers, Metadata, Stack, StackOf, Timeline, TrackOf,
+};
 use sequences::{Sequence, Text};
 use std::alloc::{AllocError, Global};
 use tick_time::Time;
@@ -93,7 +95,7 @@ fn track_of(
     let name = channel_name(alloc, channel)?;
     let kind = channel_kind(alloc, channel)?;
     Ok(ItemOf::Track(TrackOf {
-        metadata: Members::new(alloc),
+        metadata: Metadata::new(alloc),
         name,
         source_range: None,
         effects: Effects::new(alloc),
@@ -153,7 +155,7 @@ fn root_of(alloc: Global, tracks: Vec<Item>) -> Result<Stack, AllocError>
         children,
         enabled: true,
         source_range: None,
-        metadata: Members::new(alloc),
+        metadata: Metadata::new(alloc),
         rest: Members::new(alloc),
         markers: Markers::new(alloc),
         effects: Effects::new(alloc),

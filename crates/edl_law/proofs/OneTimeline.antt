@@ -286,7 +286,7 @@ bare_with name start children = record {
     rest = [];
   };
   rest = [];
-  spare = record { room = 0; taken = 0 };
+  spare = record { room = 0; taken = 0; loose = 0 };
 }
 
 bare_is : (list : EventList) (media : MediaRows) (t : Timeline) (i : IsTimelineOf list media t)
@@ -306,7 +306,7 @@ bare_is list media t i = λ k. record {
     rest = i.root_rest k;
   };
   rest = i.rest k;
-  spare = record { room = 0; taken = 0 };
+  spare = record { room = 0; taken = 0; loose = 0 };
 }
 
 pub one_timeline : (list : EventList) (media : MediaRows) (a b : Timeline)

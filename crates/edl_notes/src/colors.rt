@@ -9,6 +9,7 @@ ghost use Rattle.edl_notes.specs.Steps.{correction, said_by};
 
 use json_value::{Json, JsonList, Members};
 use note_text::{Note, Said, Triple, Words};
+use otio_model::Metadata;
 use sequences::{NamedValues, Text};
 use std::alloc::{AllocError, Global};
 
@@ -24,7 +25,7 @@ pub(crate) struct Correction<'a> {
 /// where there are any.
 pub(crate) fn put_colors(
     alloc: Global,
-    metadata: &mut Members,
+    metadata: &mut Metadata,
     notes: &[&Note],
 ) -> Result<(), AllocError>
     ensures { IfOk result (λ _. metadata.new
@@ -35,13 +36,13 @@ pub(crate) fn put_colors(
 }
 
 // Puts a member `cdl` with these members, where there are any.
-fn put_cdl(alloc: Global, metadata: &mut Members, colors: Members) -> Result<(), AllocError>
+fn put_cdl(alloc: Global, metadata: &mut Metadata, colors: Members) -> Result<(), AllocError>
     ensures { IfOk result (λ _. metadata.new ≡ with_colors colors metadata.old) }
 {
     if colors.len() == 0 {
         return Ok(());
     }
-    metadata.put(Text::of(alloc, "cdl")?, Json::Map(colors))
+    metadata.put(alloc, Text::of(alloc, "cdl")?, Json::Map(colors))
 }
 
 // The last slope, offset and power among the notes.

@@ -94,8 +94,8 @@ fn put_clip(
         (SaysClip shown.entry.rate shown.entry.event.now clip.now)
         notes.old.items notes.new.items) }
 {
-    put_correction(alloc, shown.index, &clip.metadata, notes)?;
-    put_saturation(alloc, shown.index, &clip.metadata, notes)?;
+    put_correction(alloc, shown.index, clip.metadata.get(), notes)?;
+    put_saturation(alloc, shown.index, clip.metadata.get(), notes)?;
     put_locators(alloc, clip.markers.as_slice(), shown, notes)?;
     Ok(())
 }

@@ -5,7 +5,7 @@ ghost use Rattle.otio_model.specs.Counts.{count, count_of};
 
 use crate::trees::{FRAME, frames, one, played, rate_25, span, span_at, timeline_of, track, warps};
 use coord::{CoordFault, record_rate, sound, speed, start_frame, trimmed_start};
-use otio_model::{Effects, Item, ItemOf, Media, MediaMap, Missing, Timeline, Transition};
+use otio_model::{Effects, Item, ItemOf, Media, MediaMap, Metadata, Missing, Timeline, Transition};
 use sequences::{NamedValues, Text};
 use std::alloc::{AllocError, Global};
 use std::process::Abort;
@@ -162,7 +162,7 @@ fn start_of(alloc: Global, source_range: Option<Span>, media: MediaMap) -> i128 
 #[test]
 fn a_transition_plays_as_it_is(rt: HostRuntime) -> Result<(), Fail> {
     let item = ItemOf::Transition(Transition {
-        metadata: NamedValues::new(rt.alloc()),
+        metadata: Metadata::new(rt.alloc()),
         name: Text::empty(),
         transition_type: Text::empty(),
         in_offset: None,

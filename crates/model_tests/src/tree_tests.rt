@@ -2,8 +2,8 @@
 
 use crate::trees::{FRAME, copied, frames, gap, played, rate_24, span, warps};
 use otio_model::{
-    Children, Clip, Effects, External, Item, ItemOf, Items, Media, MediaMap, Place, Transition,
-    copy_place,
+    Children, Clip, Effects, External, Item, ItemOf, Items, Media, MediaMap, Metadata, Place,
+    Transition, copy_place,
 };
 use sequences::{NamedValues, Text};
 use std::alloc::{AllocError, Global};
@@ -47,7 +47,7 @@ fn clip_under(alloc: Global, key: &str, available_range: Option<Span>) -> Result
 fn transition(alloc: Global) -> Result<Transition, AllocError> {
     let transition_type = Text::of(alloc, "SMPTE_Dissolve")?;
     Ok(Transition {
-        metadata: NamedValues::new(alloc),
+        metadata: Metadata::new(alloc),
         name: Text::empty(),
         transition_type,
         in_offset: frames(6, rate_24()),
@@ -102,9 +102,9 @@ fn media_are_those_of_the_key(rt: HostRuntime) -> Result<(), Fail> {
 #[test]
 fn kept_places_change_no_value(rt: HostRuntime) -> Result<(), Fail> {
     let range = span(10, 100);
-    let clip = clip_under(rt.alloc(), "m", range)?.with_places("cmx_3600", "reel");
-    let has_list = clip.metadata_value("cmx_3600").is_some();
-    assert!(rt; !has_list);
+    let clip = clip_under(rt.alloc(), "m", range)?.with_places(rt.alloc())?;
+    let has_reel = clip.listed_reel().is_some();
+    assert!(rt; !has_reel);
     has_medium(&rt, clip, (true, range));
     Ok(())
 }

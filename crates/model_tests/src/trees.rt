@@ -4,8 +4,8 @@ ghost use Rattle.std.specs.Prelude.{◌≡◌, ◌+◌, IfOk};
 ghost use Rattle.otio_model.specs.Counts.{count, count_of};
 
 use otio_model::{
-    Children, Clip, Effect, Effects, Gap, Item, ItemOf, Items, Markers, MediaMap, Stack, StackOf,
-    Timeline, TrackOf, Warp, copy_item,
+    Children, Clip, Effect, Effects, Gap, Item, ItemOf, Items, Markers, MediaMap, Metadata, Stack,
+    StackOf, Timeline, TrackOf, Warp, copy_item,
 };
 use owned::Owned;
 use sequences::{NamedValues, Text};
@@ -71,7 +71,7 @@ pub fn played(
         enabled: true,
         active_media_reference_key: Text::empty(),
         markers: Markers::new(alloc),
-        metadata: NamedValues::new(alloc),
+        metadata: Metadata::new(alloc),
         rest: NamedValues::new(alloc),
     }
 }
@@ -87,7 +87,7 @@ pub fn gap(alloc: Global, source_range: Option<Span>) -> Item
         markers: Markers::new(alloc),
         effects: Effects::new(alloc),
         rest: NamedValues::new(alloc),
-        metadata: NamedValues::new(alloc),
+        metadata: Metadata::new(alloc),
     })
 }
 
@@ -149,7 +149,7 @@ pub fn track(alloc: Global, children: Children) -> Item
         name: Text::empty(),
         effects: Effects::new(alloc),
         markers: Markers::new(alloc),
-        metadata: NamedValues::new(alloc),
+        metadata: Metadata::new(alloc),
         rest: NamedValues::new(alloc),
     })
 }
@@ -166,7 +166,7 @@ pub fn stack(alloc: Global, children: Children) -> Stack
         markers: Markers::new(alloc),
         effects: Effects::new(alloc),
         rest: NamedValues::new(alloc),
-        metadata: NamedValues::new(alloc),
+        metadata: Metadata::new(alloc),
     }
 }
 

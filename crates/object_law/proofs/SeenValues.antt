@@ -288,7 +288,7 @@ object_by φ S.Timeline s = φ.object (Object-F.Timeline (record {
   global_start_time = time_in (at 2 s.views);
   tracks = stack_in (at 3 s.views);
   rest = s.rest;
-  spare = record { room = 0; taken = 0 };
+  spare = record { room = 0; taken = 0; loose = 0 };
 }))
 object_by φ S.Collection s = φ.object (Object-F.Collection (φ.collection (record { metadata = meta_in (at 0 s.views); name = text_in (at 1 s.views); children = objects_in (at 2 s.views); rest = s.rest })))
 object_by φ schema s = φ.object (Object-F.Item (item_by schema s))

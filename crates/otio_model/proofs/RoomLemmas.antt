@@ -9,7 +9,7 @@ use Rattle.otio_model.specs.declared.timelines.Timeline.{Timeline}
 use Rattle.otio_model.specs.declared.compositions.Listed.{Listed}
 use Rattle.otio_model.specs.Trees.{items_of}
 use Rattle.otio_model.specs.Edits.{list_at}
-use Rattle.otio_model.specs.Rooms.{Room, Suits}
+use Rattle.otio_model.specs.Rooms.{Holds, Room, Suits}
 use Rattle.otio_model.specs.Spares.{room_of}
 use Rattle.otio_model.specs.declared.reserve.Spare.TheInside.{Inside}
 use Rattle.otio_model.specs.Patches.{Fits, IsRoomFor}
@@ -42,30 +42,30 @@ both (Some l) P Q h k = (h, k)
 pub roomy : (p : Patch) (t : Timeline) (place : List ℕ) (put : ℕ) → place ≡ p.place
     → put ≡ length p.put → Fits p t → IsRoomFor p t
     → IsSomeAnd (list_at place t.tracks.children) (λ l. (p.at + p.count ≤ length (items_of l))
-    × Suits p.count (length (items_of l)) put t.spare)
+    × Holds p.count (length (items_of l)) put t.spare)
 unfolding IsRoomFor
 roomy p t place put e n f r =
     subst (λ q. IsSomeAnd (list_at q t.tracks.children) (λ l. (p.at + p.count ≤ length (items_of l))
-    × Suits p.count (length (items_of l)) put t.spare)) (sym e) (
+    × Holds p.count (length (items_of l)) put t.spare)) (sym e) (
     subst (λ m. IsSomeAnd (list_at p.place t.tracks.children)
     (λ l. (p.at + p.count ≤ length (items_of l))
-    × Suits p.count (length (items_of l)) m t.spare)) (sym n)
+    × Holds p.count (length (items_of l)) m t.spare)) (sym n)
     (both (list_at p.place t.tracks.children) (λ l. p.at + p.count ≤ length (items_of l))
-    (λ l. Suits p.count (length (items_of l)) (length p.put) t.spare) f r)
+    (λ l. Holds p.count (length (items_of l)) (length p.put) t.spare) f r)
     )
 
 -- room that was made for the children that the place leads to
 pub room_made : (r : Result (Unit {0}) AllocError) (p : Patch) (t : Timeline) (l : Listed)
     (place : List ℕ) (long put : ℕ) → place ≡ p.place → Some l ≡ list_at place t.tracks.children
     → long ≡ length (items_of l) → put ≡ length p.put
-    → OnOk r (Suits p.count long put t.spare) → OnOk r (IsRoomFor p t)
+    → OnOk r (Holds p.count long put t.spare) → OnOk r (IsRoomFor p t)
 unfolding IsRoomFor
 room_made (Err e) p t l place long put e1 e2 e3 e4 h = tt
 room_made (Ok u) p t l place long put e1 e2 e3 e4 h =
     let there : list_at p.place t.tracks.children ≡ Some l =
     ap (λ q. list_at q t.tracks.children) (sym e1) ∙ sym e2 in
-    let suits : Suits p.count (length (items_of l)) (length p.put) t.spare =
-    subst (λ m. Suits p.count (length (items_of l)) m t.spare) e4
-    (subst (λ n. Suits p.count n put t.spare) e3 h) in
-    subst (λ o. IfSome o (λ l. Suits p.count (length (items_of l)) (length p.put) t.spare))
-    (sym there) suits
+    let holds : Holds p.count (length (items_of l)) (length p.put) t.spare =
+    subst (λ m. Holds p.count (length (items_of l)) m t.spare) e4
+    (subst (λ n. Holds p.count n put t.spare) e3 h) in
+    subst (λ o. IfSome o (λ l. Holds p.count (length (items_of l)) (length p.put) t.spare))
+    (sym there) holds

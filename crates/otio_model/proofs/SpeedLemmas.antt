@@ -5,10 +5,10 @@ use Rattle.std.specs.Prelude.{int_le, unsigned_abs}
 use Rattle.std.proofs.lemmas.Bool.{and_parts}
 use Rattle.std.proofs.lemmas.Int.{ints, unsigned_abs-mul}
 use Rattle.std.proofs.lemmas.Nat.{mul-le}
-use Rattle.limits.proofs.IntegerTests.{int_le-true}
+use Rattle.limits.proofs.IntegerTests.{int_le-true, below-int_le}
 use Rattle.tick_time.specs.Times.{IsSpeed, is_speed}
 use Rattle.otio_model.specs.declared.effect_types.Effect.{Effect}
-use Rattle.otio_model.specs.Speeds.{next_speed, combined, keeps_speed, kept_speed}
+use Rattle.otio_model.specs.Speeds.{next_speed, combined, keeps_speed, kept_speed, speed_in}
 
 -- a speed that passes the test is one
 pub speed_of_test : (speed : ℤ) → is_speed speed ≡ true → IsSpeed speed
@@ -29,6 +29,12 @@ combined_speed speed (x ∷ xs) h e =
 where_kept : (b : Bool) (v : ℤ) → (b ≡ true → IsSpeed v) → IfSome (cond b (Some v) None) IsSpeed
 where_kept true v h = h refl
 where_kept false v h = tt
+
+-- the number of a speed is that speed
+pub speed_in_speed : (speed : ℤ) → IsSpeed speed → speed_in speed ≡ Some speed
+speed_in_speed speed h =
+    rw (below-int_le (pos 0 -ℤ pos 1000000000) speed h.low, below-int_le speed (pos 1000000000) h.high)
+    refl
 
 -- a kept speed is at most 1000 times, either way
 pub kept_in_range : (o : Option ℤ) (es : List Effect) → o ≡ kept_speed (pos 1000000) es

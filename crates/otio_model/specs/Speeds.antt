@@ -25,3 +25,7 @@ keeps_speed speed (e ∷ es) = is_speed (next_speed speed e) && keeps_speed (nex
 -- the speed after these effects, none where it passes 1000 times on the way
 abbrev pub kept_speed : ℤ → List Effect → Option ℤ
 kept_speed speed es = cond (keeps_speed speed es) (Some (combined speed es)) None
+
+-- the speed that a number is, none where it is past 1000 times
+abbrev pub speed_in : ℤ → Option ℤ
+speed_in number = cond (is_speed number) (Some number) None

@@ -17,8 +17,8 @@ use std::mem;
 /// kept beside it, so that no call looks at each of them again. A copy of a copy shares the list.
 pub struct Effects {
     list: Shared<Sequence<Effect>>,
-    /// The speed after them, in millionths; `None` where it passes 1000 times on the way.
-    speed: Option<i64>,
+    /// The speed after them, in millionths; past 1000 times where it passes them on the way.
+    speed: i64,
     alloc: Global,
 }
 
@@ -36,9 +36,10 @@ impl Model for Effects {
     ghost view = { λ effects. effects.list };
 
     ghost use Rattle.std.specs.Prelude.{◌≡◌, pos};
-    ghost use Rattle.otio_model.specs.Speeds.{kept_speed};
+    ghost use Rattle.otio_model.specs.Speeds.{kept_speed, speed_in};
 
-    ghost invariant = { λ effects. effects.speed ≡ kept_speed (pos 1000000) effects.list };
+    ghost invariant = { λ effects.
+        speed_in effects.speed ≡ kept_speed (pos 1000000) effects.list };
 }
 
 impl Effects {
@@ -48,7 +49,7 @@ impl Effects {
     {
         Effects {
             list: Shared::own(Sequence::new(alloc)),
-            speed: Some(1_000_000),
+            speed: 1_000_000,
             alloc,
         }
     }
@@ -58,7 +59,7 @@ impl Effects {
         ensures { result ≡ list.items }
     {
         let alloc = *list.allocator();
-        let speed = speeds::kept_speed(list.as_slice());
+        let speed = speeds::number_of(speeds::kept_speed(list.as_slice()));
         Effects {
             list: Shared::own(Sequence::of(list)),
             speed,
@@ -99,7 +100,7 @@ impl Effects {
             Err(fault) => return Err(fault),
         };
         let added = list.push(effect);
-        self.speed = speeds::kept_speed(list.as_slice());
+        self.speed = speeds::number_of(speeds::kept_speed(list.as_slice()));
         self.list = Shared::own(list);
         added
     }
@@ -111,7 +112,7 @@ impl Effects {
         ensures speed { result ≡ kept_speed (pos 1000000) self.now }
         ensures range { IfSome result IsSpeed }
     {
-        self.speed
+        speeds::speed_in(self.speed)
     }
 }
 

@@ -4,25 +4,7 @@ ghost use Rattle.std.specs.Prelude.{◌≡◌};
 ghost use Rattle.std.specs.Option.{option_copied};
 ghost use Rattle.sequences.specs.Pairs.{value_of};
 
-use sequences::NamedValues;
-
-/// Places among named values, counted from 0. A wrong one costs a search and changes no answer.
-#[derive(Clone, Copy)]
-pub(crate) struct Near {
-    /// The place of the media reference of the clip's active key.
-    pub(crate) media: u32,
-    /// The place of a name in the clip's metadata.
-    pub(crate) outer: u32,
-    /// The place of a name in the object under that one.
-    pub(crate) inner: u32,
-}
-
-/// Where nothing was looked for.
-pub(crate) const FIRST: Near = Near {
-    media: 0,
-    outer: 0,
-    inner: 0,
-};
+use sequences::{NamedValues, Text};
 
 /// The value of that name; `None` exactly where no pair has the name. In practice it takes constant
 /// time where the pair stands at `place`, which no clause says.
@@ -42,4 +24,14 @@ pub(crate) fn value_near<'a, T>(
         None => {}
     }
     pairs.get(name)
+}
+
+/// The place of the first pair of that name, of the first 2^32; 0 where none has the name.
+pub(crate) fn place_of<T>(pairs: &[(Text, T)], name: &str) -> u32 {
+    for (index, pair) in pairs.iter().enumerate() {
+        if name == pair.0.as_str() {
+            return index.min(u32::MAX as usize) as u32;
+        }
+    }
+    0
 }

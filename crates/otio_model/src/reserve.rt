@@ -1,11 +1,12 @@
 //! What a timeline keeps so that a change of its children needs no memory.
 
 ghost use Rattle.std.specs.Prelude.{◌≡◌, ◌+◌, ◌*◌, ◌/◌, ◌<◌, ◌^◌, IfSome, OnOk};
-ghost use Rattle.otio_model.specs.Rooms.{Suits};
+ghost use Rattle.otio_model.specs.Rooms.{Holds};
 
 use crate::lists::{Item, Piece};
 use crate::piece_numbers::AT_FRONT;
 use crate::piece_summary::NO_ITEMS;
+use crate::vec_moves::reserve_empty;
 use std::alloc::{AllocError, Global};
 use std::marker::Model;
 
@@ -13,6 +14,8 @@ use std::marker::Model;
 pub(crate) struct Spare {
     /// Takes in what goes, and is handed out with it.
     pub(crate) taken: Vec<Item>,
+    /// Takes in what comes in pieces and stays in none of them.
+    pub(crate) loose: Vec<Item>,
     /// Takes in the items of the pieces that a change touches.
     pub(crate) mid: Vec<Item>,
     /// Takes in all pieces.
@@ -54,6 +57,7 @@ impl Spare {
     pub(crate) fn new(alloc: Global) -> Spare {
         Spare {
             taken: Vec::new(alloc),
+            loose: Vec::new(alloc),
             mid: Vec::new(alloc),
             outer: Vec::new(alloc),
             made: Vec::new(alloc),
@@ -63,7 +67,7 @@ impl Spare {
 
     /// Makes the room that a replacement needs.
     pub(crate) fn make(&mut self, count: usize, long: usize, put: usize) -> Result<(), AllocError>
-        ensures { OnOk result (Suits count long put self.new) }
+        ensures { OnOk result (Holds count long put self.new) }
     {
         let alloc = *self.taken.allocator();
         let Some(work) = work_of(count, long, put) else {
@@ -71,6 +75,7 @@ impl Spare {
         };
         let wanted = work / 32 + 1;
         self.taken.reserve(count)?;
+        self.loose.reserve(put)?;
         self.mid.reserve(work)?;
         self.made.reserve(wanted)?;
         'fresh: while self.fresh.len() < wanted {
@@ -84,8 +89,7 @@ impl Spare {
         let Some(all) = self.fresh.len().checked_add(work) else {
             return Err(AllocError);
         };
-        self.outer.reserve(all)?;
-        Ok(())
+        reserve_empty(&mut self.outer, all)
     }
 }
 
@@ -95,6 +99,7 @@ impl Drop for Spare {
     fn drop(self) {
         let Spare {
             taken: _,
+            loose: _,
             mid: _,
             outer: _,
             made: _,

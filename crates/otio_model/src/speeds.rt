@@ -50,6 +50,29 @@ fn is_speed(speed: i128) -> bool
     -1_000_000_000 <= speed && speed <= 1_000_000_000
 }
 
+/// The number that is kept of a speed in millionths, or of none.
+#[tactic(auto, using(crate::proofs::SpeedLemmas::speed_in_speed))]
+pub(crate) fn number_of(speed: Option<i64>) -> i64
+    requires { IfSome speed IsSpeed }
+    ensures { speeds.speed_in result ≡ speed }
+{
+    match speed {
+        Some(speed) => speed,
+        None => i64::MAX,
+    }
+}
+
+/// The speed that was kept as a number.
+pub(crate) fn speed_in(number: i64) -> Option<i64>
+    ensures { result ≡ speeds.speed_in number }
+{
+    if is_speed(i128::from(number)) {
+        Some(number)
+    } else {
+        None
+    }
+}
+
 /// The speed after these effects, in millionths. `None` exactly where it passes 1000 times, either
 /// way, after one of them.
 pub(crate) fn kept_speed(effects: &[Effect]) -> Option<i64>

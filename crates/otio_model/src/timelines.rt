@@ -7,10 +7,11 @@ ghost use Rattle.otio_model.specs.Patches.{IsFit, IsRoomFor, Takes, applied, und
 ghost use Rattle.otio_model.specs.Timelines.{bare};
 
 use crate::compositions::ItemOf;
-use crate::lists::{Item, Items, Stack};
+use crate::lists::{Item, Stack};
 use crate::patches::Patch;
 use crate::place_walk::{Stretch, children_at, replace_at};
 use crate::places::Place;
+use crate::put_items::PutItems;
 use crate::reserve::Spare;
 use json_value::Members;
 use sequences::Text;
@@ -99,8 +100,7 @@ impl Timeline {
             unreachable!()
         };
         let long = children.len();
-        self.spare
-            .make(patch.count, long, patch.put.as_slice().len())
+        self.spare.make(patch.count, long, patch.put.len())
     }
 
     /// Replaces children of the track that the patch leads to, and hands back the patch that undoes
@@ -117,20 +117,19 @@ impl Timeline {
             count,
             put,
         } = patch;
-        let mut list = put.into_vec();
-        let added = list.len();
-        replace_at(
+        let added = put.len();
+        let taken = replace_at(
             &mut self.tracks.children,
             place.as_slice(),
             Stretch { at, count },
-            &mut list,
+            put.into_held(),
             &mut self.spare,
         );
         Patch {
             place,
             at,
             count: added,
-            put: Items::of(list),
+            put: PutItems::of_held(taken),
         }
     }
 }

@@ -11,8 +11,8 @@ ghost use Rattle.pieces.specs.Short.{AreShort};
 use crate::cutting::left_piece;
 use crate::item_lengths::{member, ticks_of};
 use crate::new_ranges::RangedFault;
-use otio_model::{Effects, Gap, Item, ItemOf, copy_item};
-use sequences::{NamedValues, Sequence, Text};
+use otio_model::{Effects, Gap, Item, ItemOf, Markers, Metadata, copy_item};
+use sequences::{NamedValues, Text};
 use std::alloc::{AllocError, Global};
 use tick_time::{Rate, Span, Time};
 
@@ -42,11 +42,11 @@ fn gap_of(alloc: Global, range: Span) -> Item
     ensures { result ≡ children.with_range range children.plain_gap }
 {
     ItemOf::Gap(Gap {
-        metadata: NamedValues::new(alloc),
+        metadata: Metadata::new(alloc),
         name: Text::empty(),
         source_range: Some(range),
         effects: Effects::new(alloc),
-        markers: Sequence::new(alloc),
+        markers: Markers::new(alloc),
         enabled: true,
         rest: NamedValues::new(alloc),
     })

@@ -6,8 +6,8 @@ ghost use Rattle.schema_rows.specs.Rows as rows;
 ghost use Rattle.schema_tab.specs.Shapes.{HaveKinds};
 
 use crate::next_value::{
-    next_effects, next_flag, next_items, next_markers, next_media, next_meta, next_number,
-    next_objects, next_span, next_stack, next_text, next_time,
+    next_effects, next_flag, next_items, next_markers, next_media, next_meta, next_metadata,
+    next_number, next_objects, next_span, next_stack, next_text, next_time,
 };
 use otio_model::{
     Children, Clip, Collection, External, Freeze, Gap, Generator, Mark, Missing, Plain, Sequence,
@@ -30,7 +30,7 @@ macro_rules! made {
 macro_rules! made_item {
     ($fields:ident => $name:ident { $($field:ident: $next:ident),* }) => {
         made!($fields => $name {
-            metadata: next_meta, name: next_text, source_range: next_span,
+            metadata: next_metadata, name: next_text, source_range: next_span,
             effects: next_effects, markers: next_markers, enabled: next_flag
             $(, $field: $next)*
         })
@@ -42,7 +42,7 @@ macro_rules! made_parent {
     ($alloc:ident, $fields:ident => $name:ident { $($field:ident: $next:ident),* }) => {{
         let Fields { schema: _, values, rest } = $fields;
         let mut values = values.into_vec().into_iter();
-        let metadata = next_meta(&mut values);
+        let metadata = next_metadata(&mut values);
         let name = next_text(&mut values);
         let source_range = next_span(&mut values);
         let effects = next_effects(&mut values);
@@ -85,16 +85,16 @@ pub(crate) fn gap_of(fields: Fields) -> Gap
 }
 
 #[tactic(auto, using(crate::proofs::FirstShapes::first_is, crate::proofs::FirstShapes::have_shapes))]
-pub(crate) fn clip_of(fields: Fields) -> Clip
+pub(crate) fn clip_of(alloc: Global, fields: Fields) -> Result<Clip, AllocError>
     requires { HaveKinds rows.clip_rows fields.values }
-    ensures values { (readings.clip_fields result).values ≡ fields.values }
-    ensures rest { (readings.clip_fields result).rest ≡ fields.rest }
+    ensures values { IfOk result (λ made. (readings.clip_fields made).values ≡ fields.values) }
+    ensures rest { IfOk result (λ made. (readings.clip_fields made).rest ≡ fields.rest) }
 {
     let clip = made_item!(fields => Clip {
         media_references: next_media,
         active_media_reference_key: next_text
     });
-    clip.with_places("cmx_3600", "reel")
+    clip.with_places(alloc)
 }
 
 #[tactic(auto, using(crate::proofs::FirstShapes::first_is, crate::proofs::FirstShapes::have_shapes))]
@@ -104,7 +104,7 @@ pub(crate) fn transition_of(fields: Fields) -> Transition
     ensures rest { (readings.transition_fields result).rest ≡ fields.rest }
 {
     made!(fields => Transition {
-        metadata: next_meta,
+        metadata: next_metadata,
         name: next_text,
         transition_type: next_text,
         in_offset: next_time,

@@ -7,7 +7,7 @@ ghost use Rattle.schema_rows.specs.Defaults as defaults;
 
 use crate::faults::field_fault;
 use crate::required_values::empty_missing;
-use otio_model::{Children, Effects, Media, MediaMap, Place, Stack, StackOf};
+use otio_model::{Children, Effects, Markers, Media, MediaMap, Metadata, Place, Stack, StackOf};
 use owned::Owned;
 use schema_rows::{Field, Kind, RowResult, SchemaFault, Value};
 use sequences::{NamedValues, Sequence, Text};
@@ -21,11 +21,11 @@ fn empty_tracks(alloc: Global) -> Result<Stack, AllocError>
     let name = Text::of(alloc, "tracks")?;
     let children = Children::of(alloc, Sequence::new(alloc))?;
     Ok(StackOf {
-        metadata: NamedValues::new(alloc),
+        metadata: Metadata::new(alloc),
         name,
         source_range: None,
         effects: Effects::new(alloc),
-        markers: Sequence::new(alloc),
+        markers: Markers::new(alloc),
         enabled: true,
         children,
         rest: NamedValues::new(alloc),
@@ -59,7 +59,7 @@ fn default_of(alloc: Global, kind: Kind) -> Result<Option<Value>, AllocError>
         Kind::Number(number) => Ok(default_speed(number)),
         Kind::Items => Ok(Some(Value::Items(Sequence::new(alloc)))),
         Kind::Effects => Ok(Some(Value::Effects(Effects::new(alloc)))),
-        Kind::Markers => Ok(Some(Value::Markers(Sequence::new(alloc)))),
+        Kind::Markers => Ok(Some(Value::Markers(Markers::new(alloc)))),
         Kind::Media => Ok(Some(Value::Media(MediaMap::new(alloc)))),
         Kind::Medium => {
             let missing = empty_missing(alloc)?;

@@ -8,7 +8,7 @@ ghost use Rattle.schema_tab.specs.Shapes as shapes;
 ghost use Rattle.schema_tab.specs.Shapes.{Shape, first_shape};
 
 use json_value::Members;
-use otio_model::{Effects, Items, Markers, MediaMap, Objects, Stack};
+use otio_model::{Effects, Items, Markers, MediaMap, Metadata, Objects, Stack};
 use schema_rows::Value;
 use sequences::Text;
 use std::vec::IntoIter;
@@ -43,6 +43,13 @@ pub(crate) fn next_meta(values: &mut IntoIter<Value>) -> Members
     ensures { into_iter_items values.old ≡ Value.Meta result ∷ into_iter_items values.new }
 {
     held!(members in Some(Value::Meta(members)) = values.next())
+}
+
+pub(crate) fn next_metadata(values: &mut IntoIter<Value>) -> Metadata
+    requires { first_shape (into_iter_items values.old) ≡ Some shapes.meta }
+    ensures { into_iter_items values.old ≡ Value.Meta result ∷ into_iter_items values.new }
+{
+    Metadata::of(next_meta(values))
 }
 
 pub(crate) fn next_span(values: &mut IntoIter<Value>) -> Option<Span>

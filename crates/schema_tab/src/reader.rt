@@ -21,7 +21,7 @@ use crate::scalars::{flag_of, meta_of, number_of, numeral_of, rate_of, span_of, 
 use crate::schema_names::{found_object, given};
 use crate::tables::finished;
 use json_value::{Json, JsonList, Members};
-use otio_model::{Effects, MediaMap, Place};
+use otio_model::{Effects, Markers, MediaMap, Place};
 use schema_rows::{
     EFFECTS, Field, ITEMS, Kind, MARKERS, MEDIA, Matched, RANGES, ROOTS, RowResult, STACKS, Schema,
     SchemaFault, TIMES, Value, named,
@@ -212,7 +212,7 @@ fn read_markers(alloc: Global, list: &JsonList, place: &Place) -> RowResult
         let marker = marker_of(alloc, value, found)?;
         markers.push(marker)?;
     }
-    Ok(Value::Markers(Sequence::of(markers)))
+    Ok(Value::Markers(Markers::of(markers)))
 }
 
 #[cycle(object)]

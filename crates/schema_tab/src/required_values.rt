@@ -46,7 +46,10 @@ fn item_from(alloc: Global, fields: Fields) -> Result<Item, SchemaFault>
     ensures memory { IfErr result (λ fault. fault ≡ SchemaFault.Memory) }
 {
     match fields.schema {
-        Schema::Clip => Ok(ItemOf::Clip(clip_of(fields))),
+        Schema::Clip => match clip_of(alloc, fields) {
+            Ok(clip) => Ok(ItemOf::Clip(clip)),
+            Err(_) => Err(SchemaFault::Memory),
+        },
         Schema::Gap => Ok(ItemOf::Gap(gap_of(fields))),
         Schema::Transition => Ok(ItemOf::Transition(transition_of(fields))),
         Schema::Stack => match stack_of(alloc, fields) {

@@ -1,6 +1,6 @@
 -- Values in the written order, each known.
 use Rattle.std.proofs.Common.{◌≡◌, ℕ, List, [], ◌∷◌, ◌++◌, ◌∙◌, map, IfOk, IsOkAnd, Result, Ok, Err, refl, ap, ap₂, subst, Bool}
-use Rattle.json_value.specs.declared.Json.{Json}
+use Rattle.json_value.specs.declared.Json.{Json, Map}
 use Rattle.otio_model.specs.declared.media.Media.{Media}
 use Rattle.sequences.specs.Pairs.{names_of}
 use Rattle.schema_rows.specs.declared.schemas.Schema.{Schema}
@@ -17,6 +17,11 @@ pub added : {E : Type 0} (r : Result Json E) (y : Json) {old new values : List J
     → old ≡ values → new ≡ values ++ y ∷ []
 added (Ok x) y is_added it before = grown is_added before it
 added (Err _) y is_added it before = absurd is_added
+
+-- values that begin with equal members
+pub members_as : {values rest : List Json} {m n : List (List ℕ × Json)} → values ≡ Map m ∷ rest
+    → m ≡ n → values ≡ Map n ∷ rest
+members_as {rest} is same = is ∙ ap (λ members. Map members ∷ rest) same
 
 -- the same object with equal values
 pub written_as : {E : Type 0} (r : Result Json E) (schema : Schema) (rest : List (List ℕ × Json)) (xs ys : List Json) → xs ≡ ys

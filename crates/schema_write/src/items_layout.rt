@@ -95,7 +95,7 @@ pub fn put_stack<W: Out>(
 {
     let inner = inside(&*level);
     put_head(buffer, out, Schema::Stack, &inner);
-    put_object_row(buffer, out, "metadata", &stack.metadata, &inner);
+    put_object_row(buffer, out, "metadata", stack.metadata.get(), &inner);
     put_text_row(buffer, out, "name", &stack.name, &inner);
     put_span_row(buffer, out, "source_range", stack.source_range, &inner);
     put_effects_row(buffer, out, &stack.effects, &inner);
@@ -121,7 +121,7 @@ fn put_track<W: Out>(
 {
     let inner = inside(&*level);
     put_head(buffer, out, Schema::Track, &inner);
-    put_object_row(buffer, out, "metadata", &track.metadata, &inner);
+    put_object_row(buffer, out, "metadata", track.metadata.get(), &inner);
     put_text_row(buffer, out, "name", &track.name, &inner);
     put_span_row(buffer, out, "source_range", track.source_range, &inner);
     put_effects_row(buffer, out, &track.effects, &inner);

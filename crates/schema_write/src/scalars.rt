@@ -33,7 +33,7 @@ struct Shared<'a> {
 macro_rules! shared {
     ($item:ident) => {
         Shared {
-            metadata: &$item.metadata,
+            metadata: $item.metadata.get(),
             name: &$item.name,
             source_range: $item.source_range,
             effects: &$item.effects,
@@ -98,7 +98,7 @@ pub fn gap_json(alloc: Global, gap: &Gap, family: Family) -> Result<Json, AllocE
 pub fn transition_json(alloc: Global, transition: &Transition) -> Result<Json, AllocError>
     ensures { IfOk result (λ json. json ≡ objects.transition_json transition.now) }
 {
-    let mut values = named(alloc, &transition.metadata, &transition.name, 5)?;
+    let mut values = named(alloc, transition.metadata.get(), &transition.name, 5)?;
     add(&mut values, string(alloc, &transition.transition_type))?;
     add(&mut values, offset_json(alloc, transition.in_offset))?;
     add(&mut values, offset_json(alloc, transition.out_offset))?;

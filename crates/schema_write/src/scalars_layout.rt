@@ -42,7 +42,7 @@ fn put_old_clip<W: Out>(buffer: &mut OutBuffer, out: &mut W, clip: &Clip, level:
 {
     let inner = inside(&*level);
     put_head(buffer, out, Schema::FirstClip, &inner);
-    put_object_row(buffer, out, "metadata", &clip.metadata, &inner);
+    put_object_row(buffer, out, "metadata", clip.metadata.get(), &inner);
     put_text_row(buffer, out, "name", &clip.name, &inner);
     put_span_row(buffer, out, "source_range", clip.source_range, &inner);
     put_effects_row(buffer, out, &clip.effects, &inner);
@@ -59,7 +59,7 @@ fn put_clip<W: Out>(buffer: &mut OutBuffer, out: &mut W, clip: &Clip, level: &Le
 {
     let inner = inside(&*level);
     put_head(buffer, out, Schema::Clip, &inner);
-    put_object_row(buffer, out, "metadata", &clip.metadata, &inner);
+    put_object_row(buffer, out, "metadata", clip.metadata.get(), &inner);
     put_text_row(buffer, out, "name", &clip.name, &inner);
     put_span_row(buffer, out, "source_range", clip.source_range, &inner);
     put_effects_row(buffer, out, &clip.effects, &inner);
@@ -90,7 +90,7 @@ pub fn put_gap<W: Out>(
 {
     let inner = inside(&*level);
     put_head(buffer, out, Schema::Gap, &inner);
-    put_object_row(buffer, out, "metadata", &gap.metadata, &inner);
+    put_object_row(buffer, out, "metadata", gap.metadata.get(), &inner);
     put_text_row(buffer, out, "name", &gap.name, &inner);
     put_span_row(buffer, out, "source_range", gap.source_range, &inner);
     put_effects_row(buffer, out, &gap.effects, &inner);
@@ -112,7 +112,7 @@ pub fn put_transition<W: Out>(
 {
     let inner = inside(&*level);
     put_head(buffer, out, Schema::Transition, &inner);
-    put_object_row(buffer, out, "metadata", &transition.metadata, &inner);
+    put_object_row(buffer, out, "metadata", transition.metadata.get(), &inner);
     put_text_row(buffer, out, "name", &transition.name, &inner);
     put_text_row(
         buffer,

@@ -7,19 +7,24 @@ use Rattle.otio_model.specs.Trees.{items_of}
 use Rattle.edits.specs.Narrow.{touched}
 use Rattle.coord.proofs.Members.{next}
 use Rattle.edit_plans.proofs.Further.{ahead-passed, met-as, passed-near, passed-next}
-use Rattle.edit_plans.proofs.Further.{reach-child, reach-further}
-use Rattle.edit_plans.proofs.Passing.{reach_as, reach_end, reach_over}
+use Rattle.edit_plans.proofs.Further.{reach-child, reach-further, reach-started}
+use Rattle.edit_plans.proofs.Passing.{reach_end, reach_over}
 use Rattle.edit_plans.proofs.touched_children.touched.Goals as goal
 
+pub started-passed-requires-clause-ahead : goal.started-passed-requires-clause-ahead
+started-passed-requires-clause-ahead c =
+    ahead-passed (items_of c.args.children.now) c.args.from c.args.to c.args.ahead.ticks
+    c.args.ahead.count c.requires.count c.requires.ticks
+
 pub children-init : goal.children-init
-children-init c = (
-  ahead-passed (items_of c.args.children.now) c.args.from c.args.to c.args.ahead.ticks
-      c.args.ahead.count c.requires.count c.requires.ticks,
-  omega arith,
-  reach_as (items_of c.args.children.now) _ c.args.from c.args.to c.args.ahead.ticks _ _ _
-      c.args.ahead.count _ c.requires.short c.requires.count c.requires.ticks refl
-      (omega (arith, ints, c.ranges.from)) (omega (arith, ints, c.ranges.to)) refl (omega arith),
-)
+children-init c =
+    let s = c.started-passed.ensures in (
+      s.passed,
+      s.order,
+      reach-started (items_of c.args.children.now) _ _ _ c.args.from c.args.to c.args.ahead.count
+          c.started-passed.result.count _ c.requires.short c.requires.count s
+          (omega (arith, ints, c.ranges.from)) (omega (arith, ints, c.ranges.to)) refl,
+    )
 
 pub returns-then-to-passed : goal.returns-then-to-passed
 returns-then-to-passed c =

@@ -4,6 +4,7 @@ use Rattle.otio_model.specs.Trees.{listed}
 use Rattle.otio_model.specs.Edits.{replaced}
 use Rattle.otio_model.specs.Kept.{kept_of}
 use Rattle.otio_model.specs.Pieces.{AllPieces, all_items}
+use Rattle.otio_model.specs.PutItems.{items_held}
 use Rattle.otio_model.proofs.Views.{shown}
 use Rattle.otio_model.proofs.Windows.{length_replaced}
 use Rattle.otio_model.proofs.place_walk.replace.Goals as goal
@@ -16,12 +17,11 @@ number-requires c =
       few = omega (
         arith,
         c.requires.there,
-        c.requires.room.fits,
+        c.requires.room.suits.fits,
         ap length same,
-        length_replaced c.args.stretch.at c.args.stretch.count c.args.list.now.items xs
+        length_replaced c.args.stretch.at c.args.stretch.count (items_held c.args.held) xs
             (omega (arith, c.requires.there, ap length same)),
-        ap length c.replace_pieces.ensures.items,
-        c.args.list.now.ok,
+        ap length c.exchange-taken.ensures.items,
       );
     }
 
@@ -29,7 +29,7 @@ pub kept_pieces-requires : goal.kept_pieces-requires
 kept_pieces-requires c =
     record {
       pieces = subst AllPieces (sym c.as_slice.ensures.value)
-          (c.number.ensures.pieces c.replace_pieces.ensures.pieces).all;
+          (c.number.ensures.pieces c.exchange-taken.ensures.pieces).all;
     }
 
 pub invariant_of-children : goal.invariant_of-children
@@ -37,19 +37,18 @@ invariant_of-children c =
     let xs = all_items c.children.inside.pieces.items in
     let same = shown _ _ c.children.view_is in
     record {
-      pieces = c.number.ensures.pieces c.replace_pieces.ensures.pieces;
+      pieces = c.number.ensures.pieces c.exchange-taken.ensures.pieces;
       numbered = c.number.ensures.numbered;
       counted = omega (
         arith,
         c.requires.there,
         ap length same,
-        length_replaced c.args.stretch.at c.args.stretch.count c.args.list.now.items xs
+        length_replaced c.args.stretch.at c.args.stretch.count (items_held c.args.held) xs
             (omega (arith, c.requires.there, ap length same)),
         ap length c.number.ensures.items,
-        ap length c.replace_pieces.ensures.items,
+        ap length c.exchange-taken.ensures.items,
         c.children.invariant.counted,
         c.len-put.ensures,
-        c.args.list.now.ok,
       );
       keeps = c.kept_pieces.ensures
           ∙ ap (λ l. kept_of (all_items l)) c.as_slice.ensures.value;
@@ -57,6 +56,6 @@ invariant_of-children c =
 
 pub returns-clause-items : goal.returns-clause-items
 returns-clause-items c =
-    ap listed (c.number.ensures.items ∙ c.replace_pieces.ensures.items
-    ∙ ap (replaced c.args.stretch.at c.args.stretch.count c.args.list.now.items)
+    ap listed (c.number.ensures.items ∙ c.exchange-taken.ensures.items
+    ∙ ap (replaced c.args.stretch.at c.args.stretch.count (items_held c.args.held))
     (sym (shown _ _ c.children.view_is)))

@@ -28,7 +28,7 @@ put_stack-returns g t c =
     ∷ markers_by (style_of c.args.family).mark c.args.stack.now.markers ∷ JsonOfBool c.args.stack.now.enabled
     ∷ JsonOfList (children_in (style_of c.args.family) c.args.stack.now.children) ∷ []) c.args.stack.now.rest
     c.inside-inner.ensures
-    (puts_then c.put_head.ensures (puts_then c.put_object_row.ensures
+    (puts_then c.put_head.ensures (puts_then (rw c.get.ensures at c.put_object_row.ensures)
     (puts_then c.put_text_row.ensures (puts_then c.put_span_row.ensures
     (puts_then c.put_effects_row.ensures (puts_then c.put_markers_row.ensures
     (puts_then c.put_flag_row.ensures (puts_then (puts_then c.put_row_name.ensures children)
@@ -44,7 +44,7 @@ put_track-returns g t c =
     ∷ markers_by (style_of c.args.family).mark c.args.track.now.markers ∷ JsonOfBool c.args.track.now.enabled
     ∷ JsonOfList (children_in (style_of c.args.family) c.args.track.now.children) ∷ Str c.args.track.now.kind ∷ [])
     c.args.track.now.rest c.inside-inner.ensures
-    (puts_then c.put_head.ensures (puts_then c.put_object_row.ensures
+    (puts_then c.put_head.ensures (puts_then (rw c.get.ensures at c.put_object_row.ensures)
     (puts_then c.put_text_row.ensures (puts_then c.put_span_row.ensures
     (puts_then c.put_effects_row.ensures (puts_then c.put_markers_row.ensures
     (puts_then c.put_flag_row.ensures (puts_then (puts_then c.put_row_name.ensures children)

@@ -14,7 +14,7 @@ returns g c = object_put (deep c.args.level.now) _ S.Clip
     ∷ markers_json c.args.clip.now.markers ∷ JsonOfBool c.args.clip.now.enabled
     ∷ media_json c.args.clip.now.media_references ∷ Str c.args.clip.now.active_media_reference_key
     ∷ []) c.args.clip.now.rest c.inside-inner.ensures
-    (puts_then c.put_head.ensures (puts_then c.put_object_row.ensures
+    (puts_then c.put_head.ensures (puts_then (rw c.get.ensures at c.put_object_row.ensures)
     (puts_then c.put_text_row.ensures (puts_then c.put_span_row.ensures
     (puts_then c.put_effects_row.ensures (puts_then c.put_markers_row.ensures
     (puts_then c.put_flag_row.ensures (puts_then c.put_media_row.ensures

@@ -13,7 +13,7 @@ returns g c = object_put (deep c.args.level.now) _ S.Gap
     (Map c.args.gap.now.metadata ∷ Str c.args.gap.now.name ∷ span_json c.args.gap.now.source_range
     ∷ effects_json c.args.gap.now.effects ∷ markers_by (style_of c.args.family).mark c.args.gap.now.markers
     ∷ JsonOfBool c.args.gap.now.enabled ∷ []) c.args.gap.now.rest c.inside-inner.ensures
-    (puts_then c.put_head.ensures (puts_then c.put_object_row.ensures
+    (puts_then c.put_head.ensures (puts_then (rw c.get.ensures at c.put_object_row.ensures)
     (puts_then c.put_text_row.ensures (puts_then c.put_span_row.ensures
     (puts_then c.put_effects_row.ensures (puts_then c.put_markers_row.ensures
     (puts_then c.put_flag_row.ensures (puts_then c.put_others.ensures c.put_end.ensures))))))))

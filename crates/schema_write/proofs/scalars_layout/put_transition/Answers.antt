@@ -13,7 +13,7 @@ returns g c = object_put (deep c.args.level.now) _ S.Transition
     ∷ Str c.args.transition.now.transition_type ∷ offset_json c.args.transition.now.in_offset
     ∷ offset_json c.args.transition.now.out_offset ∷ []) c.args.transition.now.rest
     c.inside-inner.ensures
-    (puts_then c.put_head.ensures (puts_then c.put_object_row.ensures
+    (puts_then c.put_head.ensures (puts_then (rw c.get.ensures at c.put_object_row.ensures)
     (puts_then c.put_text_row.ensures (puts_then c.put_text_row-2.ensures
     (puts_then c.put_offset_row.ensures (puts_then c.put_offset_row-2.ensures
     (puts_then c.put_others.ensures c.put_end.ensures)))))))

@@ -8,10 +8,12 @@ fresh-preserved c = record {
   all = fresh_more _ _ _ c.in_ok-push.ensures.items c.fresh.invariant.all
       c.in_ok-items.ensures.items c.in_ok-items.ensures.capacity;
   taken = c.fresh.invariant.taken;
+  loose = c.fresh.invariant.loose;
   mid = c.fresh.invariant.mid;
   outer = c.fresh.invariant.outer;
   made = c.fresh.invariant.made;
   taken_room = c.fresh.invariant.taken_room;
+  loose_room = c.fresh.invariant.loose_room;
   mid_room = c.fresh.invariant.mid_room;
   made_room = c.fresh.invariant.made_room;
   movable = omega (

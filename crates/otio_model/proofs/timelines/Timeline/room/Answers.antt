@@ -6,6 +6,6 @@ use Rattle.otio_model.proofs.timelines.Timeline.room.Goals as goal
 pub returns-clause-room : goal.returns-clause-room
 returns-clause-room c =
     room_made c.make.result c.args.patch.now (record c.args.self.now { spare = c.make.new.self })
-    c.in-Some.children.now c.as_slice.result.now c.len-long.result (length c.as_slice-2.result.now)
-    c.as_slice.ensures c.in-Some.ensures c.len-long.ensures (ap length c.as_slice-2.ensures)
+    c.in-Some.children.now c.as_slice.result.now c.len-long.result c.len.result
+    c.as_slice.ensures c.in-Some.ensures c.len-long.ensures c.len.ensures
     c.make.ensures
