@@ -14,9 +14,10 @@ use Rattle.flat.specs.Joined as J
 use Rattle.flat.specs.Roots.{is_enabled, is_plain, items_in}
 use Rattle.flat_stack.specs.Spots.{Under, StartsBelow, IsFreeTo, inner_place}
 use Rattle.flat_stack.proofs.FirstLemmas.{first_under, free_all}
-use Rattle.flat_stack.proofs.PlaceLemmas.{head_is, next_is, one_two, two_one, none_one, none_before, starts_later}
+use Rattle.flat_stack.proofs.PlaceLemmas.{next_is, one_two, two_one, none_one, none_before, starts_later}
 use Rattle.flat_stack.proofs.RootLemmas.{true_false}
 use Rattle.flat_stack.specs.Blocking.{blocks_at, AreApartTo, IsCrossing}
+use Rattle.flat_stack.proofs.CopyLemmas.{head_is}
 
 -- ---- a root child
 

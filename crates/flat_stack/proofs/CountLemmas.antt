@@ -114,6 +114,11 @@ pub left_none : (ps : List Part) (s : Slot) (room left n i : ℕ) (p : Part) →
 left_none ps s room left n i p a e f h =
     let k = rest_count ps s i n p e f in omega (arith, a, k, h)
 
+-- inputs that give nothing are passed over
+pub left_past : (ps : List Part) (s : Slot) (room left i j : ℕ) → IsLeft ps s room left i
+    → children_from s (drop i ps) ≡ children_from s (drop j ps) → IsLeft ps s room left j
+left_past ps s room left i j a e = omega (arith, a, ap child_counts e)
+
 pub left_end : (ps : List Part) (s : Slot) (room left i : ℕ) → IsLeft ps s room left i
     → length ps ≤ i → left + track_count ps s ≡ room
 left_end ps s room left i a h =

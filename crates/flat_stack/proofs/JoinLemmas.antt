@@ -1,6 +1,6 @@
 -- The joined timeline, from what is kept of the inputs.
 use mathlib.Core.Path.{Path}
-use Rattle.std.proofs.Common.{◌≡◌, refl, sym, subst, ap, ap₂, ◌∙◌, ℕ, zero, suc, ◌+◌, ◌<◌, ◌≤◌, ◌-ℤ◌, Bool, true, false, Some, None, List, [], ◌∷◌, ◌++◌, map, take, drop, append_assoc, arith}
+use Rattle.std.proofs.Common.{◌≡◌, refl, sym, subst, ap, ap₂, ◌∙◌, ℕ, zero, suc, ◌+◌, ◌<◌, ◌≤◌, ◌-ℤ◌, Bool, true, false, Some, None, List, [], ◌∷◌, ◌++◌, map, take, append_assoc, arith}
 use Rattle.std.specs.Prelude.{slice_get, option_map}
 use Rattle.std.proofs.lemmas.List.{append-nil, map-append}
 use Rattle.tick_time.specs.declared.rates.Rate.{Rate}
@@ -22,7 +22,7 @@ use Rattle.flat.specs.Blocked.{IsFree}
 use Rattle.flat.specs.Joined.{IsJoined, JoinBlocks, Slot, joined_children, joined_slots, joined_tracks, joined_with, own_items, pad, slots, stretch, track_of}
 use Rattle.flat.specs.Joined as J
 use Rattle.flat.specs.Roots.{is_plain, roots, with_roots}
-use Rattle.flat_stack.proofs.CopyLemmas.{taken_more}
+use Rattle.flat_stack.proofs.CopyLemmas.{head_is, tail_is, taken_more}
 use Rattle.flat_law.proofs.Joined.{AllPlain, AreGoodSlots, good_slots}
 use Rattle.flat.specs.Roots.{ArePlainTracks}
 use Rattle.coord.proofs.Members.{same_some}
@@ -115,12 +115,6 @@ pub slots_are : (ps : List Part) (t : Timeline) (more : List Timeline) → input
     → slots [] (lists_of ps) ≡ joined_slots t more
 slots_are ps t more e = ap (slots []) (lists_are ps ∙ ap (map roots) e)
 
-head_is : (a b : Timeline) (l m : List Timeline) → a ∷ l ≡ b ∷ m → a ≡ b
-head_is a b l m e = same_some a b (ap (λ z. slice_get z 0) e)
-
-tail_is : (a b : Timeline) (l m : List Timeline) → a ∷ l ≡ b ∷ m → l ≡ m
-tail_is a b l m e = ap (drop 1) e
-
 pub tracks_are : (r : Rate) (ps : List Part) (t : Timeline) (more : List Timeline) (ss : List Slot)
     → inputs_of ps ≡ t ∷ more → AreStretched (frame r.num r.den) ps
     → tracks_from r ps ss ≡ joined_tracks r (roots t) (map roots more) ss
@@ -156,6 +150,21 @@ pub record IsAll (l : List Timeline) (t : Timeline) (r : Rate) (ps : List Part) 
   pub inputs : inputs_of ps ≡ l
   pub stretched : AreStretched (frame r.num r.den) ps
   pub slots : ss ≡ J.slots [] (lists_of ps)
+
+-- with the inputs kept under another name
+pub all_kept : (l : List Timeline) (t : Timeline) (r : Rate) (ps kept : List Part) (ss : List Slot)
+    → AreFree true l → slice_get l 0 ≡ Some t → r ≡ rate_of t → AreParts ps → ps ≡ kept
+    → inputs_of kept ≡ l → AreStretched (frame r.num r.den) kept → ss ≡ J.slots [] (lists_of ps)
+    → IsAll l t r ps ss
+all_kept l t r ps kept ss free there rate parts same inputs stretched slots = record {
+  free = free;
+  there = there;
+  rate = rate;
+  parts = parts;
+  inputs = ap inputs_of same ∙ inputs;
+  stretched = subst (AreStretched (frame r.num r.den)) (sym same) stretched;
+  slots = slots;
+}
 
 pub first_of : (l : List Timeline) (t : Timeline) → slice_get l 0 ≡ Some t
     → (more : List Timeline) × (l ≡ t ∷ more)

@@ -37,10 +37,6 @@ own_known p kind k x c known e f =
     let sound = root_faultless p.input.now.tracks.children at.0 x known.faultless at.1 in
     record { few = inner_few x c f few; cuttable = inner_cuttable x c f sound few }
 
-pub given_is : (p : Part) (s : Slot) (o : Option (ItemOf Listed))
-    → o ≡ track_of s.kind s.index (list_of p) → own_items o ≡ given s p
-given_is p s o e = ap own_items e
-
 -- ---- a gap
 
 pub no_pad : (r : Rate) (n : ℤ) (old new : List (ItemOf Listed)) → n ≤ℤ pos 0 → new ≡ old
@@ -172,6 +168,12 @@ items_more r s ps done new i p a e n =
     (ap (λ b. all_made r (piece s p b)) (sym (more_is i ps)) ∙ n.are))
     ∙ front_twice done n.items (all_made r (children_from s rest))
     ∙ ap (λ z. with_front z (all_made r (children_from s rest))) (sym n.is)
+
+-- inputs that give nothing are passed over
+pub items_past : (r : Rate) (s : Slot) (ps : List Part) (done : List (ItemOf Listed)) (i j : ℕ)
+    → AreItems r s ps done i → children_from s (drop i ps) ≡ children_from s (drop j ps)
+    → AreItems r s ps done j
+items_past r s ps done i j a e = a ∙ ap (λ z. with_front done (all_made r z)) e
 
 pub items_end : (r : Rate) (s : Slot) (ps : List Part) (done : List (ItemOf Listed)) (i : ℕ)
     → AreItems r s ps done i → length ps ≤ i → all_made r (children_from s ps) ≡ Some done

@@ -143,7 +143,7 @@ positions_long kind i (x ∷ l) = of (is_of kind x) (positions_long kind (suc i)
     of false e = e
 
 -- so many stand before what stands at a number
-pub long_taken : (l : List (ItemOf Listed)) (i : ℕ) (x : ItemOf Listed) → slice_get l i ≡ Some x
+pub long_taken : {A : Type 0} (l : List A) (i : ℕ) (x : A) → slice_get l i ≡ Some x
     → i ≡ length (take i l)
 long_taken l i x e = sym (length-take-le i l (omega (arith, slice_get_within l i x e)))
 

@@ -16,6 +16,8 @@ pub mod KnowLemmas
 pub mod SeatLemmas
 pub mod MostLemmas
 pub mod JoinedTracks
+pub mod OwnerLemmas
+pub mod GiverLemmas
 pub mod CountLemmas
 pub mod JoinLemmas
 pub mod StraightLemmas

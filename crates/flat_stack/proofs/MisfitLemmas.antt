@@ -14,8 +14,9 @@ use Rattle.flat.specs.Roots.{is_track, is_layer, is_plain, is_nested, items_in}
 use Rattle.flat_stack.specs.Spots.{Under, StartsBelow, IsFreeTo}
 use Rattle.flat_stack.specs.Misfits.{Misfits, child_cause, AreFit, IsMisfit}
 use Rattle.flat_stack.proofs.FirstLemmas.{first_under, free_all, below_or}
-use Rattle.flat_stack.proofs.PlaceLemmas.{head_is, none_one, none_before}
+use Rattle.flat_stack.proofs.PlaceLemmas.{none_one, none_before}
 use Rattle.flat_stack.proofs.RootLemmas.{true_false}
+use Rattle.flat_stack.proofs.CopyLemmas.{head_is}
 
 -- ---- what is wrong at a root child or below it
 

@@ -8,7 +8,6 @@ use Rattle.std.proofs.lemmas.List.{append-nil}
 use Rattle.otio_model.specs.declared.compositions.ItemOf.{ItemOf}
 use Rattle.otio_model.specs.declared.compositions.Listed.{Listed}
 use Rattle.otio_model.specs.declared.timelines.Timeline.{Timeline}
-use Rattle.coord.proofs.Members.{same_some}
 use Rattle.flat.specs.Roots.{roots}
 use Rattle.flat_stack.specs.Portions.{AreRoots, all_there, flat, left_at, root_at}
 
@@ -133,6 +132,3 @@ pub opened_roots : (all : List (Vec (Option (ItemOf Listed)) Global)) (left inpu
 opened_roots all left inputs o e =
     subst (AreRoots all) (sym (o.is ∙ ap (λ z. o.done ++ z) e ∙ append-nil o.done))
     (of_roots all o.done o.are)
-
-pub head_is : (a b : Timeline) (l m : List Timeline) → a ∷ l ≡ b ∷ m → a ≡ b
-head_is a b l m e = same_some a b (ap (λ z. slice_get z 0) e)

@@ -1,7 +1,7 @@
 -- What is known of the parts of a flat track, and the items that they become.
 use mathlib.Core.Path.{Path}
 use mir.Syntax.{w128}
-use Rattle.std.proofs.Common.{◌≡◌, refl, sym, subst, ap, ap₂, ◌∙◌, ℕ, zero, suc, ℤ, pos, ◌-ℤ◌, ◌≤ℤ◌, ◌<ℤ◌, ◌&&◌, ◌||◌, Bool, true, false, Option, Some, None, cond, List, [], ◌∷◌, ◌++◌, append_assoc, take, drop, map, arith, FitsSigned}
+use Rattle.std.proofs.Common.{◌≡◌, refl, sym, subst, ap, ap₂, ◌∙◌, ℕ, zero, suc, ℤ, pos, ◌-ℤ◌, ◌≤ℤ◌, ◌<ℤ◌, ◌&&◌, ◌||◌, Bool, true, false, Option, Some, None, cond, List, [], ◌∷◌, ◌++◌, append_assoc, take, map, arith, FitsSigned}
 use Rattle.std.specs.Prelude.{slice_get, int_lt, option_and_then}
 use Rattle.std.proofs.lemmas.Int.{ints}
 use Rattle.std.proofs.lemmas.List.{append-nil}
@@ -33,6 +33,7 @@ use Rattle.flat_stack.specs.Parts.{IsChildOf, IsGivenBy, IsPart, AreParts, AreAl
 use Rattle.flat_stack.specs.Placed.{IsFirstOf}
 use Rattle.flat_stack.proofs.RefusalLemmas.{child_item, given_is}
 use Rattle.pieces.proofs.Inner.{root_faultless}
+use Rattle.flat_stack.proofs.CopyLemmas.{head_is, tail_is}
 
 -- ---- how long the longest track is
 
@@ -125,12 +126,6 @@ part_known kind l p at to o e low wide high same =
           same w (omega (arith, ints, from_is, h)) (omega (arith, ints, to_is, k))
           ∙ sym of_is ∙ ap (given_of l) f);
     }
-
-head_is : (a b : Piece) (l m : List Piece) → a ∷ l ≡ b ∷ m → a ≡ b
-head_is a b l m e = same_some a b (ap (λ q. slice_get q 0) e)
-
-tail_is : (a b : Piece) (l m : List Piece) → a ∷ l ≡ b ∷ m → l ≡ m
-tail_is a b l m e = ap (drop 1) e
 
 no_piece : (a : Piece) (l : List Piece) → a ∷ l ≡ [] → ⊥
 no_piece a l e = cc e

@@ -5,9 +5,6 @@ use Rattle.std.specs.Prelude.{slice_index_or}
 use Rattle.coord.specs.Soundness.{Precedes}
 use Rattle.flat_stack.specs.Spots.{StartsBelow}
 
-pub head_is : (k j : ℕ) (p q : List ℕ) → k ∷ p ≡ j ∷ q → k ≡ j
-head_is k j p q e = ap (λ l. slice_index_or l 0 0) e
-
 pub next_is : (k j i n : ℕ) (p q : List ℕ) → k ∷ i ∷ p ≡ j ∷ n ∷ q → i ≡ n
 next_is k j i n p q e = ap (λ l. slice_index_or l 1 0) e
 

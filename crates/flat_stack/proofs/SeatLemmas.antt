@@ -1,5 +1,5 @@
 -- The tracks of all inputs, each once.
-use Rattle.std.proofs.Common.{◌≡◌, refl, sym, ap, ap₂, ◌∙◌, ℕ, zero, suc, ◌+◌, ◌<◌, ◌&&◌, Bool, true, false, cond, Option, Some, None, List, [], ◌∷◌, ◌++◌, length, take, drop, append_assoc, arith}
+use Rattle.std.proofs.Common.{◌≡◌, refl, sym, ap, ap₂, ◌∙◌, ℕ, zero, suc, ◌+◌, ◌<◌, ◌&&◌, Bool, true, false, cond, Some, None, List, [], ◌∷◌, ◌++◌, length, take, drop, append_assoc, arith}
 use Rattle.std.specs.Prelude.{filter, slice_get, is_none}
 use Rattle.std.proofs.lemmas.List.{map-append, append-nil}
 use Rattle.otio_model.specs.declared.compositions.ItemOf.{ItemOf}
@@ -117,7 +117,3 @@ pub standing : {A : Type 0} (xs : List A) (i : ℕ) → i < length xs → (x : A
 standing [] i h = absurd (omega (arith, h))
 standing (x ∷ xs) zero h = (x, refl)
 standing (x ∷ xs) (suc i) h = standing xs i (omega (arith, h))
-
-pub kind_track : (k q : List ℕ) (i : ℕ) (l : List (ItemOf Listed)) (o : Option (ItemOf Listed))
-    → k ≡ q → o ≡ track_of k i l → o ≡ track_of q i l
-kind_track k q i l o e f = f ∙ ap (λ z. track_of z i l) e

@@ -17,9 +17,10 @@ use Rattle.flat.specs.Windowed as W
 use Rattle.flat_stack.specs.Spots.{Under, StartsBelow, IsFreeTo}
 use Rattle.flat_stack.specs.Uncut.{is_cut, AreCutTo, IsUncut, IsPassed}
 use Rattle.flat_stack.proofs.FirstLemmas.{first_under, free_all, below_or}
-use Rattle.flat_stack.proofs.PlaceLemmas.{head_is, next_is, one_two, two_one, none_one, none_before}
+use Rattle.flat_stack.proofs.PlaceLemmas.{next_is, one_two, two_one, none_one, none_before}
 use Rattle.edits.proofs.NextStarts.{added_next}
 use Rattle.flat_stack.proofs.RootLemmas.{true_false}
+use Rattle.flat_stack.proofs.CopyLemmas.{head_is}
 
 -- ---- a root child
 

@@ -4,6 +4,7 @@ pub mod Spots
 pub mod Runs
 pub mod Blocking
 pub mod Inputs
+pub mod Givers
 pub mod Straighten
 pub mod Sought
 pub mod Uncut

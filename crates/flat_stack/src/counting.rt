@@ -6,7 +6,9 @@ ghost use Rattle.otio_model.specs.Counts.{count, counts_by};
 ghost use Rattle.flat_stack.specs.declared.inputs.Part.{Part as AnyPart};
 ghost use Rattle.flat_stack.specs.Inputs.{AreParts, IsPreparedInput, child_counts, given, pad_behind};
 ghost use Rattle.flat_stack.specs.Inputs.{piece, slot_of, slots_of, track_count, track_counts};
+ghost use Rattle.flat_stack.specs.Givers.{AreGivers};
 
+use crate::givers::{Givers, next_giver};
 use crate::input_tracks::{part_at, seat_at};
 use crate::inputs::{Part, Seat};
 use crate::planned_tracks::{own_track, pad_ticks};
@@ -55,35 +57,41 @@ fn part_count<'a>(parts: &[Part<'a>], index: usize, seat: Seat<'a>) -> usize
 
 // How many more items may stand once a joined track stands, where so many may before; `None`
 // where too few may.
-fn room_behind<'a>(parts: &[Part<'a>], seat: Seat<'a>, room: usize) -> Option<usize>
-    requires { AreParts parts.now }
+fn room_behind<'b, 'a>(givers: &Givers<'b, 'a>, seat: Seat<'a>, room: usize) -> Option<usize>
+    requires { AreGivers givers.now }
     ensures some { IfSome result
-        (λ left. (left + track_count parts.now (slot_of seat.entry)) ≡ room) }
-    ensures none { IfNone result (room < track_count parts.now (slot_of seat.entry)) }
+        (λ left. (left + track_count givers.now.parts.now (slot_of seat.entry)) ≡ room) }
+    ensures none { IfNone result
+        (room < track_count givers.now.parts.now (slot_of seat.entry)) }
 {
     if room == 0 {
         return None;
     }
+    let parts = givers.parts;
     let mut left = room - 1;
-    'parts: for index in 0..parts.len() {
+    let mut index = next_giver(givers, seat, 0);
+    'parts: while index < parts.len() {
         let count = part_count(parts, index, seat);
         if left < count {
             return None;
         }
         left -= count;
+        index = next_giver(givers, seat, index + 1);
     }
     Some(left)
 }
 
 /// Whether all joined tracks have so many items at most. It stops where there are more.
-pub(crate) fn are_few<'a>(parts: &[Part<'a>], seats: &[Seat<'a>], most: usize) -> bool
-    requires { AreParts parts.now }
-    ensures few { IsTrue result → track_counts parts.now (slots_of seats.now) ≤ most }
-    ensures many { result ≡ false → most < track_counts parts.now (slots_of seats.now) }
+pub(crate) fn are_few<'b, 'a>(givers: &Givers<'b, 'a>, seats: &[Seat<'a>], most: usize) -> bool
+    requires { AreGivers givers.now }
+    ensures few { IsTrue result →
+        track_counts givers.now.parts.now (slots_of seats.now) ≤ most }
+    ensures many { result ≡ false →
+        most < track_counts givers.now.parts.now (slots_of seats.now) }
 {
     let mut room = most;
     'seats: for index in 0..seats.len() {
-        match room_behind(parts, seat_at(seats, index), room) {
+        match room_behind(givers, seat_at(seats, index), room) {
             Some(left) => room = left,
             None => return false,
         }

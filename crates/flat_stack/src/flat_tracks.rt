@@ -7,8 +7,8 @@ ghost use Rattle.flat.specs.Flattened as flattened;
 ghost use Rattle.flat.specs.Roots as roots;
 ghost use Rattle.flat_stack.specs.Placed.{IsFirstOf};
 
-use otio_model::{Children, Effects, Item, ItemOf, Items, TrackOf, copy_item};
-use sequences::{NamedValues, Sequence, Text};
+use otio_model::{Children, Effects, Item, ItemOf, Items, Markers, Metadata, TrackOf, copy_item};
+use sequences::{NamedValues, Text};
 use std::alloc::{AllocError, Global};
 
 /// Whether an item is a track of a kind.
@@ -114,11 +114,11 @@ pub(crate) fn flat_track(alloc: Global, kind: &Text, items: Vec<Item>) -> Result
     let name = Text::of(alloc, "Flattened")?;
     let kind = Text::of(alloc, kind.as_str())?;
     Ok(ItemOf::Track(TrackOf {
-        metadata: NamedValues::new(alloc),
+        metadata: Metadata::new(alloc),
         name,
         source_range: None,
         effects: Effects::new(alloc),
-        markers: Sequence::new(alloc),
+        markers: Markers::new(alloc),
         enabled: true,
         children,
         kind,

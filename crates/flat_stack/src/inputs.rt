@@ -42,9 +42,9 @@ pub(crate) struct Part<'a> {
     pub(crate) stretch: i128,
 }
 
-// The number of an index that isn't past the end.
+/// The number of an index that isn't past the end.
 #[tactic(auto, using(crate::proofs::RunLemmas::at_index))]
-fn number_at(numbers: &[usize], index: usize) -> usize
+pub(crate) fn number_at(numbers: &[usize], index: usize) -> usize
     requires { index < length numbers.now }
     ensures { slice_get numbers.now index ≡ Some result }
 {

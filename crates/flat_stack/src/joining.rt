@@ -12,6 +12,7 @@ ghost use Rattle.flat_stack.specs.Portions.{ArePlans};
 
 use crate::counting::are_few;
 use crate::faults::{first_fault, input_at};
+use crate::givers::givers_of;
 use crate::input_tracks::all_seats;
 use crate::inputs::{Part, part_of};
 use crate::joined_tracks::joined_as;
@@ -68,16 +69,19 @@ fn plans_within(
         Ok(kept) => kept,
         Err(error) => return Err(error),
     };
-    let parts = kept.as_slice();
-    let found = match all_seats(alloc, parts) {
+    let givers = match givers_of(alloc, kept.as_slice()) {
+        Ok(givers) => givers,
+        Err(error) => return Err(error),
+    };
+    let found = match all_seats(alloc, givers.parts) {
         Ok(found) => found,
         Err(error) => return Err(error),
     };
     let seats = found.as_slice();
-    if !are_few(parts, seats, most) {
+    if !are_few(&givers, seats, most) {
         return Ok(None);
     }
-    match planned_tracks(alloc, parts, seats, rate) {
+    match planned_tracks(alloc, &givers, seats, rate) {
         Ok(plans) => Ok(Some(plans)),
         Err(error) => Err(error),
     }

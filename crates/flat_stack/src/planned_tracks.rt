@@ -19,8 +19,10 @@ ghost use Rattle.flat_stack.specs.declared.inputs.Part.{Part as AnyPart};
 ghost use Rattle.flat_stack.specs.Inputs.{AreParts, IsAdded, IsPreparedInput, children_from, given};
 ghost use Rattle.flat_stack.specs.Inputs.{inputs_of, list_of, pad_behind, piece, slot_of, slots_of};
 ghost use Rattle.flat_stack.specs.Inputs.{track_from, tracks_from};
+ghost use Rattle.flat_stack.specs.Givers.{AreGivers};
 ghost use Rattle.flat_stack.specs.Portions.{HasChildren, items_or, planned_track, portions_items};
 
+use crate::givers::{Givers, next_giver};
 use crate::input_tracks::{part_at, seat_at};
 use crate::inputs::{Part, Seat, track_at};
 use crate::lengths::total_ticks;
@@ -230,19 +232,22 @@ fn put_part<'a>(
 }
 
 // What is to stand in a joined track.
-fn seat_portions<'a>(
+fn seat_portions<'b, 'a>(
     alloc: Global,
-    parts: &[Part<'a>],
+    givers: &Givers<'b, 'a>,
     track: JoinedTrack<'a>,
 ) -> Result<Vec<Portion>, AllocError>
-    requires { AreParts parts.now }
+    requires { AreGivers givers.now }
     ensures { IfOk result (λ all. children.all_made track.entry.rate
-        (children_from (slot_of track.entry.seat) parts.now) ≡
-        Some (portions_items (inputs_of parts.now) all.items)) }
+        (children_from (slot_of track.entry.seat) givers.now.parts.now) ≡
+        Some (portions_items (inputs_of givers.now.parts.now) all.items)) }
 {
+    let parts = givers.parts;
     let mut all: Vec<Portion> = Vec::new(alloc);
-    'parts: for index in 0..parts.len() {
+    let mut index = next_giver(givers, track.seat, 0);
+    'parts: while index < parts.len() {
         put_part(alloc, parts, index, track, &mut all)?;
+        index = next_giver(givers, track.seat, index + 1);
     }
     Ok(all)
 }
@@ -263,35 +268,36 @@ fn bare_track(alloc: Global, first: &Item) -> Result<Item, AllocError>
 }
 
 // The joined track of a seat.
-fn planned_of<'a>(
+fn planned_of<'b, 'a>(
     alloc: Global,
-    parts: &[Part<'a>],
+    givers: &Givers<'b, 'a>,
     seat: Seat<'a>,
     rate: Rate,
 ) -> Result<PlannedTrack, AllocError>
-    requires { AreParts parts.now }
-    ensures { IfOk result (λ planned. track_from rate parts.now (slot_of seat.entry) ≡
-        Some (planned_track (inputs_of parts.now) planned)) }
+    requires { AreGivers givers.now }
+    ensures { IfOk result (λ planned.
+        track_from rate givers.now.parts.now (slot_of seat.entry) ≡
+        Some (planned_track (inputs_of givers.now.parts.now) planned)) }
 {
     let track = bare_track(alloc, seat.first)?;
-    let portions = seat_portions(alloc, parts, JoinedTrack { seat, rate })?;
+    let portions = seat_portions(alloc, givers, JoinedTrack { seat, rate })?;
     Ok(PlannedTrack { track, portions })
 }
 
 /// The joined tracks of seats.
-pub(crate) fn planned_tracks<'a>(
+pub(crate) fn planned_tracks<'b, 'a>(
     alloc: Global,
-    parts: &[Part<'a>],
+    givers: &Givers<'b, 'a>,
     seats: &[Seat<'a>],
     rate: Rate,
 ) -> Result<Vec<PlannedTrack>, AllocError>
-    requires { AreParts parts.now }
-    ensures { IfOk result (λ plans. tracks_from rate parts.now (slots_of seats.now) ≡
-        Some (map (planned_track (inputs_of parts.now)) plans.items)) }
+    requires { AreGivers givers.now }
+    ensures { IfOk result (λ plans. tracks_from rate givers.now.parts.now (slots_of seats.now) ≡
+        Some (map (planned_track (inputs_of givers.now.parts.now)) plans.items)) }
 {
     let mut all: Vec<PlannedTrack> = Vec::new(alloc);
     'seats: for index in 0..seats.len() {
-        let planned = planned_of(alloc, parts, seat_at(seats, index), rate)?;
+        let planned = planned_of(alloc, givers, seat_at(seats, index), rate)?;
         all.push(planned)?;
     }
     Ok(all)

@@ -28,8 +28,8 @@ use std::alloc::Global;
 use std::mem;
 
 /// The object in the file in hand, of at most 100 000 items; or the first fault of its text, or
-/// else of its value.
-pub fn read_object<F: Files>(alloc: Global, files: &mut F) -> Result<Object, ReadFault>
+/// else of its value. The memory of its JSON value is given back where `frees` says so.
+pub fn read_object<F: Files>(alloc: Global, files: &mut F, frees: bool) -> Result<Object, ReadFault>
     ensures few { IfOk result (λ object. count_of object ≤ most_items) }
     ensures stands { IfOk result (λ object.
         (value : JsonValue) × (upgraded value ≡ value) × Stands value object) }
@@ -40,14 +40,18 @@ pub fn read_object<F: Files>(alloc: Global, files: &mut F) -> Result<Object, Rea
     ensures cause { Raised result (F.faults files.old) (F.faults files.new) }
 {
     match read_json(alloc, files) {
-        Ok(value) => object_in(alloc, value),
+        Ok(value) => object_in(alloc, value, frees),
         Err(fault) => Err(fault),
     }
 }
 
 /// The timeline in the file in hand, of at most 100 000 items; or the first fault of its object, or
-/// else that it is no timeline.
-pub fn read_timeline<F: Files>(alloc: Global, files: &mut F) -> Result<Timeline, ReadFault>
+/// else that it is no timeline. The memory of its JSON value is given back where `frees` says so.
+pub fn read_timeline<F: Files>(
+    alloc: Global,
+    files: &mut F,
+    frees: bool,
+) -> Result<Timeline, ReadFault>
     ensures tables { IfOk result IsOfTables }
     ensures given { HandsOver (GivesHand IsTimeline RefusesTimeline IsCalmJson result)
         (F.handed files.old) (F.handed files.new) }
@@ -55,7 +59,7 @@ pub fn read_timeline<F: Files>(alloc: Global, files: &mut F) -> Result<Timeline,
         (F.handed files.new) }
     ensures cause { Raised result (F.faults files.old) (F.faults files.new) }
 {
-    match read_object(alloc, files) {
+    match read_object(alloc, files, frees) {
         Ok(object) => timeline_in(object),
         Err(fault) => Err(fault),
     }
@@ -84,27 +88,31 @@ fn timeline_in(object: Object) -> Result<Timeline, ReadFault>
 }
 
 // The object that a value stands for, old names and versions included.
-fn object_in(alloc: Global, value: Json) -> Result<Object, ReadFault>
+fn object_in(alloc: Global, value: Json, frees: bool) -> Result<Object, ReadFault>
     requires numerals { HasNumerals (upgraded value) }
     ensures stands { StandsAs (upgraded value) result }
     ensures few { IfOk result (λ object. count_of object ≤ most_items) }
     ensures calm { (n : ℕ) → Raised result n n }
 {
     match upgrade(alloc, value) {
-        Ok(value) => current_object_in(alloc, value),
+        Ok(value) => current_object_in(alloc, value, frees),
         Err(_) => Err(ReadFault::Refused(Refusal::Memory)),
     }
 }
 
 // The object that a value without old names and versions stands for.
-fn current_object_in(alloc: Global, value: Json) -> Result<Object, ReadFault>
+fn current_object_in(alloc: Global, value: Json, frees: bool) -> Result<Object, ReadFault>
     requires numerals { HasNumerals value }
     ensures stands { StandsAs value result }
     ensures few { IfOk result (λ object. count_of object ≤ most_items) }
     ensures calm { (n : ℕ) → Raised result n n }
 {
     let made = object_of(alloc, &value);
-    mem::forget(value);
+    if frees {
+        drop(value);
+    } else {
+        mem::forget(value);
+    }
     match made {
         Ok(object) => Ok(object),
         Err(fault) => Err(ReadFault::Refused(schema_refusal(fault))),

@@ -73,7 +73,7 @@ pub fn object_file<F: Files>(alloc: Global, name: &str, files: &mut F) -> Result
     ensures cause { Raised result (F.faults files.old) (F.faults files.new) }
 {
     match find_file(name, files) {
-        Ok(()) => read_object(alloc, files),
+        Ok(()) => read_object(alloc, files, false),
         Err(fault) => Err(fault),
     }
 }
@@ -92,7 +92,7 @@ pub fn timeline_file<F: Files>(
     ensures cause { Raised result (F.faults files.old) (F.faults files.new) }
 {
     match find_file(name, files) {
-        Ok(()) => read_timeline(alloc, files),
+        Ok(()) => read_timeline(alloc, files, false),
         Err(fault) => Err(fault),
     }
 }
@@ -189,6 +189,37 @@ pub fn script_file<F: Files>(
     }
 }
 
+// What the file holds whose timeline is worked on. The memory of a timeline's JSON value is given
+// back where `frees` says so.
+fn input_by_kind<F: Files>(
+    alloc: Global,
+    file: &InputFile<'_>,
+    files: &mut F,
+    frees: bool,
+) -> Result<Input, ReadFault>
+    ensures suits { IfOk result
+        (λ input. Suits (input_source file.now).kind (input_content input)) }
+    ensures given { HandsOver (GivesFile (input_source file.now) (held_as input_content result))
+        (F.handed files.old) (F.handed files.new) }
+    ensures followed { Follows (F.known files.old) (F.known files.new) (F.handed files.old)
+        (F.handed files.new) }
+    ensures cause { Raised result (F.faults files.old) (F.faults files.new) }
+{
+    match file.kind {
+        InputKind::Timeline => match find_file(file.name, files) {
+            Ok(()) => match read_timeline(alloc, files, frees) {
+                Ok(timeline) => Ok(Input::Timeline(timeline)),
+                Err(fault) => Err(fault),
+            },
+            Err(fault) => Err(fault),
+        },
+        InputKind::List(rate) => match list_file(alloc, rate, file.name, files) {
+            Ok(list) => Ok(Input::List(list)),
+            Err(fault) => Err(fault),
+        },
+    }
+}
+
 /// What the file holds whose timeline is worked on.
 pub fn input_file<F: Files>(
     alloc: Global,
@@ -203,16 +234,7 @@ pub fn input_file<F: Files>(
         (F.handed files.new) }
     ensures cause { Raised result (F.faults files.old) (F.faults files.new) }
 {
-    match file.kind {
-        InputKind::Timeline => match timeline_file(alloc, file.name, files) {
-            Ok(timeline) => Ok(Input::Timeline(timeline)),
-            Err(fault) => Err(fault),
-        },
-        InputKind::List(rate) => match list_file(alloc, rate, file.name, files) {
-            Ok(list) => Ok(Input::List(list)),
-            Err(fault) => Err(fault),
-        },
-    }
+    input_by_kind(alloc, file, files, false)
 }
 
 /// What the files hold whose timelines are worked on, one after another. Each is opened, read to
@@ -238,9 +260,10 @@ pub fn input_files<'a, F: Files>(
         (F.handed files.new) }
     ensures cause { RaisedAt result (F.faults files.old) (F.faults files.new) }
 {
+    let frees = sources.len() > 1;
     let mut inputs = Vec::new(alloc);
     'sources: for source in sources {
-        match input_file(alloc, source, files) {
+        match input_by_kind(alloc, source, files, frees) {
             Ok(input) => match inputs.push(input) {
                 Ok(()) => {}
                 Err(refused) => {

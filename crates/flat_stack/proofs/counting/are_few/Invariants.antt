@@ -6,4 +6,4 @@ use Rattle.flat_stack.proofs.counting.are_few.Given as goal
 
 abbrev pub invariant-seats : goal.invariant-seats
 invariant-seats l =
-    HasRoom l.parts (slots_of l.seats) l.most l.room (slots_of (drop l.index l.seats))
+    HasRoom l.givers.parts.now (slots_of l.seats) l.most l.room (slots_of (drop l.index l.seats))

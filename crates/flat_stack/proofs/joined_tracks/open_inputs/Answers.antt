@@ -2,7 +2,8 @@ use Rattle.std.proofs.Common.{arith, sym, ap, ◌∙◌}
 use Rattle.std.specs.Prelude.{reverse}
 use Rattle.otio_model.specs.Timelines.{bare}
 use Rattle.flat.specs.Roots.{with_roots}
-use Rattle.flat_stack.proofs.MoveLemmas.{head_is, opened_first, opened_more, opened_roots}
+use Rattle.flat_stack.proofs.CopyLemmas.{head_is}
+use Rattle.flat_stack.proofs.MoveLemmas.{opened_first, opened_more, opened_roots}
 use Rattle.flat_stack.proofs.StraightLemmas.{none_left, turned_next}
 use Rattle.flat_stack.proofs.joined_tracks.open_inputs.Goals as goal
 

@@ -6,7 +6,7 @@ use Rattle.flat_stack.proofs.planned_tracks.planned_of.Goals as goal
 
 pub returns : goal.returns
 returns c =
-    planned_is (all_made c.args.rate (children_from (slot_of c.args.seat) c.args.parts.now))
+    planned_is (all_made c.args.rate (children_from (slot_of c.args.seat) c.args.givers.now.parts.now))
     c.args.seat.first.now c.in_ok-track.track
-    (portions_items (inputs_of c.args.parts.now) c.in_ok-portions.portions.items)
+    (portions_items (inputs_of c.args.givers.now.parts.now) c.in_ok-portions.portions.items)
     c.in_ok-portions.ensures c.in_ok-track.ensures

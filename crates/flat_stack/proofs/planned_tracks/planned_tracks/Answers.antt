@@ -8,15 +8,15 @@ use Rattle.flat_stack.proofs.planned_tracks.planned_tracks.Goals as goal
 
 pub seats-init : goal.seats-init
 seats-init c =
-    let made = planned_track (inputs_of c.args.parts.now) in
-    tracks_first c.args.rate c.args.parts.now (slots_of c.args.seats.now)
+    let made = planned_track (inputs_of c.args.givers.now.parts.now) in
+    tracks_first c.args.rate c.args.givers.now.parts.now (slots_of c.args.seats.now)
     (map made c.new-all.result.items) (ap (map made) c.new-all.ensures.items)
 
 pub seats-preserved : goal.seats-preserved
 seats-preserved c =
-    let made = planned_track (inputs_of c.args.parts.now) in
+    let made = planned_track (inputs_of c.args.givers.now.parts.now) in
     let seats = c.args.seats.now in
-    tracks_more c.args.rate c.args.parts.now (slots_of seats) (slots_of (drop c.seats.index seats))
+    tracks_more c.args.rate c.args.givers.now.parts.now (slots_of seats) (slots_of (drop c.seats.index seats))
     (slots_of (drop (c.seats.index + 1) seats)) (map made c.seats.all.items)
     (map made c.push.new.self.items) (slot_of c.seat_at.result) (made c.in_ok-planned.planned)
     c.seats.invariant (ap slots_of (next seats c.seats.index c.seat_at.result c.seat_at.ensures))
@@ -26,7 +26,7 @@ seats-preserved c =
 
 pub returns : goal.returns
 returns c =
-    tracks_end c.args.rate c.args.parts.now (slots_of c.args.seats.now)
+    tracks_end c.args.rate c.args.givers.now.parts.now (slots_of c.args.seats.now)
     (slots_of (drop c.seats.index c.args.seats.now))
-    (map (planned_track (inputs_of c.args.parts.now)) c.seats.all.items) c.seats.invariant
+    (map (planned_track (inputs_of c.args.givers.now.parts.now)) c.seats.all.items) c.seats.invariant
     (ap slots_of (none_left c.args.seats.now c.seats.index (omega arith)))

@@ -7,5 +7,5 @@ use Rattle.flat_stack.proofs.planned_tracks.planned_tracks.Given as goal
 
 abbrev pub invariant-seats : goal.invariant-seats
 invariant-seats l =
-    AreTracks l.rate l.parts (slots_of l.seats)
-    (map (planned_track (inputs_of l.parts)) l.all.items) (slots_of (drop l.index l.seats))
+    AreTracks l.rate l.givers.parts.now (slots_of l.seats)
+    (map (planned_track (inputs_of l.givers.parts.now)) l.all.items) (slots_of (drop l.index l.seats))

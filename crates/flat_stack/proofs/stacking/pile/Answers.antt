@@ -2,7 +2,8 @@ use Rattle.std.proofs.Common.{arith, sym, ap, ◌++◌, ◌≡◌, ◌∙◌}
 use Rattle.std.specs.Prelude.{flat_map, reverse}
 use Rattle.otio_model.specs.Timelines.{bare}
 use Rattle.flat.specs.Roots.{roots, with_roots}
-use Rattle.flat_stack.proofs.MoveLemmas.{done_all, done_more, head_is}
+use Rattle.flat_stack.proofs.CopyLemmas.{head_is}
+use Rattle.flat_stack.proofs.MoveLemmas.{done_all, done_more}
 use Rattle.flat_stack.proofs.StraightLemmas.{none_left, turned_next}
 use Rattle.flat_stack.proofs.stacking.pile.Goals as goal
 
