@@ -5,8 +5,8 @@
 
 Four tables: how the time grows with the record frames (99 000 clips of 10, 33 and 100 frames each), with the clips (10 000, 30 000 and 99 000
 of 33 frames each), and with the tracks that are nested in one another (1, 10 and 30 around one clip of 9 900 000 frames); and timelines of
-other shapes: a dissolve at each cut, a key of its own for each clip, clips of one key whose available ranges are apart, and one clip at twice
-its speed, where each frame is a span of its own.
+other shapes: a dissolve at each cut, a key of its own for each clip, clips of one key whose available ranges are apart, one clip at twice its
+speed, where each frame is a span of its own, and one clip in 30 nested stacks, or in 30 nested tracks at speeds of their own.
 
 Output goes to /dev/null. Times are processor times (user and system), the least of R runs (3), next to those of `otio stat` of the same file,
 which reads the timeline and validates it as `pull` does. The program is OTIO of the environment, or the one that `./otio` builds. --only takes the tables whose title has the word.
@@ -75,6 +75,23 @@ def nested(depth, length):
     return timeline([item])
 
 
+def piled(depth, length):
+    """One clip below so many stacks, each in the one before."""
+    item = clip(0, length, 'a.mov')
+    for _ in range(depth):
+        item = f'{{"OTIO_SCHEMA":"Stack.1","children":[{item}]}}'
+    return timeline([item])
+
+
+def sped(depth, length):
+    """One clip below so many tracks, each at a speed of its own."""
+    item = clip(0, length, 'a.mov')
+    for _ in range(depth):
+        speed = '"effects":[{"OTIO_SCHEMA":"LinearTimeWarp.1","time_scalar":0.999999}]'
+        item = f'{{"OTIO_SCHEMA":"Track.1","children":[{item}],{speed}}}'
+    return timeline([item])
+
+
 def processor_time(words, folder):
     """Milliseconds of user and system time."""
     before = resource.getrusage(resource.RUSAGE_CHILDREN)
@@ -114,6 +131,8 @@ def tables(clips, lengths):
         (f'{most} keys', most * middle, keys(most, middle)),
         (f'{most // 2} available ranges of one key', most // 2 * middle, ranges(most // 2, middle)),
         ('each frame a span of its own', LONG, fast(LONG)),
+        ('30 stacks around one clip', LONG, piled(30, LONG)),
+        ('30 tracks, each at a speed of its own', LONG, sped(30, LONG)),
     ))
 
 

@@ -167,6 +167,47 @@ fn put_covered(text: &mut String) -> Result<(), AllocError> {
     text.push_str("]}]}]}}")
 }
 
+// Members of a nested track, and what stands between its two clips.
+type Nest = (&'static str, &'static str);
+
+const LATER: &str =
+    ",\"source_range\":{\"OTIO_SCHEMA\":\"TimeRange.1\",\"start_time\":{\"OTIO_SCHEMA\":\"RationalTime.1\",\"rate\":24,\"value\":3},\"duration\":{\"OTIO_SCHEMA\":\"RationalTime.1\",\"rate\":24,\"value\":20}}";
+
+const TWICE: &str = ",\"effects\":[{\"OTIO_SCHEMA\":\"LinearTimeWarp.1\",\"time_scalar\":2.0}]";
+
+const DISSOLVE: &str =
+    ",{\"OTIO_SCHEMA\":\"Transition.1\",\"in_offset\":{\"OTIO_SCHEMA\":\"RationalTime.1\",\"rate\":24,\"value\":2},\"out_offset\":{\"OTIO_SCHEMA\":\"RationalTime.1\",\"rate\":24,\"value\":3}}";
+
+// Two clips in a track in a track: seen from a later start, the same with a dissolve between them,
+// and at twice their speed.
+static NESTS: [(&str, Nest); 3] = [
+    ("later.otio", (LATER, "")),
+    ("mixed.otio", (LATER, DISSOLVE)),
+    ("twice.otio", (TWICE, "")),
+];
+
+fn put_nest(text: &mut String, nest: &Nest) -> Result<(), AllocError> {
+    let (members, between) = *nest;
+    put_parts(
+        text,
+        &[
+            "{\"OTIO_SCHEMA\":\"Timeline.1\",\"tracks\":{\"OTIO_SCHEMA\":\"Stack.1\",\"children\":[{\"OTIO_SCHEMA\":\"Track.1\",\"children\":[{\"OTIO_SCHEMA\":\"Track.1\"",
+            members,
+            ",\"children\":[",
+        ],
+    )?;
+    put_shot(text, &(A, "24 10 12", ALL, ""))?;
+    put_parts(text, &[between, ","])?;
+    put_shot(text, &(B, "24 50 20", ALL, ""))?;
+    text.push_str("]}]}]}}")
+}
+
+fn nest_of(alloc: Global, nest: &Nest) -> Result<String, AllocError> {
+    let mut text = String::new(alloc);
+    put_nest(&mut text, nest)?;
+    Ok(text)
+}
+
 // Two root gaps, of which neither has too many record frames, and of which the second is rounded
 // up.
 fn two_gaps(alloc: Global) -> Result<String, AllocError> {
@@ -189,6 +230,9 @@ fn some_files(alloc: Global) -> Result<MemFiles, AllocError> {
     let mut files = files_of(alloc, &FILES)?;
     for (name, shots) in TRACKS.iter() {
         put_text(&mut files, name, track_of(alloc, shots))?;
+    }
+    for (name, nest) in NESTS.iter() {
+        put_text(&mut files, name, nest_of(alloc, nest))?;
     }
     put_text(&mut files, "x.otio", three_tracks(alloc))?;
     put_text(&mut files, "nested.otio", nested_track(alloc, true))?;
@@ -228,7 +272,26 @@ pull reel:\"a.mov\" 24.0 3 1
 pull name:\"a.mov\" 24.0 4 1
 ";
 
-static PULLS: [Case; 25] = [
+// Each second frame of two clips.
+const TWICE_AS_FAST: &[u8] = b"pull url:\"a.mov\" 24.0 10 1
+pull url:\"a.mov\" 24.0 12 1
+pull url:\"a.mov\" 24.0 14 1
+pull url:\"a.mov\" 24.0 16 1
+pull url:\"a.mov\" 24.0 18 1
+pull url:\"a.mov\" 24.0 20 1
+pull url:\"b.mov\" 24.0 50 1
+pull url:\"b.mov\" 24.0 52 1
+pull url:\"b.mov\" 24.0 54 1
+pull url:\"b.mov\" 24.0 56 1
+pull url:\"b.mov\" 24.0 58 1
+pull url:\"b.mov\" 24.0 60 1
+pull url:\"b.mov\" 24.0 62 1
+pull url:\"b.mov\" 24.0 64 1
+pull url:\"b.mov\" 24.0 66 1
+pull url:\"b.mov\" 24.0 68 1
+";
+
+static PULLS: [Case; 28] = [
     ("pull x.otio", Status::Done, THREE_TRACKS, b""),
     ("pull x.otio --handles 0", Status::Done, THREE_TRACKS, b""),
     ("pull --handles 1 x.otio", Status::Done, WITH_HANDLES, b""),
@@ -244,6 +307,19 @@ static PULLS: [Case; 25] = [
         b"pull url:\"a.mov\" 24.0 0 21\npull url:\"a.mov\" 24.0 29 22\npull url:\"b.mov\" 24.0 0 11\n",
         b"",
     ),
+    (
+        "pull later.otio",
+        Status::Done,
+        b"pull url:\"a.mov\" 24.0 13 9\npull url:\"b.mov\" 24.0 50 11\n",
+        b"",
+    ),
+    (
+        "pull mixed.otio",
+        Status::Done,
+        b"pull url:\"a.mov\" 24.0 13 12\npull url:\"b.mov\" 24.0 48 13\n",
+        b"",
+    ),
+    ("pull twice.otio", Status::Done, TWICE_AS_FAST, b""),
     (
         "pull freeze.otio",
         Status::Done,

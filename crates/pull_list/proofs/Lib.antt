@@ -2,6 +2,7 @@
 pub mod RunLists
 pub mod RunOrder
 pub mod Merging
+pub mod PutRuns
 pub mod Common
 pub mod Nearness
 pub mod MoreRuns
@@ -10,6 +11,7 @@ pub mod Collecting
 pub mod Pulling
 pub mod Giving
 pub mod Recording
+pub mod PartLemmas
 pub mod Available
 pub mod Stocking
 pub mod Sending

@@ -36,15 +36,15 @@ pub each_append : (P : Run → Type 0) (xs ys : List Run) → Each P xs → Each
 each_append P [] ys h j = j
 each_append P (x ∷ xs) ys h j = (h.0, each_append P xs ys h.1 j)
 
-each_front : (P : Run → Type 0) (xs ys : List Run) → Each P (xs ++ ys) → Each P xs
+pub each_front : (P : Run → Type 0) (xs ys : List Run) → Each P (xs ++ ys) → Each P xs
 each_front P [] ys h = tt
 each_front P (x ∷ xs) ys h = (h.0, each_front P xs ys h.1)
 
-each_back : (P : Run → Type 0) (xs ys : List Run) → Each P (xs ++ ys) → Each P ys
+pub each_back : (P : Run → Type 0) (xs ys : List Run) → Each P (xs ++ ys) → Each P ys
 each_back P [] ys h = h
 each_back P (x ∷ xs) ys h = each_back P xs ys h.1
 
-each_map : (P Q : Run → Type 0) (xs : List Run) → ((r : Run) → P r → Q r) → Each P xs → Each Q xs
+pub each_map : (P Q : Run → Type 0) (xs : List Run) → ((r : Run) → P r → Q r) → Each P xs → Each Q xs
 each_map P Q [] f h = tt
 each_map P Q (x ∷ xs) f h = (f x h.0, each_map P Q xs f h.1)
 
@@ -164,12 +164,12 @@ merging_next all done last next rest m apart = record {
     back k v (inr h) = inr (inr h)
 
 -- the run of the last one and of the next, where they meet or touch
-abbrev IsJoined : Run → Run → Run → Type 0
+abbrev pub IsJoined : Run → Run → Run → Type 0
 IsJoined one other both = (both.group ≡ one.group) × (both.first ≡ one.first)
     × ((both.past ≡ one.past) × (other.past ≤ℤ one.past)
     ⊎ ((both.past ≡ other.past) × (one.past ≤ℤ other.past)))
 
-joined_has : (one other both : Run) (k : ℕ) (v : ℤ) → IsJoined one other both → one.group ≡ other.group
+pub joined_has : (one other both : Run) (k : ℕ) (v : ℤ) → IsJoined one other both → one.group ≡ other.group
     → one.first ≤ℤ other.first → other.first ≤ℤ one.past
     → IsOfRun both k v ↔ (IsOfRun one k v ⊎ IsOfRun other k v)
 joined_has one other both k v j same starts meets = (there, back)
@@ -215,7 +215,7 @@ starts_trans a b c (inr h) (inl j) = let g = h.0 in inl (omega (arith, j, g))
 starts_trans a b c (inr h) (inr j) =
     let f = h.1 in let g = j.1 in inr (h.0 ∙ j.0, omega (arith, ints, f, g))
 
-within_joined : (n : ℕ) (one other both : Run) → IsJoined one other both → IsWithin n one
+pub within_joined : (n : ℕ) (one other both : Run) → IsJoined one other both → IsWithin n one
     → IsWithin n other → IsWithin n both
 within_joined n one other both j a b =
     let low = a.0 in let f = j.1 in (omega (arith, ints, low, f), by j.2)
@@ -225,7 +225,7 @@ within_joined n one other both j a b =
     by (inl p) = let d = p.0 in let e = a.1 in omega (arith, ints, d, e)
     by (inr p) = let d = p.0 in let e = b.1 in omega (arith, ints, d, e)
 
-run_joined : (one other both : Run) → IsJoined one other both → IsRun one → IsRun both
+pub run_joined : (one other both : Run) → IsJoined one other both → IsRun one → IsRun both
 run_joined one other both j a = by j.2
   where
     by : ((both.past ≡ one.past) × (other.past ≤ℤ one.past))

@@ -1,10 +1,10 @@
 -- Numbers that are near those of runs.
-use Rattle.std.proofs.Common.{◌≡◌, sym, subst, ◌∙◌, ℕ, ◌+◌, drop, length, get_or, ℤ, pos, ◌+ℤ◌, ◌-ℤ◌, ◌<◌, ◌≤◌, ◌≤ℤ◌, ◌<ℤ◌, ◌⊎◌, inl, inr, ◌↔◌, List, [], ◌∷◌, ◌++◌, arith}
+use Rattle.std.proofs.Common.{◌≡◌, sym, subst, ◌∙◌, ℕ, ◌+◌, drop, length, get_or, ℤ, pos, ◌+ℤ◌, ◌-ℤ◌, ◌<◌, ◌≤ℤ◌, ◌<ℤ◌, ◌⊎◌, inl, inr, ◌↔◌, List, [], ◌∷◌, ◌++◌, arith}
 use Rattle.std.proofs.lemmas.List.{drop_more}
 use Rattle.std.proofs.lemmas.Int.{ints, by_lt_z}
-use Rattle.pull_list.specs.Runs.{AreApart, Each, Has, HasNear, IsOfRun, IsRun, IsWithin, far, further}
+use Rattle.pull_list.specs.Runs.{AreApart, Each, Has, HasNear, IsOfRun, IsRun, IsWithin, Puts, far, further}
 use Rattle.pull_list.specs.declared.runs.Run.{Run}
-use Rattle.pull_list.proofs.Merging.{each_append, has_append}
+use Rattle.pull_list.proofs.Merging.{has_append}
 
 -- ---- one run
 
@@ -89,44 +89,42 @@ widening_begins h all near e runs within = subst (λ x. IsWidening h all x all) 
     by k v (inl n) = absurd n
     by k v (inr n) = n
 
-widening_next : (h : ℕ) (all near rest : List Run) (r w : Run) → IsWidening h all near (r ∷ rest)
-    → IsWidened h r w → IsWithin further w → IsWidening h all (near ++ w ∷ []) rest
-widening_next h all near rest r w m is within = record {
+widening_next : (h : ℕ) (all near new rest : List Run) (r w : Run)
+    → IsWidening h all near (r ∷ rest) → IsWidened h r w → IsWithin further w → Puts near new w
+    → IsWidening h all new rest
+widening_next h all near new rest r w m is within p = record {
   has = λ k v. (λ n. there k v ((m.has k v).0 n), λ n. (m.has k v).1 (back k v n));
-  runs = each_append IsRun near (w ∷ []) m.runs (widened_run h r w is m.rest_runs.0, tt);
-  within = each_append (IsWithin further) near (w ∷ []) m.within (within, tt);
+  runs = p.runs (widened_run h r w is m.rest_runs.0) m.runs;
+  within = p.within further within m.within;
   rest_runs = m.rest_runs.1;
   rest_within = m.rest_within.1;
 }
   where
     split : (k : ℕ) (v : ℤ) → HasNear (r ∷ []) h k v ⊎ HasNear rest h k v
-        → Has (near ++ w ∷ []) k v ⊎ HasNear rest h k v
-    split k v (inl n) =
-        inl ((has_append near (w ∷ []) k v).1 (inr (inl (near_widened h k v r w is n))))
+        → Has new k v ⊎ HasNear rest h k v
+    split k v (inl n) = inl ((p.has k v).1 (inr (near_widened h k v r w is n)))
     split k v (inr n) = inr n
 
     there : (k : ℕ) (v : ℤ) → Has near k v ⊎ HasNear (r ∷ rest) h k v
-        → Has (near ++ w ∷ []) k v ⊎ HasNear rest h k v
-    there k v (inl n) = inl ((has_append near (w ∷ []) k v).1 (inl n))
+        → Has new k v ⊎ HasNear rest h k v
+    there k v (inl n) = inl ((p.has k v).1 (inl n))
     there k v (inr n) = split k v (near_either h k v r rest n)
 
-    back : (k : ℕ) (v : ℤ) → Has (near ++ w ∷ []) k v ⊎ HasNear rest h k v
+    back : (k : ℕ) (v : ℤ) → Has new k v ⊎ HasNear rest h k v
         → Has near k v ⊎ HasNear (r ∷ rest) h k v
     back k v (inr n) = inr (near_more h k v r rest n)
-    back k v (inl n) = by ((has_append near (w ∷ []) k v).0 n)
+    back k v (inl n) = by ((p.has k v).0 n)
       where
-        by : Has near k v ⊎ (IsOfRun w k v ⊎ ⊥) → Has near k v ⊎ HasNear (r ∷ rest) h k v
+        by : Has near k v ⊎ IsOfRun w k v → Has near k v ⊎ HasNear (r ∷ rest) h k v
         by (inl j) = inl j
-        by (inr (inl j)) = inr (near_one h k v r rest (widened_near h k v r w is m.rest_runs.0 j))
-        by (inr (inr j)) = absurd j
+        by (inr j) = inr (near_one h k v r rest (widened_near h k v r w is m.rest_runs.0 j))
 
-pub widening_at : (h : ℕ) (all near more runs : List Run) (w : Run) (i : ℕ) (d : Run)
+pub widening_at : (h : ℕ) (all near new runs : List Run) (w : Run) (i : ℕ) (d : Run)
     → i < length runs → IsWidening h all near (drop i runs) → IsWidened h (get_or runs i d) w
-    → IsWithin further w → more ≡ near ++ w ∷ [] → IsWidening h all more (drop (i + 1) runs)
-widening_at h all near more runs w i d lt m is within e =
-    subst (λ x. IsWidening h all x (drop (i + 1) runs)) (sym e)
-    (widening_next h all near (drop (i + 1) runs) (get_or runs i d) w
-    (subst (IsWidening h all near) (drop_more runs i d lt) m) is within)
+    → IsWithin further w → Puts near new w → IsWidening h all new (drop (i + 1) runs)
+widening_at h all near new runs w i d lt m is within p =
+    widening_next h all near new (drop (i + 1) runs) (get_or runs i d) w
+    (subst (IsWidening h all near) (drop_more runs i d lt) m) is within p
 
 pub within_at : (h : ℕ) (all near runs : List Run) (i : ℕ) (d : Run) → i < length runs
     → IsWidening h all near (drop i runs) → IsWithin far (get_or runs i d)

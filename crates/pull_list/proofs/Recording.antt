@@ -1,6 +1,7 @@
 -- The record frames of root children, one after another.
-use Rattle.std.proofs.Common.{◌≡◌, refl, sym, ap, ap₂, subst, ◌∙◌, ℕ, zero, suc, ◌+◌, ◌*◌, ◌%◌, ◌<◌, ◌≤◌, ◌^◌, Bool, ℤ, pos, negsuc, ◌+ℤ◌, ◌-ℤ◌, ◌*ℤ◌, ◌≤ℤ◌, ◌<ℤ◌, ◌⊎◌, inl, inr, ◌↔◌, List, [], ◌∷◌, drop, length, map, Option, Some, None, slice_get, min, arith}
+use Rattle.std.proofs.Common.{◌≡◌, refl, sym, ap, ap₂, subst, ◌∙◌, ℕ, zero, suc, ◌+◌, ◌*◌, ◌%◌, ◌<◌, ◌≤◌, ◌^◌, Bool, ℤ, pos, negsuc, ◌+ℤ◌, ◌-ℤ◌, ◌*ℤ◌, ◌≤ℤ◌, ◌<ℤ◌, ◌⊎◌, inl, inr, ◌↔◌, List, [], ◌∷◌, drop, length, map, Option, Some, None, slice_get, arith}
 use Rattle.std.specs.Int.{div_ceil}
+use Rattle.std.specs.List.{Contains}
 use Rattle.std.proofs.Math.IntN.{pos-*ℤ-pos}
 use Rattle.std.proofs.Math.Nat.{div-le_self, lt_of_mul-lt-mul_right, min-le_left, mul-le-mul_right}
 use Rattle.std.proofs.lemmas.Bool.{cases_lt}
@@ -27,7 +28,7 @@ use Rattle.pull_list.specs.Runs.{Each, Has, IsRun, IsWithin, far}
 use Rattle.pull_list.specs.Used.{ClipGroup, IsSeen, IsUsed}
 use Rattle.pull_list.specs.Wanted.{clips_of}
 use Rattle.pull_list.specs.declared.runs.Run.{Run}
-use Rattle.pull_list.proofs.Collecting.{clip_below}
+use Rattle.pull_list.proofs.Collecting.{clip_below, collects_as}
 
 -- ---- how many frames
 
@@ -108,6 +109,13 @@ frame_in len ticks n some lt =
     let b : (n + 1) * ticks ≤ div_ceil len ticks * ticks = mul-le-mul_right ticks (omega (arith, lt)) in
     let c : (n + 1) * ticks ≡ n * ticks + ticks = omega arith in
     omega (arith, a, b, c)
+
+-- the same, as the code reckons it
+pub starts_in : (len ticks n : ℕ) (at : ℤ) → 1000000 ≤ ticks → n < div_ceil len ticks
+    → at ≡ pos n *ℤ pos ticks → at <ℤ pos len
+starts_in len ticks n at some lt f =
+    let m = frame_in len ticks n (omega (arith, some)) lt in
+    let g = f ∙ pos-*ℤ-pos n ticks in omega (arith, ints, m, g)
 
 -- and what starts in it is one of them
 pub in_frame : (len ticks n : ℕ) → 0 < ticks → n * ticks < len → n < div_ceil len ticks
@@ -423,7 +431,9 @@ roots_end groups t ticks i old new e some all a = record {
 
 -- ---- one frame
 
-pub shown_as : (groups : List ClipGroup) (clips : List ClipRow) (old new : List Run) (any : Bool)
-    (s t : Show) → Collects groups clips old new any s → s ≡ t → AddsShown groups clips old new t
-shown_as groups clips old new any s t c e =
-    subst (AddsShown groups clips old new) e (record { takes = c.takes; among = c.among })
+pub shown_as : (groups : List ClipGroup) (clips more : List ClipRow) (old new : List Run) (any : Bool)
+    (s t : Show) → Collects groups clips old new any s → s ≡ t
+    → ((c : ClipRow) → Contains clips c → Contains more c) → AddsShown groups more old new t
+shown_as groups clips more old new any s t c e f =
+    let k = collects_as groups clips more old new any s t c e f in
+    record { takes = k.takes; among = k.among }

@@ -6,6 +6,7 @@ pub mod Record
 pub mod Lines
 pub mod Found
 pub mod Labels
+pub mod Parts
 pub mod Stretches
 pub mod Runs
 pub mod Worked

@@ -88,3 +88,9 @@ pub record Adds (old new : List Run) (k : ℕ) (v : ℤ) : Type 0 where
   pub has : (j : ℕ) (w : ℤ) → Has new j w ↔ (Has old j w ⊎ ((j ≡ k) × (w ≡ v)))
   pub runs : Each IsRun old → Each IsRun new
   pub within : Each (IsWithin far) old → Each (IsWithin far) new
+
+-- the run was added
+pub record Puts (old new : List Run) (r : Run) : Type 0 where
+  pub has : (k : ℕ) (v : ℤ) → Has new k v ↔ (Has old k v ⊎ IsOfRun r k v)
+  pub runs : IsRun r → Each IsRun old → Each IsRun new
+  pub within : (n : ℕ) → IsWithin n r → Each (IsWithin n) old → Each (IsWithin n) new

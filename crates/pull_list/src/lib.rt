@@ -10,6 +10,7 @@ mod clips;
 mod groups;
 mod laws;
 mod lines;
+mod parts;
 mod pulls;
 mod record;
 mod runs;

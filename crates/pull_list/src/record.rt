@@ -7,9 +7,11 @@ ghost use Rattle.otio_model.specs.Lengths.{length_of, or_zero};
 ghost use Rattle.coord.specs.Programs.{child_shows};
 ghost use Rattle.coord.specs.Soundness.{IsFaultless, IsFaultlessItem};
 ghost use Rattle.pull_list.specs.Found.{AddsChild, AddsShown, AddsUsed, clips_of_item};
+ghost use Rattle.pull_list.specs.Parts.{IsPart};
 ghost use Rattle.pull_list.specs.Record.{HasTooMany, record_frames};
 ghost use Rattle.pull_list.specs.Runs.{Each, IsRun};
 
+use crate::parts::{Part, part_at};
 use crate::shown::add_item;
 use crate::used::Used;
 use coord::frame_ticks;
@@ -84,8 +86,15 @@ fn add_child<'a>(used: &mut Used<'a>, item: &'a Item, ticks: u128) -> Result<(),
         used.new.runs.items) }
 {
     let count = frames_of(item, ticks) as u32;
+    let mut part = Part {
+        item,
+        ahead: 0,
+        past: 0,
+    };
     'frames: for frame in 0..count {
-        add_frame(used, item, frame_start(frame, ticks))?;
+        let start = frame_start(frame, ticks);
+        part = part_at(item, part, start);
+        add_frame(used, item, part, start)?;
     }
     Ok(())
 }
@@ -99,18 +108,25 @@ fn frame_start(frame: u32, ticks: u128) -> i128
     i128::from(frame) * ticks as i128
 }
 
-// Adds the frames that a root child shows at an instant in its length.
-fn add_frame<'a>(used: &mut Used<'a>, item: &'a Item, ticks: i128) -> Result<(), AllocError>
+// Adds the frames that a root child shows at an instant in its length, which a part holds.
+fn add_frame<'a>(
+    used: &mut Used<'a>,
+    item: &'a Item,
+    part: Part<'a>,
+    ticks: i128,
+) -> Result<(), AllocError>
     requires few { count_of item.now < 2 ^ 32 }
     requires sound { IsFaultlessItem item.now }
     requires low { pos 0 ≤ℤ ticks }
     requires high { ticks <ℤ pos (or_zero (length_of item.now)) }
+    requires part { IsPart item.now ticks part }
+    requires holds { ticks <ℤ part.past }
     requires runs { Each IsRun used.old.runs.items }
     ensures groups { used.new.groups ≡ used.old.groups }
     ensures added { OnOk result (AddsShown used.old.groups (clips_of_item item.now)
         used.old.runs.items used.new.runs.items
         (child_shows (λ rate. rate) item.now ticks)) }
 {
-    add_item(used, item, item.root_kind(), ticks)?;
+    add_item(used, part.item, item.root_kind(), ticks + part.ahead)?;
     Ok(())
 }

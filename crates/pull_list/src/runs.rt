@@ -1,7 +1,7 @@
 //! Sets of frames, as runs of frame numbers in each group.
 
 ghost use Rattle.std.specs.Prelude.{◌≡◌, ◌⊎◌, ◌↔◌, ◌<◌, ◌∷◌, ◌++◌, [], ℕ, ℤ, pos, ◌+ℤ◌, ◌-ℤ◌, ◌≤ℤ◌, ◌<ℤ◌, IfOk, IfSome, OnOk, IsTrue};
-ghost use Rattle.pull_list.specs.Runs.{AreApart, AreSorted, Each, EndsBefore, Has, HasOne, IsGreater, IsLesser, IsOfRun, IsRun, IsWithin, StartsBy};
+ghost use Rattle.pull_list.specs.Runs.{AreApart, AreSorted, Each, EndsBefore, Has, HasOne, IsGreater, IsLesser, IsOfRun, IsRun, IsWithin, Precedes, Puts, StartsBy};
 
 use std::alloc::{AllocError, Global};
 
@@ -56,11 +56,138 @@ pub(crate) fn merged(alloc: Global, runs: Vec<Run>) -> Result<Vec<Run>, AllocErr
     ensures within { (n : ℕ) → Each (IsWithin n) runs.items
         → IfOk result (λ all. Each (IsWithin n) all.items) }
 {
+    if are_apart(runs.as_slice()) {
+        return Ok(runs);
+    }
     let runs = sorted(runs);
     match runs.as_slice().split_first() {
         Some((first, more)) => merged_from(alloc, *first, more),
         None => Ok(Vec::new(alloc)),
     }
+}
+
+// Whether the runs are in order, and no two meet or touch.
+fn are_apart(runs: &[Run]) -> bool
+    requires { Each IsRun runs.now }
+    ensures { IsTrue result → AreApart runs.now }
+{
+    let Some((first, more)) = runs.split_first() else {
+        return true;
+    };
+    let mut last = *first;
+    'runs: for &run in more {
+        if !precedes(last, run) {
+            return false;
+        }
+        last = run;
+    }
+    true
+}
+
+// Whether a run ends before another begins, in one group with a number between them.
+fn precedes(one: Run, other: Run) -> bool
+    ensures { IsTrue result → Precedes one other }
+{
+    if one.group == other.group {
+        one.past < other.first
+    } else {
+        one.group < other.group
+    }
+}
+
+/// Adds a run to the last one, where that starts no later and the two meet or touch; else after it.
+pub(crate) fn put_run(runs: &mut Vec<Run>, run: Run) -> Result<(), AllocError>
+    ensures { OnOk result (Puts runs.old.items runs.new.items run) }
+{
+    match runs.pop() {
+        Some(last) => put_after(runs, last, run),
+        None => {
+            runs.push(run)?;
+            Ok(())
+        }
+    }
+}
+
+// Adds two runs, the second to the first where that starts no later and the two meet or touch.
+fn put_after(runs: &mut Vec<Run>, last: Run, run: Run) -> Result<(), AllocError>
+    ensures { OnOk result (Puts (runs.old.items ++ last ∷ []) runs.new.items run) }
+{
+    if does_continue(last, run) {
+        runs.push(joined(last, run))?;
+        return Ok(());
+    }
+    runs.push(last)?;
+    runs.push(run)?;
+    Ok(())
+}
+
+// Whether a run starts no earlier than another, and meets it or begins at its end.
+fn does_continue(one: Run, other: Run) -> bool
+    ensures { IsTrue result
+        → ((one.group ≡ other.group) × (one.first ≤ℤ other.first) × (other.first ≤ℤ one.past)) }
+{
+    touches(one, other) && one.first <= other.first
+}
+
+/// The runs with more of them, but for those that one of them covers, where that is found.
+pub(crate) fn with_more(runs: Vec<Run>, more: &[Run]) -> Result<Vec<Run>, AllocError>
+    ensures has { IfOk result (λ all. (k : ℕ) (v : ℤ) →
+        Has all.items k v ↔ (Has runs.items k v ⊎ Has more.now k v)) }
+    ensures runs { Each IsRun runs.items → Each IsRun more.now
+        → IfOk result (λ all. Each IsRun all.items) }
+    ensures within { (n : ℕ) → Each (IsWithin n) runs.items → Each (IsWithin n) more.now
+        → IfOk result (λ all. Each (IsWithin n) all.items) }
+{
+    let mut all = runs;
+    let mut at = 0;
+    'more: for &run in more {
+        at = next_at(all.as_slice(), at, run);
+        put_uncovered(&mut all, at, run)?;
+    }
+    Ok(all)
+}
+
+// The place after one, where the run there ends before another.
+fn next_at(runs: &[Run], at: usize, run: Run) -> usize {
+    match runs.get(at) {
+        Some(one) => {
+            if ends_before(*one, run) {
+                at.saturating_add(1)
+            } else {
+                at
+            }
+        }
+        None => at,
+    }
+}
+
+// Adds a run after the others, where the one at a place doesn't cover it.
+fn put_uncovered(runs: &mut Vec<Run>, at: usize, run: Run) -> Result<(), AllocError>
+    ensures { OnOk result (Puts runs.old.items runs.new.items run) }
+{
+    if is_covered(runs.as_slice(), at, run) {
+        return Ok(());
+    }
+    runs.push(run)?;
+    Ok(())
+}
+
+// Whether the run at a place has all numbers of another.
+fn is_covered(runs: &[Run], at: usize, run: Run) -> bool
+    ensures { IsTrue result → (k : ℕ) (v : ℤ) → IsOfRun run k v → Has runs.now k v }
+{
+    match runs.get(at) {
+        Some(one) => covers(*one, run),
+        None => false,
+    }
+}
+
+// Whether a run has all numbers of another.
+fn covers(one: Run, other: Run) -> bool
+    ensures { IsTrue result → ((one.group ≡ other.group) × (one.first ≤ℤ other.first)
+        × (other.past ≤ℤ one.past)) }
+{
+    one.group == other.group && (one.first <= other.first && other.past <= one.past)
 }
 
 // The same of sorted runs.

@@ -3,7 +3,7 @@
 ghost use Rattle.std.specs.Prelude.{◌≡◌, ◌⊎◌, ◌↔◌, ◌≤◌, ◌∷◌, [], ◌^◌, ℕ, ℤ, pos, ◌-ℤ◌, ◌+ℤ◌, IfOk};
 ghost use Rattle.pull_list.specs.Runs.{AreApart, Each, Has, HasNear, IsOfRun, IsRun, IsWithin, far, further};
 
-use crate::runs::{Run, common, merged};
+use crate::runs::{Run, common, merged, put_run, with_more};
 use std::alloc::{AllocError, Global};
 
 /// The runs of the frames that are wanted, where these are used, those are available, and handles
@@ -48,8 +48,8 @@ fn with_handles(
 {
     let near = near_runs(alloc, used, handles)?;
     let available = merged(alloc, available)?;
-    let mut all = common(alloc, near.as_slice(), available.as_slice())?;
-    all.extend_from_slice(used)?;
+    let all = common(alloc, near.as_slice(), available.as_slice())?;
+    let all = with_more(all, used)?;
     merged(alloc, all)
 }
 
@@ -67,7 +67,7 @@ fn near_runs(alloc: Global, runs: &[Run], handles: u32) -> Result<Vec<Run>, Allo
     merged(alloc, widened(alloc, runs, handles)?)
 }
 
-// Each run with so many numbers more at both ends.
+// The runs with so many numbers more at both ends.
 fn widened(alloc: Global, runs: &[Run], handles: u32) -> Result<Vec<Run>, AllocError>
     requires handles { handles ≤ 10000 }
     requires runs { Each IsRun runs.now }
@@ -77,9 +77,9 @@ fn widened(alloc: Global, runs: &[Run], handles: u32) -> Result<Vec<Run>, AllocE
     ensures runs { IfOk result (λ near. Each IsRun near.items) }
     ensures within { IfOk result (λ near. Each (IsWithin further) near.items) }
 {
-    let mut near = Vec::with_capacity(alloc, runs.len())?;
+    let mut near = Vec::new(alloc);
     'runs: for &run in runs {
-        near.push(widen(run, handles))?;
+        put_run(&mut near, widen(run, handles))?;
     }
     Ok(near)
 }
