@@ -403,6 +403,22 @@ pub names_length : (xs : List (Bor (List ℕ))) → length (names_now xs) ≡ le
 names_length [] = refl
 names_length (x ∷ xs) = ap suc (names_length xs)
 
+-- the first name and the others, seen as a slice
+pub names_gathered : (name : List ℕ) (names shown more : List (Bor (List ℕ)))
+    → names_now names ≡ name ∷ names_now shown → shown ≡ more
+    → names_now names ≡ name ∷ names_now more
+names_gathered name names shown more are same = are ∙ ap (λ n. name ∷ names_now n) same
+
+-- the inputs that a slice shows and a media list, by the names of the inputs
+pub sources_named : (command : Command) (media : Option (List ℕ)) (slice sources : List InputFile)
+    (shown names : List (Bor (List ℕ))) → slice ≡ sources
+    → map input_source sources ≡ map (input_named command) (names_now shown) → shown ≡ names
+    → map input_source slice ++ media_source media
+    ≡ map (input_named command) (names_now names) ++ media_source media
+sources_named command media slice sources shown names seen are same =
+    ap (λ (l : List Source). l ++ media_source media)
+    (ap (map input_source) seen ∙ are ∙ ap (λ n. map (input_named command) (names_now n)) same)
+
 pub sources_next : (command : Command) (sources new : List InputFile)
     (names : List (Bor (List ℕ))) (i : ℕ) (d : Bor (List ℕ)) (source : InputFile)
     → i < length names → new ≡ sources ++ source ∷ []
