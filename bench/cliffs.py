@@ -79,6 +79,11 @@ def whole_track(clips, commands):
     return edited(text, numbered(commands, lambda index: 'undo' if index % 2 else f'overwrite 0 0 gap {clips * LENGTH}'))
 
 
+def most_of_track(clips, commands):
+    text = timeline([track([clip(index) for index in range(clips)])])
+    return edited(text, numbered(commands, lambda index: 'undo' if index % 2 else f'overwrite 0 {clips // 100 * LENGTH} gap {clips // 50 * 49 * LENGTH}'))
+
+
 def one_far_overlap(size, kind):
     """One transition at the front that reaches over a thousand clips, and edits after it."""
     items = [clip(0), transition(0, 240 * size), *(clip(index) for index in range(1, 49 * size))]
@@ -109,6 +114,22 @@ def late_media(size):
     return framed(timeline([track([clip(0, more, 10 * size)])]), 10 * size)
 
 
+def no_reel(size):
+    names = ','.join(f'"n{index}":0' for index in range(900 * size))
+    return framed(timeline([track([clip(0, f',"metadata":{{{names}}}', 10 * size)])]), 10 * size)
+
+
+def no_reel_within(size):
+    names = ','.join(f'"n{index}":0' for index in range(900 * size))
+    return framed(timeline([track([clip(0, f',"metadata":{{"cmx_3600":{{{names}}}}}', 10 * size)])]), 10 * size)
+
+
+def no_media(size):
+    media = ','.join(f'"m{index}":{{"OTIO_SCHEMA":"ExternalReference.1","target_url":"{index}.mov"}}' for index in range(90 * size))
+    more = f',"media_references":{{{media}}},"active_media_reference_key":"none"'
+    return framed(timeline([track([clip(0, more, 10 * size)])]), 10 * size)
+
+
 def dark_stack(size):
     children = [clip(0, '', 100 * size), *(clip(index, ',"enabled":false', 100 * size) for index in range(1, 10 * size))]
     return framed(timeline([stack(children)]), 100 * size)
@@ -135,6 +156,11 @@ def full_stack(size):
 def full_metadata(size):
     numbers = ','.join(str(index % 10) for index in range(1000 * size))
     return moved_beside(max(2, size * 6 // 100), clip(0, f',"metadata":{{"all":[{numbers}]}}', 10 * LENGTH), 'slip')
+
+
+def full_markers(size):
+    marker = f'{{"OTIO_SCHEMA":"Marker.2","marked_range":{time_range(1000, 1)}}}'
+    return moved_beside(max(2, size * 2 // 10), clip(0, f',"markers":[{",".join([marker] * (20 * size))}]', 10 * LENGTH), 'slip')
 
 
 def full_effects(size):
@@ -180,16 +206,22 @@ SHAPES = [
     ('the same at each 64th cut', lambda size: far_overlaps(size, 64)),
     ('a track of 9 900 clips overwritten whole and put back, 10 000 commands', lambda size: whole_track(99 * size // 10, 10 * size)),
     ('a track of 99 000 clips overwritten whole and put back, 1 000 commands', lambda size: whole_track(99 * size, size)),
+    ('nearly all of a track of 9 900 clips overwritten and put back, 10 000 commands', lambda size: most_of_track(99 * size // 10, 10 * size)),
+    ('nearly all of a track of 99 000 clips overwritten and put back, 1 000 commands', lambda size: most_of_track(99 * size, size)),
     ('one overlap of 10 000 clips, 10 000 slices after it', lambda size: one_far_overlap(size, 'slice')),
     ('the same, 10 000 inserts', lambda size: one_far_overlap(size, 'insert')),
     ('the same, 10 000 overwrites', lambda size: one_far_overlap(size, 'overwrite')),
     ('98 000 items with random overlaps, 2 000 mixed edits', random_overlaps),
     ('a reel after 900 000 names, 10 000 frames', late_reel),
     ('the last of 90 000 media references, 10 000 frames', late_media),
+    ('900 000 names and no reel, 10 000 frames', no_reel),
+    ('a list of 900 000 names and no reel among them, 10 000 frames', no_reel_within),
+    ('90 000 media references of other keys, 10 000 frames', no_media),
     ('a stack of 10 000 disabled clips, 100 000 frames', dark_stack),
     ('a nested stack of 49 000 tracks, 10 000 overwrites in one', nested_tracks),
     ('a nested stack of 49 000 clips, 200 slides next to it', full_stack),
     ('metadata of a million numbers, 60 slips', full_metadata),
+    ('a clip of 20 000 markers, 200 slips', full_markers),
     ('a clip of 10 000 effects, 1 000 slips', full_effects),
     ('two inputs of eight million numbers, joined', joined_effects),
     ('20 inputs of 2 000 clips with a text of 500 bytes, joined', joined_texts),
