@@ -7,6 +7,8 @@ mod copy_tests;
 #[cfg(test)]
 mod instant_tests;
 #[cfg(test)]
+mod metadata_tests;
+#[cfg(test)]
 mod row_tests;
 #[cfg(test)]
 mod show_tests;
