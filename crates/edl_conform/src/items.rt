@@ -64,7 +64,7 @@ fn reel_metadata(alloc: Global, reel: &Text) -> Result<Metadata, AllocError>
 {
     let text = Text::of(alloc, reel.as_str())?;
     let inner = NamedValues::one(alloc, "reel", Json::Str(text))?;
-    let members = NamedValues::one(alloc, "cmx_3600", Json::Map(inner))?;
+    let members = NamedValues::one(alloc, "cmx_3600", Json::Map(Owned::of(alloc, inner)?))?;
     Ok(Metadata::of(members))
 }
 

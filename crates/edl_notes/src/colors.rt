@@ -10,6 +10,7 @@ ghost use Rattle.edl_notes.specs.Steps.{correction, said_by};
 use json_value::{Json, JsonList, Members};
 use note_text::{Note, Said, Triple, Words};
 use otio_model::Metadata;
+use owned::Owned;
 use sequences::{NamedValues, Text};
 use std::alloc::{AllocError, Global};
 
@@ -42,7 +43,8 @@ fn put_cdl(alloc: Global, metadata: &mut Metadata, colors: Members) -> Result<()
     if colors.len() == 0 {
         return Ok(());
     }
-    metadata.put(alloc, Text::of(alloc, "cdl")?, Json::Map(colors))
+    let name = Text::of(alloc, "cdl")?;
+    metadata.put(alloc, name, Json::Map(Owned::of(alloc, colors)?))
 }
 
 // The last slope, offset and power among the notes.
@@ -151,7 +153,7 @@ fn correction_json(alloc: Global, sop: Correction<'_>) -> Result<Json, AllocErro
     let mut lists = NamedValues::one(alloc, "slope", list_json(alloc, sop.slope)?)?;
     lists.put(Text::of(alloc, "offset")?, list_json(alloc, sop.offset)?)?;
     lists.put(Text::of(alloc, "power")?, list_json(alloc, sop.power)?)?;
-    Ok(Json::Map(lists))
+    Ok(Json::Map(Owned::of(alloc, lists)?))
 }
 
 // Three numerals as a list.
@@ -162,5 +164,5 @@ fn list_json(alloc: Global, words: Words<'_>) -> Result<Json, AllocError>
     list.push(Json::Num(Text::of(alloc, words.r)?))?;
     list.push(Json::Num(Text::of(alloc, words.g)?))?;
     list.push(Json::Num(Text::of(alloc, words.b)?))?;
-    Ok(Json::List(JsonList::of(list)))
+    Ok(Json::List(JsonList::of(alloc, list)?))
 }

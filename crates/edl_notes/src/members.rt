@@ -62,7 +62,7 @@ fn member_in<'a>(value: &'a Json, name: &str) -> Option<&'a Json>
     ensures { option_copied result ≡ keys.member_in name.now (out-Json value.now) }
 {
     match value {
-        Json::Map(members) => members.get(name),
+        Json::Map(members) => members.get().get(name),
         _ => None,
     }
 }

@@ -10,8 +10,8 @@ use Rattle.json_text.specs.State.Machine.{StringPlace, plain, escape, code, high
 use Rattle.json_text.specs.declared.state.Digits.{Digits}
 use Rattle.json_text.specs.declared.state.Digits.TheVariants.{Zero as NoDigit, One, Two, Three}
 use Rattle.json_text.specs.declared.state.Place.{Place}
-use Rattle.json_text.specs.declared.state.Unclosed.{Unclosed}
-use Rattle.json_text.specs.declared.state.Unclosed.TheVariants.{List as LevelOfList, Map as LevelOfMap}
+use Rattle.json_text.specs.State.Opened.{Unclosed}
+use Rattle.json_text.specs.State.Opened.{list as LevelOfList, map as LevelOfMap}
 use Rattle.json_text.proofs.Utf8Lemmas.{Within, wide_of, order}
 use Rattle.json_text.proofs.NumberLemmas.{Completed, numeral_to}
 use Rattle.json_text.proofs.TextSteps.{opens, Escaped, in_short, in_code_of, in_pair, opens_code, digits_of}

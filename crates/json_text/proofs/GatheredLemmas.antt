@@ -10,7 +10,7 @@ use lib.Seq.{take-add}
 use lib.Utf8.{scalar_cases}
 use Rattle.json_text.specs.Grammar.{escaped, joined, of_digits16}
 use Rattle.json_text.specs.declared.state.Digits.TheVariants.{Zero as NoDigit, One, Two, Three}
-use Rattle.json_text.specs.declared.state.Unclosed.{Unclosed}
+use Rattle.json_text.specs.State.Opened.{Unclosed}
 use Rattle.json_text.specs.declared.state.Role.{Role}
 use Rattle.json_text.specs.State.Machine.{state, text, plain, code, coded, escape_goes, high, low, paired, run, run_on, step}
 use Rattle.json_text.specs.State.Runs.{AreOpen, IsCode, IsEscape, IsFirstHalf, IsSecondHalf, StandsFor, is_open}

@@ -13,6 +13,7 @@ pub mod SeenTexts
 pub mod FinalStates
 pub mod RunLemmas
 pub mod NamedFaults
+mod OpenLevels
 pub mod Skims
 pub mod OneText
 pub mod Ascii

@@ -16,8 +16,8 @@ use Rattle.json_text.specs.declared.state.Place.{Place}
 use Rattle.json_text.specs.declared.state.Place.TheVariants.{Minus, Nought, Whole, Point, Fraction, Exponent, Sign, Power}
 use Rattle.json_text.specs.declared.state.Role.{Role}
 use Rattle.json_text.specs.declared.state.Role.TheVariants.{Name, Content}
-use Rattle.json_text.specs.declared.state.Unclosed.{Unclosed}
-use Rattle.json_text.specs.declared.state.Unclosed.TheVariants.{List as LevelOfList, Map as LevelOfMap}
+use Rattle.json_text.specs.State.Opened.{Unclosed}
+use Rattle.json_text.specs.State.Opened.{list as LevelOfList, map as LevelOfMap}
 use Rattle.json_text.proofs.Utf8Lemmas.{Within, order, high_scalar}
 use Rattle.json_text.proofs.Finishes.{Rest, Ends, In, IsHalf, Completes, Finishes, IsState, IsPart, IsRole, AreRanges}
 

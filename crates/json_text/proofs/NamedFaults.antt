@@ -5,7 +5,7 @@ use Rattle.std.proofs.Math.Seq.{take-append-add}
 use Rattle.std.specs.Prelude.{slice_index}
 use Rattle.std.specs.Str.{IsUtf8}
 use Rattle.limits.specs.Limits.{most_bytes}
-use Rattle.json_text.specs.declared.state.Unclosed.{Unclosed}
+use Rattle.json_text.specs.State.Opened.{Unclosed}
 use Rattle.json_text.specs.Grammar.{IsLive, IsLiveWithin}
 use Rattle.json_text.specs.Strings.{BeginsUtf8, IsInString}
 use Rattle.json_text.specs.Faults.{IsDeadAt, BreaksUtf8, IsTooDeep, Names}

@@ -7,7 +7,7 @@ use Rattle.json_text.specs.Grammar.{text_of, IsLive, IsLiveWithin, IsTextWithin}
 use Rattle.json_text.specs.Strings.{IsInString}
 use Rattle.json_text.specs.Faults.{IsDeadAt, BreaksUtf8, IsTooDeep, IsFault}
 use Rattle.json_text.specs.State.Machine.{Hand, value, first_item, first_name, next_name, colon, behind, done, word, number, text, MachineState, start, step, run, run_on, at_last}
-use Rattle.json_text.specs.declared.state.Unclosed.{Unclosed}
+use Rattle.json_text.specs.State.Opened.{Unclosed}
 use Rattle.json_text.specs.declared.state.Stop.{Stop}
 use Rattle.json_text.specs.declared.state.Stop.TheVariants as stops
 use Rattle.json_text.specs.declared.faults.JsonFault.{JsonFault}

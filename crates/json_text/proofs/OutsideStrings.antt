@@ -15,8 +15,8 @@ use Rattle.json_text.specs.declared.state.Place.{Place}
 use Rattle.json_text.specs.declared.state.Place.TheVariants.{Minus, Nought, Whole}
 use Rattle.json_text.specs.declared.state.Role.{Role}
 use Rattle.json_text.specs.declared.state.Role.TheVariants.{Name, Content}
-use Rattle.json_text.specs.declared.state.Unclosed.{Unclosed}
-use Rattle.json_text.specs.declared.state.Unclosed.TheVariants.{List as LevelOfList, Map as LevelOfMap}
+use Rattle.json_text.specs.State.Opened.{Unclosed}
+use Rattle.json_text.specs.State.Opened.{list as LevelOfList, map as LevelOfMap}
 use Rattle.json_text.proofs.Basics.{is_byte, is_below, is_least, below_is, chosen₂}
 use Rattle.json_text.proofs.NumberLemmas.{NotNumber, no_place}
 use Rattle.json_text.proofs.Steps.{blank_cases}

@@ -15,8 +15,8 @@ use Rattle.json_text.specs.Grammar.{is_whitespace, AreBlank}
 use Rattle.json_text.specs.State.Runs.{is_open, AreOpen, place_behind}
 use Rattle.json_text.specs.declared.state.Place.{Place}
 use Rattle.json_text.specs.declared.state.Role.{Role}
-use Rattle.json_text.specs.declared.state.Unclosed.{Unclosed}
-use Rattle.json_text.specs.declared.state.Unclosed.TheVariants.{List as LevelOfList, Map as LevelOfMap}
+use Rattle.json_text.specs.State.Opened.{Unclosed}
+use Rattle.json_text.specs.State.Opened.{list as LevelOfList, map as LevelOfMap}
 use Rattle.json_text.specs.declared.state.Stop.{Stop}
 use Rattle.json_text.specs.State.Machine.{Hand, MachineState, state, value, first_item, first_name, next_name, behind, number, text, plain, tail, tails, behind_tail, wide, in_plain, text_ends, item_first, name_first, name_next, behind_in, next_place, number_goes, run, run_on, step}
 use Rattle.json_text.proofs.Basics.{both}

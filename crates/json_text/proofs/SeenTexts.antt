@@ -10,7 +10,7 @@ use Rattle.json_text.specs.State.Machine.{StringPlace, Hand, value, first_item, 
 use Rattle.json_text.specs.declared.state.Stop.{Stop}
 use Rattle.json_text.specs.declared.state.Stop.TheVariants.{Syntax, Utf8, Depth}
 use Rattle.json_text.specs.declared.state.Role.{Role}
-use Rattle.json_text.specs.declared.state.Unclosed.{Unclosed}
+use Rattle.json_text.specs.State.Opened.{Unclosed}
 use Rattle.json_text.proofs.Finishes.{Finishes, Goes, IsState, IsPart}
 use Rattle.json_text.proofs.TextSteps.{Same}
 use Rattle.json_text.proofs.Steps.{step_same}

@@ -1,17 +1,18 @@
 -- Bytes that the machine takes at once.
-use Rattle.std.proofs.Common.{◌≡◌, ℕ, ◌+◌, drop, length-drop, ◌<◌, ◌≤◌, List, [], ◌∷◌, ◌++◌, length, take, get_or, true, Result, Ok, Err, Option, Some, refl, sym, ap, ◌∙◌, subst, arith, IfOk}
-use Rattle.std.specs.Prelude.{reverse}
+use Rattle.std.proofs.Common.{◌≡◌, ℕ, ◌+◌, drop, length-drop, ◌<◌, ◌≤◌, List, [], ◌∷◌, ◌++◌, length, take, get_or, true, Result, Ok, Err, Some, None, refl, sym, ap, ◌∙◌, subst, arith, IfOk}
+use Rattle.std.specs.Prelude.{map, reverse}
 use Rattle.std.specs.Str.{IsUtf8, is_utf8}
-use Rattle.json_value.specs.declared.Json.{Json}
 use Rattle.json_value.specs.declared.Json.TheVariants.{Str}
 use Rattle.json_text.specs.Grammar.{AreBlank}
 use Rattle.json_text.specs.State.Machine as spec
 use Rattle.json_text.specs.State.Machine.{state, run}
 use Rattle.json_text.specs.State.Runs.{Skims, AreOpen, StandsFor, place_behind}
-use Rattle.json_text.specs.State.Stands.{state_of, levels_of, open_in, hand_of, AddsText, IsTaken}
+use Rattle.json_text.specs.State.Stands.{state_of, levels_of, innermost, hand_of, AddsText, IsTaken}
 use Rattle.json_text.specs.declared.machine.Machine.{Machine}
-use Rattle.json_text.specs.declared.state.Unclosed.{Unclosed}
-use Rattle.json_text.specs.declared.state.Unclosed.TheVariants.{List as LevelOfList, Map as LevelOfMap}
+use Rattle.json_text.specs.State.Opened.{Unclosed, unclosed_of}
+use Rattle.json_text.specs.State.Opened.{list as LevelOfList, map as LevelOfMap}
+use Rattle.json_text.specs.declared.state.Kind.{Kind}
+use Rattle.json_text.specs.declared.state.Kind.TheVariants.{List as KindOfList, Map as KindOfMap}
 use Rattle.json_text.specs.declared.state.Role.{Role}
 use Rattle.json_text.specs.declared.state.Role.TheVariants.{Name, Content}
 use Rattle.json_text.specs.declared.state.Taken.{Taken}
@@ -31,7 +32,7 @@ open_skims : (old new : Machine) (role : Role) (bytes : List ℕ) (count : ℕ) 
 open_skims old new role bytes count e a opens u = record {
   within = a.within;
   ran = ap (λ h. run 127 (state (levels_of old) (hand_of h old.text.items old.root)) (take count bytes)) e ∙ run_open 127 (levels_of old) role old.text.items (take count bytes) opens u
-      ∙ sym (λ i. Ok (state (open_in (a.inner i) (reverse (a.outer i).items)) (hand_of ((a.hand ∙ e) i) (a.text i) (a.root i))));
+      ∙ sym (λ i. Ok (state (reverse (map unclosed_of (take (a.depth i) (a.levels i).items))) (hand_of ((a.hand ∙ e) i) (a.text i) (a.root i))));
 }
 
 pub open_skimmed : {E : Type 0} (old new : Machine) (role : Role) (bytes : List ℕ) (r : Result ℕ E) → old.hand ≡ Text role Plain → IfOk r (λ count. AddsText count bytes old new)
@@ -66,23 +67,34 @@ pub name_skims : (m : Machine) (bytes : List ℕ) (count : ℕ) → m.hand ≡ N
 name_skims m bytes count e l h =
     blank_skims m spec.next_name bytes count (levels_of m) (ap (λ x. state (levels_of m) (hand_of x m.text.items m.root)) e) (name_stays 127 (levels_of m)) l h
 
-pub item_skims : (m : Machine) (xs : List Json) (bytes : List ℕ) (count : ℕ) → m.hand ≡ FirstItem → m.inner ≡ Some (LevelOfList xs) → count ≤ length bytes → AreBlank (take count bytes)
-    → Skims count (state_of m) bytes (state_of m)
-item_skims m xs bytes count e f l h =
-    let around = reverse m.outer.items in
-    blank_skims m spec.first_item bytes count (LevelOfList xs ∷ around) (λ i. state (open_in (f i) around) (hand_of (e i) m.text.items m.root)) (item_stays 127 xs around) l h
+list_stays : (levels : List Unclosed) → innermost levels ≡ Some KindOfList → Stays 127 levels spec.first_item
+list_stays [] e = let k : None ≡ Some KindOfList = e in cc k
+list_stays (LevelOfList xs ∷ ls) e = item_stays 127 xs ls
+list_stays (LevelOfMap ps name ∷ ls) e = let k : Some KindOfMap ≡ Some KindOfList = e in cc k
 
-pub first_name_skims : (m : Machine) (pairs : List (List ℕ × Json)) (name bytes : List ℕ) (count : ℕ) → m.hand ≡ FirstName → m.inner ≡ Some (LevelOfMap pairs name) → count ≤ length bytes
-    → AreBlank (take count bytes) → Skims count (state_of m) bytes (state_of m)
-first_name_skims m pairs name bytes count e f l h =
-    let around = reverse m.outer.items in
-    blank_skims m spec.first_name bytes count (LevelOfMap pairs name ∷ around) (λ i. state (open_in (f i) around) (hand_of (e i) m.text.items m.root)) (first_name_stays 127 pairs name around) l h
+map_stays : (levels : List Unclosed) → innermost levels ≡ Some KindOfMap → Stays 127 levels spec.first_name
+map_stays [] e = let k : None ≡ Some KindOfMap = e in cc k
+map_stays (LevelOfList xs ∷ ls) e = let k : Some KindOfList ≡ Some KindOfMap = e in cc k
+map_stays (LevelOfMap ps name ∷ ls) e = first_name_stays 127 ps name ls
 
-pub behind_skims : (m : Machine) (level : Unclosed) (bytes : List ℕ) (count : ℕ) → m.hand ≡ Behind → m.inner ≡ Some level → count ≤ length bytes → AreBlank (take count bytes)
+open_stays : (levels : List Unclosed) (kind : Kind) → innermost levels ≡ Some kind → Stays 127 levels spec.behind
+open_stays [] kind e = let k : None ≡ Some kind = e in cc k
+open_stays (l ∷ ls) kind e = behind_stays 127 l ls
+
+pub item_skims : (m : Machine) (bytes : List ℕ) (count : ℕ) → m.hand ≡ FirstItem → innermost (levels_of m) ≡ Some KindOfList → count ≤ length bytes → AreBlank (take count bytes)
     → Skims count (state_of m) bytes (state_of m)
-behind_skims m level bytes count e f l h =
-    let around = reverse m.outer.items in
-    blank_skims m spec.behind bytes count (level ∷ around) (λ i. state (open_in (f i) around) (hand_of (e i) m.text.items m.root)) (behind_stays 127 level around) l h
+item_skims m bytes count e f l h =
+    blank_skims m spec.first_item bytes count (levels_of m) (ap (λ x. state (levels_of m) (hand_of x m.text.items m.root)) e) (list_stays (levels_of m) f) l h
+
+pub first_name_skims : (m : Machine) (bytes : List ℕ) (count : ℕ) → m.hand ≡ FirstName → innermost (levels_of m) ≡ Some KindOfMap → count ≤ length bytes → AreBlank (take count bytes)
+    → Skims count (state_of m) bytes (state_of m)
+first_name_skims m bytes count e f l h =
+    blank_skims m spec.first_name bytes count (levels_of m) (ap (λ x. state (levels_of m) (hand_of x m.text.items m.root)) e) (map_stays (levels_of m) f) l h
+
+pub behind_skims : (m : Machine) (kind : Kind) (bytes : List ℕ) (count : ℕ) → m.hand ≡ Behind → innermost (levels_of m) ≡ Some kind → count ≤ length bytes → AreBlank (take count bytes)
+    → Skims count (state_of m) bytes (state_of m)
+behind_skims m kind bytes count e f l h =
+    blank_skims m spec.behind bytes count (levels_of m) (ap (λ x. state (levels_of m) (hand_of x m.text.items m.root)) e) (open_stays (levels_of m) kind f) l h
 
 -- a numeral
 pub number_skims : (old : Machine) (place next : Place) (bytes : List ℕ) (count : ℕ) → old.hand ≡ Number place → count ≤ length bytes → place_behind (Some place) (take count bytes) ≡ Some next
@@ -117,20 +129,18 @@ content_skims old new bytes t n e f l q opens u is to = record {
   ran = whole_ran old Content bytes n e f l q opens u ∙ content_ends (levels_of old) (take n bytes) u ∙ ap (λ x. Ok (spec.placed (levels_of old) (Str x))) (sym is) ∙ ap (λ x. Ok x) (sym to);
 }
 
-name_ends : (pairs : List (List ℕ × Json)) (name : List ℕ) (ls : List Unclosed) (t : List ℕ) (taken : Taken) (new : spec.MachineState) → is_utf8 t ≡ true
-    → IsTaken taken (spec.named (LevelOfMap pairs name ∷ ls) t) new → spec.text_ends (LevelOfMap pairs name ∷ ls) Name t ≡ Ok new
-name_ends pairs name ls t Goes new u h = rw u h
-name_ends pairs name ls t (Stops stop) new u h = cc h
+name_ends : (levels : List Unclosed) (t : List ℕ) (taken : Taken) (new : spec.MachineState) → innermost levels ≡ Some KindOfMap → is_utf8 t ≡ true
+    → IsTaken taken (spec.named levels t) new → spec.text_ends levels Name t ≡ Ok new
+name_ends [] t taken new e u h = let k : None ≡ Some KindOfMap = e in cc k
+name_ends (LevelOfList xs ∷ ls) t taken new e u h = let k : Some KindOfList ≡ Some KindOfMap = e in cc k
+name_ends (LevelOfMap pairs name ∷ ls) t Goes new e u h = rw u h
+name_ends (LevelOfMap pairs name ∷ ls) t (Stops stop) new e u h = cc h
 
-pub map_name_skims : (old : Machine) (pairs : List (List ℕ × Json)) (name : List ℕ) (new : spec.MachineState) (bytes t : List ℕ) (n : ℕ) (taken : Taken) → old.hand ≡ Text Name Plain → old.text.items ≡ []
-    → old.inner ≡ Some (LevelOfMap pairs name) → n < length bytes → get_or bytes n 0 ≡ 34 → AreOpen (take n bytes) → is_utf8 (take n bytes) ≡ true → t ≡ take n bytes
+pub map_name_skims : (old : Machine) (new : spec.MachineState) (bytes t : List ℕ) (n : ℕ) (taken : Taken) → old.hand ≡ Text Name Plain → old.text.items ≡ []
+    → innermost (levels_of old) ≡ Some KindOfMap → n < length bytes → get_or bytes n 0 ≡ 34 → AreOpen (take n bytes) → is_utf8 (take n bytes) ≡ true → t ≡ take n bytes
     → IsTaken taken (spec.named (levels_of old) t) new → Skims (n + 1) (state_of old) bytes new
-map_name_skims old pairs name new bytes t n taken e f inner l q opens u is h =
-    let around = reverse old.outer.items in
-    let named : IsTaken taken (spec.named (LevelOfMap pairs name ∷ around) (take n bytes)) new =
-    subst (λ (x : List ℕ). IsTaken taken (spec.named (LevelOfMap pairs name ∷ around) x) new) is
-    (subst (λ (x : Option Unclosed). IsTaken taken (spec.named (open_in x around) t) new) inner h) in
-    record {
-      within = omega (arith, l);
-      ran = whole_ran old Name bytes n e f l q opens u ∙ ap (λ x. spec.text_ends (open_in x around) Name (take n bytes)) inner ∙ name_ends pairs name around (take n bytes) taken new u named;
-    }
+map_name_skims old new bytes t n taken e f inside l q opens u is h = record {
+  within = omega (arith, l);
+  ran = whole_ran old Name bytes n e f l q opens u
+      ∙ name_ends (levels_of old) (take n bytes) taken new inside u (subst (λ (x : List ℕ). IsTaken taken (spec.named (levels_of old) x) new) is h);
+}

@@ -15,8 +15,8 @@ use Rattle.json_text.specs.declared.state.Stop.TheVariants.{Syntax, Depth}
 use Rattle.json_text.specs.declared.state.Place.{Place}
 use Rattle.json_text.specs.declared.state.Place.TheVariants.{Minus, Nought, Whole}
 use Rattle.json_text.specs.declared.state.Role.TheVariants.{Name, Content}
-use Rattle.json_text.specs.declared.state.Unclosed.{Unclosed}
-use Rattle.json_text.specs.declared.state.Unclosed.TheVariants.{List as LevelOfList, Map as LevelOfMap}
+use Rattle.json_text.specs.State.Opened.{Unclosed}
+use Rattle.json_text.specs.State.Opened.{list as LevelOfList, map as LevelOfMap}
 use Rattle.json_text.proofs.Basics.{head_same, tail_same, is_byte, other_is, is_below, below_is, same_is}
 use Rattle.json_text.proofs.NumberLemmas.{first_place, Completed, numeral_to, numeral_from, NotNumber, no_place, not_number, either}
 use Rattle.json_text.proofs.Finishes.{Rest, OfBehind, OfValue, OfFirstItem, OfFirstName, OfNextName, OfColon, OfDone, OfWord, Completes, OfNumber, Finishes, Goes, IsState}

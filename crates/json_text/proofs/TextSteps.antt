@@ -15,8 +15,8 @@ use Rattle.json_text.specs.declared.state.Digits.{Digits}
 use Rattle.json_text.specs.declared.state.Digits.TheVariants.{Zero as NoDigit, One, Two, Three}
 use Rattle.json_text.specs.declared.state.Role.{Role}
 use Rattle.json_text.specs.declared.state.Role.TheVariants.{Name, Content}
-use Rattle.json_text.specs.declared.state.Unclosed.{Unclosed}
-use Rattle.json_text.specs.declared.state.Unclosed.TheVariants.{List as LevelOfList, Map as LevelOfMap}
+use Rattle.json_text.specs.State.Opened.{Unclosed}
+use Rattle.json_text.specs.State.Opened.{list as LevelOfList, map as LevelOfMap}
 use Rattle.json_text.proofs.Basics.{head_same, tail_same, is_byte, is_other, other_is, is_below, is_least, below_is, least_is, same_is}
 use Rattle.json_text.proofs.Utf8Lemmas.{Within, IsWide, wide_of, of_wide, order}
 use Rattle.json_text.proofs.Finishes.{IsHalf, Ends, OfText, Goes, raw, IsPart}

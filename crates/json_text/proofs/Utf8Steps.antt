@@ -17,8 +17,8 @@ use Rattle.json_text.specs.declared.state.Digits.{Digits}
 use Rattle.json_text.specs.declared.state.Digits.TheVariants.{Zero as NoDigit, One, Two, Three}
 use Rattle.json_text.specs.declared.state.Role.{Role}
 use Rattle.json_text.specs.declared.state.Role.TheVariants.{Name, Content}
-use Rattle.json_text.specs.declared.state.Unclosed.{Unclosed}
-use Rattle.json_text.specs.declared.state.Unclosed.TheVariants.{List as LevelOfList, Map as LevelOfMap}
+use Rattle.json_text.specs.State.Opened.{Unclosed}
+use Rattle.json_text.specs.State.Opened.{list as LevelOfList, map as LevelOfMap}
 use Rattle.json_text.proofs.Basics.{both, head_same, tail_same, is_byte, other_is, is_below, is_least, chosen}
 use Rattle.json_text.proofs.Utf8Lemmas.{Within, wide_of, of_wide, order}
 use Rattle.json_text.proofs.TextSteps.{Same}

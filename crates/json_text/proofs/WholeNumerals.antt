@@ -9,7 +9,7 @@ use Rattle.json_text.specs.State.Machine.{MachineState, state, value, number, nu
 use Rattle.json_text.specs.State.Runs.{IsNumeral, Skims, place_behind}
 use Rattle.json_text.specs.State.Stands.{state_of, levels_of, hand_of}
 use Rattle.json_text.specs.declared.machine.Machine.{Machine}
-use Rattle.json_text.specs.declared.state.Unclosed.{Unclosed}
+use Rattle.json_text.specs.State.Opened.{Unclosed}
 use Rattle.json_text.specs.declared.state.Place.{Place}
 use Rattle.json_text.specs.declared.state.Hand.TheVariants.{Value}
 use Rattle.json_text.proofs.Ascii.{AreAtMost, at_most_utf8}

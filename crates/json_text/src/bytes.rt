@@ -1,14 +1,15 @@
 //! Single bytes of JSON text, and what they stand for.
 
-ghost use Rattle.std.specs.Prelude.{◌≡◌, ◌≤◌, ◌<◌, ◌++◌, ◌∷◌, [], List, Ok, true, false, OnOk, IfOk, IfSome, MatchOption, IsTrue, length, take, drop};
+ghost use Rattle.std.specs.Prelude.{◌≡◌, ◌≤◌, ◌<◌, ◌++◌, ◌∷◌, [], List, Ok, true, false, OnOk, IfOk, IfSome, MatchOption, IsTrue, length, take, drop, replicate};
 ghost use Rattle.std.specs.Char as chars;
 ghost use Rattle.std.specs.Str.{is_utf8, IsAscii};
 ghost use Rattle.json_text.specs.Grammar as grammar;
 ghost use Rattle.json_text.specs.State.Machine as spec;
 ghost use Rattle.json_text.specs.State.Runs.{is_open, AreOpen};
-ghost use Rattle.json_text.specs.declared.state.Unclosed.{Unclosed};
+ghost use Rattle.json_text.specs.State.Opened.{Unclosed};
+ghost use Rattle.json_text.specs.State.Stands.{ranges_of, ranges_after};
 
-use crate::state::Place;
+use crate::state::{Place, Tail};
 use sequences::Text;
 use std::alloc::{AllocError, Global};
 
@@ -109,20 +110,44 @@ pub(crate) fn of_digits16(a: u8, b: u8, c: u8, d: u8) -> u32
     (high * 16 + u32::from(digit_value(c))) * 16 + u32::from(digit_value(d))
 }
 
-/// The ranges of the bytes after the first byte of a character; none where no character of several
-/// bytes begins so.
-pub(crate) fn tails(byte: u8) -> &'static [(u8, u8)]
-    ensures { result.now ≡ spec.tails byte }
+/// What follows the first byte of a character; `None` where no character of several bytes begins
+/// so.
+pub(crate) fn tails(byte: u8) -> Option<Tail>
+    ensures { ranges_after result ≡ spec.tails byte }
 {
     match byte {
-        0xC2..=0xDF => &[(0x80, 0xBF)],
-        0xE0 => &[(0xA0, 0xBF), (0x80, 0xBF)],
-        0xED => &[(0x80, 0x9F), (0x80, 0xBF)],
-        0xE1..=0xEF => &[(0x80, 0xBF), (0x80, 0xBF)],
-        0xF0 => &[(0x90, 0xBF), (0x80, 0xBF), (0x80, 0xBF)],
-        0xF1..=0xF3 => &[(0x80, 0xBF), (0x80, 0xBF), (0x80, 0xBF)],
-        0xF4 => &[(0x80, 0x8F), (0x80, 0xBF), (0x80, 0xBF)],
-        _ => &[],
+        0xC2..=0xDF => Some(tail(0x80, 0xBF, 0)),
+        0xE0 => Some(tail(0xA0, 0xBF, 1)),
+        0xED => Some(tail(0x80, 0x9F, 1)),
+        0xE1..=0xEF => Some(tail(0x80, 0xBF, 1)),
+        0xF0 => Some(tail(0x90, 0xBF, 2)),
+        0xF1..=0xF3 => Some(tail(0x80, 0xBF, 2)),
+        0xF4 => Some(tail(0x80, 0x8F, 2)),
+        _ => None,
+    }
+}
+
+// A byte within these bounds, and so many further ones after it.
+fn tail(least: u8, most: u8, further: u8) -> Tail
+    ensures { ranges_of result ≡ (least, most) ∷ replicate further (128, 191) }
+{
+    Tail {
+        least,
+        most,
+        further,
+    }
+}
+
+impl Tail {
+    /// What follows the byte that was taken; `None` where the character is whole.
+    pub(crate) fn next(self) -> Option<Tail>
+        ensures { ranges_after result ≡ replicate self.further (128, 191) }
+    {
+        if self.further == 0 {
+            None
+        } else {
+            Some(tail(0x80, 0xBF, self.further - 1))
+        }
     }
 }
 

@@ -1,37 +1,39 @@
 //! The steps of the machine that reads JSON text, but for those inside a string.
 
-ghost use Rattle.std.specs.Prelude.{◌≡◌, ◌++◌, ◌∷◌, [], List, ℕ, IfOk, IsTrue, OnOk, Some, None, length, nat_lt, reverse};
+ghost use Rattle.std.specs.Prelude.{◌≡◌, ◌≤◌, ◌++◌, ◌∷◌, [], List, ℕ, IfOk, IsTrue, OnOk, Some, None, length, nat_lt};
 ghost use Rattle.json_text.specs.State.Machine as spec;
+ghost use Rattle.json_text.specs.State.Opened.{unclosed_in, unclosed_of, list, map};
 
-use crate::bytes::{ends, is_whitespace, next_place, text_from};
-use crate::state::{Hand, Part, Place, Role, Stop, Taken, Unclosed, Word};
+use crate::bytes::{after, ends, is_whitespace, next_place, text_from};
+use crate::state::{Hand, Kind, Level, Part, Place, Role, Stop, Taken, Word};
 use json_value::{Json, JsonList, Members};
-use sequences::{Sequence, Text};
+use owned::Owned;
+use sequences::Text;
 use std::alloc::{AllocError, Global};
 use std::mem;
 
 /// How many lists and objects may stand in one another.
 pub(crate) const LEVELS: usize = 127;
 
+/// As many members at most are moved into memory that fits them.
+const FEW: usize = 64;
+
 /// A reader of one text, byte by byte.
 #[derive(Drop)]
 pub(crate) struct Machine {
     pub(crate) alloc: Global,
-    /// The innermost open list or object.
-    pub(crate) inner: Option<Unclosed>,
-    /// Those around it, outermost first.
-    pub(crate) outer: Vec<Unclosed>,
-    /// Empty lists, whose memory serves the next list.
-    pub(crate) lists: Vec<JsonList>,
-    /// Empty lists of pairs, whose memory serves the next object.
-    pub(crate) maps: Vec<Sequence<(Text, Json)>>,
+    /// The open lists and objects, outermost first, and after them those whose memory serves again.
+    pub(crate) levels: Vec<Level>,
+    /// How many are open.
+    pub(crate) depth: usize,
     pub(crate) hand: Hand,
     pub(crate) text: Vec<u8>,
     pub(crate) root: Json,
+    ghost within: { depth ≤ length levels.items },
 }
 
 impl Machine {
-    ghost use Rattle.json_text.specs.State.Stands.{state_of, levels_of, hand_of, value_of, IsTaken};
+    ghost use Rattle.json_text.specs.State.Stands.{state_of, levels_of, hand_of, value_of, left_of, innermost, IsTaken};
 
     /// Where a text begins.
     pub(crate) fn new(alloc: Global) -> Machine
@@ -39,10 +41,8 @@ impl Machine {
     {
         Machine {
             alloc,
-            inner: None,
-            outer: Vec::new(alloc),
-            lists: Vec::new(alloc),
-            maps: Vec::new(alloc),
+            levels: Vec::new(alloc),
+            depth: 0,
             hand: Hand::Value,
             text: Vec::new(alloc),
             root: Json::Null,
@@ -56,14 +56,14 @@ impl Machine {
             (state_of self.new)) }
     {
         match self.hand {
-            Hand::Value => self.begin(Hand::Value, byte),
+            Hand::Value => self.begin(byte),
             Hand::FirstItem => self.first_item(byte),
             Hand::FirstName => self.first_name(byte),
             Hand::NextName => self.next_name(byte),
             Hand::Colon => Ok(self.colon(byte)),
             Hand::Behind => self.behind(byte),
             Hand::Done => Ok(self.done(byte)),
-            Hand::Word(word, left) => self.in_word(word, left, byte),
+            Hand::Word(word, count) => self.in_word(word, count, byte),
             Hand::Number(place) => self.in_number(place, byte),
             Hand::Text(role, part) => self.in_text(role, part, byte),
         }
@@ -74,14 +74,12 @@ impl Machine {
     pub(crate) fn place(&mut self, value: Json) -> Result<(), AllocError>
         ensures { OnOk result (state_of self.new ≡ spec.placed (levels_of self.old) value) }
     {
-        match &mut self.inner {
-            None => {
-                self.root = value;
-                self.hand = Hand::Done;
-                return Ok(());
-            }
-            Some(level) => add(level, value)?,
+        if self.depth == 0 {
+            self.root = value;
+            self.hand = Hand::Done;
+            return Ok(());
         }
+        add(&mut self.levels[self.depth - 1], value)?;
         self.hand = Hand::Behind;
         Ok(())
     }
@@ -89,84 +87,75 @@ impl Machine {
     // Opens a list.
     fn open_list(&mut self) -> Result<Taken, AllocError>
         ensures { IfOk result (λ taken. IsTaken taken
-            (spec.opened 127 (levels_of self.old) (Unclosed.List []) spec.first_item)
+            (spec.opened 127 (levels_of self.old) (list []) spec.first_item)
             (state_of self.new)) }
     {
-        if !self.go_inside()? {
+        if !self.go_inside(Kind::List)? {
             return Ok(Taken::Stops(Stop::Depth));
         }
-        self.inner = Some(Unclosed::List(empty(self.alloc, self.lists.pop())));
         Ok(self.goes(Hand::FirstItem))
     }
 
     // Opens an object.
     fn open_map(&mut self) -> Result<Taken, AllocError>
         ensures { IfOk result (λ taken. IsTaken taken
-            (spec.opened 127 (levels_of self.old) (Unclosed.Map [] []) spec.first_name)
+            (spec.opened 127 (levels_of self.old) (map [] []) spec.first_name)
             (state_of self.new)) }
     {
-        if !self.go_inside()? {
+        if !self.go_inside(Kind::Map)? {
             return Ok(Taken::Stops(Stop::Depth));
         }
-        self.inner = Some(Unclosed::Map(empty(self.alloc, self.maps.pop()), no_name()));
         Ok(self.goes(Hand::FirstName))
     }
 
-    // Makes the innermost list or object one of those around the next, unless that were one too
-    // many.
-    fn go_inside(&mut self) -> Result<bool, AllocError>
+    // Opens a list or an object inside the innermost one, unless that were one too many.
+    #[inline(always)]
+    fn go_inside(&mut self, kind: Kind) -> Result<bool, AllocError>
         ensures few { IfOk result (λ inside. inside ≡ nat_lt (length (levels_of self.old)) 127) }
-        ensures around { IfOk result (λ inside. IsTrue inside
-            → reverse self.new.outer.items ≡ levels_of self.old) }
+        ensures inside { IfOk result (λ inside. IsTrue inside
+            → levels_of self.new ≡ unclosed_in kind [] [] [] ∷ levels_of self.old) }
     {
-        if self.depth() >= LEVELS {
+        if self.depth >= LEVELS {
             return Ok(false);
         }
-        match &mut self.inner {
-            Some(level) => set_aside(self.alloc, level, &mut self.outer)?,
-            None => self.outer.clear(),
+        if self.depth == self.levels.len() {
+            self.levels.push(Level::empty(self.alloc, kind))?;
+        } else {
+            self.levels[self.depth].reopen(kind);
         }
+        self.depth += 1;
         Ok(true)
     }
 
-    // Makes the latest of those around the innermost one.
-    fn go_outside(&mut self)
-        ensures { levels_of self.new ≡ reverse self.old.outer.items }
+    /// What the innermost one is; `None` where nothing is open.
+    #[inline(always)]
+    pub(crate) fn kind(&self) -> Option<Kind>
+        ensures { result ≡ innermost (levels_of self.now) }
     {
-        match self.outer.pop() {
-            Some(Unclosed::List(items)) => self.inner = Some(Unclosed::List(items)),
-            Some(Unclosed::Map(pairs, name)) => self.inner = Some(Unclosed::Map(pairs, name)),
-            None => self.inner = None,
+        if self.depth == 0 {
+            None
+        } else {
+            Some(self.levels[self.depth - 1].kind)
         }
     }
 
-    // How many lists and objects are open.
-    fn depth(&self) -> usize
-        ensures { result ≡ length (levels_of self.now) }
-    {
-        match self.inner {
-            Some(_) => self.outer.len() + 1,
-            None => 0,
-        }
-    }
-
-    // Takes the start of a value; at white space the hand becomes `stay`.
-    fn begin(&mut self, stay: Hand, byte: u8) -> Result<Taken, AllocError>
+    // Takes the start of a value; at white space the hand stays.
+    fn begin(&mut self, byte: u8) -> Result<Taken, AllocError>
         ensures { IfOk result (λ taken. IsTaken taken
             (spec.begin 127 (levels_of self.old)
-            (hand_of stay self.old.text.items self.old.root) byte) (state_of self.new)) }
+            (state_of self.old).hand byte) (state_of self.new)) }
     {
         match byte {
             b'"' => Ok(self.begin_text(Role::Content)),
             b'[' => self.open_list(),
             b'{' => self.open_map(),
-            b'n' => Ok(self.goes(Hand::Word(Word::Null, b"ull"))),
-            b't' => Ok(self.goes(Hand::Word(Word::True, b"rue"))),
-            b'f' => Ok(self.goes(Hand::Word(Word::False, b"alse"))),
+            b'n' => Ok(self.goes(Hand::Word(Word::Null, 1))),
+            b't' => Ok(self.goes(Hand::Word(Word::True, 1))),
+            b'f' => Ok(self.goes(Hand::Word(Word::False, 1))),
             b'-' => self.begin_number(byte, Place::Minus),
             b'0' => self.begin_number(byte, Place::Nought),
             b'1'..=b'9' => self.begin_number(byte, Place::Whole),
-            _ => Ok(self.skip(stay, byte)),
+            _ => Ok(self.skip(byte)),
         }
     }
 
@@ -180,12 +169,12 @@ impl Machine {
     }
 
     // Takes white space and nothing else.
-    fn skip(&mut self, stay: Hand, byte: u8) -> Taken
+    fn skip(&mut self, byte: u8) -> Taken
         ensures { IsTaken result (spec.skipped (levels_of self.old)
-            (hand_of stay self.old.text.items self.old.root) byte) (state_of self.new) }
+            (state_of self.old).hand byte) (state_of self.new) }
     {
         if is_whitespace(byte) {
-            self.goes(stay)
+            Taken::Goes
         } else {
             Taken::Stops(Stop::Syntax)
         }
@@ -213,17 +202,18 @@ impl Machine {
 
     // Takes the byte after the bracket of a list.
     fn first_item(&mut self, byte: u8) -> Result<Taken, AllocError>
+        requires { self.old.hand ≡ Hand.FirstItem }
         ensures { IfOk result (λ taken. IsTaken taken
             (spec.item_first 127 (levels_of self.old) byte) (state_of self.new)) }
     {
-        match self.inner {
-            Some(Unclosed::List(_)) => {}
+        match self.kind() {
+            Some(Kind::List) => {}
             _ => return Ok(Taken::Stops(Stop::Syntax)),
         }
         if byte == b']' {
             self.close()
         } else {
-            self.begin(Hand::FirstItem, byte)
+            self.begin(byte)
         }
     }
 
@@ -232,118 +222,104 @@ impl Machine {
         ensures { IfOk result (λ taken. IsTaken taken (spec.closed (levels_of self.old))
             (state_of self.new)) }
     {
-        let Some(level) = self.inner.take() else {
+        if self.depth == 0 {
             return Ok(Taken::Stops(Stop::Syntax));
-        };
-        let value = self.whole(level)?;
-        self.go_outside();
+        }
+        let value = self.levels[self.depth - 1].whole(self.alloc)?;
+        self.depth -= 1;
         self.place(value)?;
         Ok(Taken::Goes)
     }
 
-    // The value of a list or an object that ends. Its memory serves again where the value takes
-    // memory of its own.
-    fn whole(&mut self, level: Unclosed) -> Result<Json, AllocError>
-        ensures value { IfOk result (λ value. value ≡ spec.whole level) }
-        ensures levels { levels_of self.new ≡ levels_of self.old }
-        ensures outer { self.new.outer ≡ self.old.outer }
-    {
-        match level {
-            Unclosed::List(mut items) => {
-                let list = items.take_fitted(self.alloc)?;
-                self.lists.push(items)?;
-                Ok(Json::List(Sequence::of(list)))
-            }
-            Unclosed::Map(mut pairs, _name) => {
-                let list = pairs.take_fitted(self.alloc)?;
-                self.maps.push(pairs)?;
-                Ok(Json::Map(Members::of_pairs(self.alloc, list)?))
-            }
-        }
-    }
-
     // Takes the byte after the brace of an object.
     fn first_name(&mut self, byte: u8) -> Result<Taken, AllocError>
+        requires { self.old.hand ≡ Hand.FirstName }
         ensures { IfOk result (λ taken. IsTaken taken (spec.name_first (levels_of self.old) byte)
             (state_of self.new)) }
     {
-        let Some(Unclosed::Map(_, _)) = self.inner else {
+        let Some(Kind::Map) = self.kind() else {
             return Ok(Taken::Stops(Stop::Syntax));
         };
         if byte == b'}' {
             self.close()
         } else {
-            Ok(self.name(Hand::FirstName, byte))
+            Ok(self.name(byte))
         }
     }
 
     // Takes the byte after a comma of an object.
     fn next_name(&mut self, byte: u8) -> Result<Taken, AllocError>
+        requires { self.old.hand ≡ Hand.NextName }
         ensures { IfOk result (λ taken. IsTaken taken (spec.name_next (levels_of self.old) byte)
             (state_of self.new)) }
     {
-        Ok(self.name(Hand::NextName, byte))
+        Ok(self.name(byte))
     }
 
-    // Takes the start of a name; at white space the hand becomes `stay`.
-    fn name(&mut self, stay: Hand, byte: u8) -> Taken
+    // Takes the start of a name; at white space the hand stays.
+    fn name(&mut self, byte: u8) -> Taken
         ensures { IsTaken result (spec.name_begins (levels_of self.old)
-            (hand_of stay self.old.text.items self.old.root) byte) (state_of self.new) }
+            (state_of self.old).hand byte) (state_of self.new) }
     {
         if byte == b'"' {
             self.begin_text(Role::Name)
         } else {
-            self.skip(stay, byte)
+            self.skip(byte)
         }
     }
 
     // Takes the byte after a name.
     fn colon(&mut self, byte: u8) -> Taken
+        requires { self.old.hand ≡ Hand.Colon }
         ensures { IsTaken result (spec.at_colon (levels_of self.old) byte) (state_of self.new) }
     {
         if byte == b':' {
             self.goes(Hand::Value)
         } else {
-            self.skip(Hand::Colon, byte)
+            self.skip(byte)
         }
     }
 
     // Takes the byte after a value of a list or an object.
     fn behind(&mut self, byte: u8) -> Result<Taken, AllocError>
+        requires { self.old.hand ≡ Hand.Behind }
         ensures { IfOk result (λ taken. IsTaken taken (spec.behind_in (levels_of self.old) byte)
             (state_of self.new)) }
     {
-        let (next, end) = match self.inner {
+        let (next, end) = match self.kind() {
             None => return Ok(Taken::Stops(Stop::Syntax)),
-            Some(Unclosed::List(_)) => (Hand::Value, b']'),
-            Some(Unclosed::Map(_, _)) => (Hand::NextName, b'}'),
+            Some(Kind::List) => (Hand::Value, b']'),
+            Some(Kind::Map) => (Hand::NextName, b'}'),
         };
         if byte == b',' {
             Ok(self.goes(next))
         } else if byte == end {
             self.close()
         } else {
-            Ok(self.skip(Hand::Behind, byte))
+            Ok(self.skip(byte))
         }
     }
 
     // Takes the byte after the whole value.
     fn done(&mut self, byte: u8) -> Taken
+        requires { self.old.hand ≡ Hand.Done }
         ensures { IsTaken result (spec.at_end (levels_of self.old) self.old.root byte)
             (state_of self.new) }
     {
-        match self.inner {
-            None => self.skip(Hand::Done, byte),
-            Some(_) => Taken::Stops(Stop::Syntax),
+        if self.depth == 0 {
+            self.skip(byte)
+        } else {
+            Taken::Stops(Stop::Syntax)
         }
     }
 
     // Takes a byte of a word.
-    fn in_word(&mut self, word: Word, left: &'static [u8], byte: u8) -> Result<Taken, AllocError>
+    fn in_word(&mut self, word: Word, count: u8, byte: u8) -> Result<Taken, AllocError>
         ensures { IfOk result (λ taken. IsTaken taken
-            (spec.in_word (levels_of self.old) (value_of word) left.now byte) (state_of self.new)) }
+            (spec.in_word (levels_of self.old) (value_of word) (left_of word count) byte)
+            (state_of self.new)) }
     {
-        let Some((first, rest)) = left.split_first() else {
+        let Some((first, rest)) = word.left(count).split_first() else {
             return Ok(Taken::Stops(Stop::Syntax));
         };
         if byte != *first {
@@ -353,7 +329,7 @@ impl Machine {
             self.place(word.value())?;
             Ok(Taken::Goes)
         } else {
-            Ok(self.goes(Hand::Word(word, rest)))
+            Ok(self.goes(Hand::Word(word, count + 1)))
         }
     }
 
@@ -403,45 +379,79 @@ impl Machine {
 
 // Adds a value to a list, or to an object under the name at hand.
 #[inline(always)]
-fn add(level: &mut Unclosed, value: Json) -> Result<(), AllocError>
-    ensures { OnOk result (level.new ≡ spec.added level.old value) }
+fn add(level: &mut Level, value: Json) -> Result<(), AllocError>
+    ensures { OnOk result (unclosed_of level.new ≡ spec.added (unclosed_of level.old) value) }
 {
-    match level {
-        Unclosed::List(items) => items.push(value),
-        Unclosed::Map(pairs, name) => pairs.push((mem::replace(name, no_name()), value)),
-    }
-}
-
-// Moves what a list or an object holds so far to the end of those around.
-fn set_aside(
-    alloc: Global,
-    level: &mut Unclosed,
-    outer: &mut Vec<Unclosed>,
-) -> Result<(), AllocError>
-    ensures { OnOk result (outer.new.items ≡ outer.old.items ++ level.old ∷ []) }
-{
-    match level {
-        Unclosed::List(items) => {
-            let items = mem::replace(items, Sequence::new(alloc));
-            outer.push(Unclosed::List(items))?;
-        }
-        Unclosed::Map(pairs, name) => {
-            let pairs = mem::replace(pairs, Sequence::new(alloc));
-            let name = mem::replace(name, no_name());
-            outer.push(Unclosed::Map(pairs, name))?;
+    match level.kind {
+        Kind::List => level.items.push(value)?,
+        Kind::Map => {
+            let name = mem::replace(&mut level.name, no_name());
+            level.pairs.push((name, value))?;
         }
     }
     Ok(())
 }
 
-// An empty list, in memory that served before if there is some.
-fn empty<T: Drop>(alloc: Global, spare: Option<Sequence<T>>) -> Sequence<T>
-    ensures { result ≡ [] }
-{
-    match spare {
-        Some(list) => list.emptied(),
-        None => Sequence::new(alloc),
+impl Level {
+    // An empty one.
+    fn empty(alloc: Global, kind: Kind) -> Level
+        ensures { unclosed_of result ≡ unclosed_in kind [] [] [] }
+    {
+        Level {
+            kind,
+            items: Vec::new(alloc),
+            pairs: Vec::new(alloc),
+            name: no_name(),
+        }
     }
+
+    // Begins an empty one in the same memory.
+    #[inline(always)]
+    fn reopen(&mut self, kind: Kind)
+        ensures { unclosed_of self.new ≡ unclosed_in kind [] [] [] }
+    {
+        self.kind = kind;
+        match kind {
+            Kind::List => {
+                if !self.items.is_empty() {
+                    self.items.clear();
+                }
+            }
+            Kind::Map => {
+                if !self.pairs.is_empty() {
+                    self.pairs.clear();
+                }
+                self.name = no_name();
+            }
+        }
+    }
+
+    // Its value. What it holds is taken out.
+    #[inline(always)]
+    fn whole(&mut self, alloc: Global) -> Result<Json, AllocError>
+        ensures { IfOk result (λ value. value ≡ spec.whole (unclosed_of self.old)) }
+    {
+        match self.kind {
+            Kind::List => Ok(Json::List(JsonList::take(alloc, &mut self.items)?)),
+            Kind::Map => {
+                let members = Members::of_pairs(alloc, taken(alloc, &mut self.pairs)?)?;
+                Ok(Json::Map(Owned::of(alloc, members)?))
+            }
+        }
+    }
+}
+
+// Takes the pairs out: few in memory that just fits them, many in the list's own.
+#[inline(always)]
+fn taken(alloc: Global, list: &mut Vec<(Text, Json)>) -> Result<Vec<(Text, Json)>, AllocError>
+    ensures { IfOk result (λ taken. taken.items ≡ list.old.items) }
+{
+    if list.len() > FEW {
+        return Ok(mem::replace(list, Vec::new(alloc)));
+    }
+    let mut taken = Vec::with_capacity(alloc, list.len())?;
+    taken.append(list)?;
+    Ok(taken)
 }
 
 // The name of an object none of whose names is at hand.
@@ -452,7 +462,31 @@ fn no_name() -> Text
 }
 
 impl Word {
-    ghost use Rattle.json_text.specs.State.Stands.{value_of};
+    ghost use Rattle.json_text.specs.State.Stands.{value_of, letters_of, left_of};
+
+    // The letters.
+    fn letters(self) -> &'static [u8]
+        ensures { result.now ≡ letters_of self }
+    {
+        match self {
+            Word::Null => b"null",
+            Word::True => b"true",
+            Word::False => b"false",
+        }
+    }
+
+    // The letters after so many.
+    fn left(self, count: u8) -> &'static [u8]
+        ensures { result.now ≡ left_of self count }
+    {
+        let letters = self.letters();
+        let count = usize::from(count);
+        if count < letters.len() {
+            after(letters, count)
+        } else {
+            &[]
+        }
+    }
 
     // The value that the word stands for.
     fn value(self) -> Json

@@ -14,7 +14,7 @@ use crate::bytes::{
 };
 use crate::escapes::gathered;
 use crate::machine::Machine;
-use crate::state::{Hand, Part, Place, Ran, Role, Taken, Unclosed};
+use crate::state::{Hand, Kind, Part, Place, Ran, Role, Taken};
 use json_value::Json;
 use sequences::{Text, TextRoom};
 use std::alloc::AllocError;
@@ -38,7 +38,7 @@ impl Machine {
     {
         let mut at = 0;
         while at < bytes.len() {
-            let count = self.skim(after(bytes, at))?;
+            let count = self.skim_from(bytes, at)?;
             if count > 0 {
                 at += count;
             } else {
@@ -50,6 +50,19 @@ impl Machine {
             }
         }
         Ok(Ran::All)
+    }
+
+    // Takes bytes from that index on that need no step of their own, and says how many they are.
+    #[inline(always)]
+    fn skim_from(&mut self, bytes: &[u8], at: usize) -> Result<usize, AllocError>
+        requires { at < length bytes.now }
+        ensures { IfOk result (λ count. Skims count (state_of self.old) (drop at bytes.now)
+            (state_of self.new)) }
+    {
+        match bytes[at] {
+            b'[' | b']' | b'{' | b'}' => Ok(0),
+            _ => self.skim(after(bytes, at)),
+        }
     }
 
     // Takes bytes that need no step of their own, as those of a string, of a numeral and white
@@ -143,10 +156,10 @@ impl Machine {
             ≡ Ok (spec.state (spec.placed (levels_of self.now) value).levels
             (hand_of hand text root))) }
     {
-        match self.inner {
+        match self.kind() {
             None => None,
-            Some(Unclosed::List(_)) => Some(Hand::Value),
-            Some(Unclosed::Map(_, _)) => Some(Hand::NextName),
+            Some(Kind::List) => Some(Hand::Value),
+            Some(Kind::Map) => Some(Hand::NextName),
         }
     }
 
@@ -155,17 +168,17 @@ impl Machine {
     fn skim_blank(&self, bytes: &[u8]) -> usize
         ensures { Skims result (state_of self.now) bytes.now (state_of self.now) }
     {
-        let Some(level) = &self.inner else {
+        let Some(level) = self.kind() else {
             return 0;
         };
         match self.hand {
             Hand::FirstItem => match level {
-                Unclosed::List(_) => blank_count(bytes),
-                Unclosed::Map(_, _) => 0,
+                Kind::List => blank_count(bytes),
+                Kind::Map => 0,
             },
             Hand::FirstName => match level {
-                Unclosed::Map(_, _) => blank_count(bytes),
-                Unclosed::List(_) => 0,
+                Kind::Map => blank_count(bytes),
+                Kind::List => 0,
             },
             Hand::Behind => blank_count(bytes),
             _ => 0,
@@ -222,12 +235,12 @@ impl Machine {
         ensures { IfOk result (λ taken. Skims taken (state_of self.old) bytes.now
             (state_of self.new)) }
     {
-        let Some(level) = &self.inner else {
+        let Some(level) = self.kind() else {
             return Ok(0);
         };
         match level {
-            Unclosed::Map(_, _) => {}
-            Unclosed::List(_) => return Ok(0),
+            Kind::Map => {}
+            Kind::List => return Ok(0),
         }
         let text = Text::front(self.alloc, bytes, count)?;
         self.names(text);
@@ -262,10 +275,10 @@ impl Machine {
     {
         match self.hand {
             Hand::Colon if byte == b':' => Some(Hand::Value),
-            Hand::Behind if byte == b',' => match self.inner {
+            Hand::Behind if byte == b',' => match self.kind() {
                 None => None,
-                Some(Unclosed::List(_)) => Some(Hand::Value),
-                Some(Unclosed::Map(_, _)) => Some(Hand::NextName),
+                Some(Kind::List) => Some(Hand::Value),
+                Some(Kind::Map) => Some(Hand::NextName),
             },
             _ => None,
         }
@@ -305,12 +318,12 @@ impl Machine {
         ensures { IfOk result (λ taken. Skims taken (state_of self.old) bytes.now
             (state_of self.new)) }
     {
-        let Some(level) = &self.inner else {
+        let Some(level) = self.kind() else {
             return Ok(0);
         };
         match level {
-            Unclosed::Map(_, _) => {}
-            Unclosed::List(_) => return Ok(0),
+            Kind::Map => {}
+            Kind::List => return Ok(0),
         }
         let Some(text) = text_from(self.alloc, before(bytes, count))? else {
             return Ok(0);
@@ -349,15 +362,13 @@ impl Machine {
     {
         let Machine {
             alloc: _,
-            inner,
-            outer: _,
-            lists: _,
-            maps: _,
+            levels: _,
+            depth,
             hand,
             text,
             root,
         } = self;
-        if inner.is_some() {
+        if depth > 0 {
             return None;
         }
         match hand {

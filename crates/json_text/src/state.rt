@@ -1,7 +1,7 @@
 //! What a reader of JSON text keeps between two bytes.
 
-use json_value::{Json, JsonList};
-use sequences::{Sequence, Text};
+use json_value::Json;
+use sequences::Text;
 
 /// Why a byte can't be taken.
 #[derive(Clone, Copy)]
@@ -47,6 +47,14 @@ pub(crate) enum Role {
     Content,
 }
 
+/// The bounds of the next byte of a character, and how many bytes follow after it.
+#[derive(Clone, Copy)]
+pub(crate) struct Tail {
+    pub(crate) least: u8,
+    pub(crate) most: u8,
+    pub(crate) further: u8,
+}
+
 /// Where a string stands.
 #[derive(Clone, Copy)]
 pub(crate) enum Part {
@@ -56,7 +64,7 @@ pub(crate) enum Part {
     High(u16),
     Slash(u16),
     Low(u16, Digits),
-    Tail(&'static [(u8, u8)]),
+    Tail(Tail),
 }
 
 /// The words of JSON.
@@ -67,7 +75,7 @@ pub(crate) enum Word {
     False,
 }
 
-/// What stands at the end of the bytes so far.
+/// What stands at the end of the bytes so far; of a word, how many of its letters were taken.
 #[derive(Clone, Copy)]
 pub(crate) enum Hand {
     Value,
@@ -77,17 +85,26 @@ pub(crate) enum Hand {
     Colon,
     Behind,
     Done,
-    Word(Word, &'static [u8]),
+    Word(Word, u8),
     Number(Place),
     Text(Role, Part),
 }
 
+/// Whether a list or an object is open.
+#[derive(Clone, Copy)]
+pub(crate) enum Kind {
+    List,
+    Map,
+}
+
 /// A list or an object that isn't closed yet, with what it holds so far; of an object also the name
-/// whose value is to come.
+/// whose value is to come. Its memory serves the next list or object of its depth.
 #[derive(Drop)]
-pub(crate) enum Unclosed {
-    List(JsonList),
-    Map(Sequence<(Text, Json)>, Text),
+pub(crate) struct Level {
+    pub(crate) kind: Kind,
+    pub(crate) items: Vec<Json>,
+    pub(crate) pairs: Vec<(Text, Json)>,
+    pub(crate) name: Text,
 }
 
 /// What came of several bytes: all were taken, or one was not, at this index.

@@ -3,11 +3,11 @@
 ghost use Rattle.std.specs.Prelude.{◌≡◌, ◌≤◌, ◌++◌, ◌∷◌, [], List, ℕ, IfOk, OnOk, Some, None};
 ghost use Rattle.json_text.specs.State.Machine as spec;
 ghost use Rattle.json_text.specs.Grammar as grammar;
-ghost use Rattle.json_text.specs.State.Stands.{state_of, levels_of, hand_of, part_of, IsTaken};
+ghost use Rattle.json_text.specs.State.Stands.{ranges_of, state_of, levels_of, hand_of, part_of, IsTaken};
 
 use crate::bytes::{digit_value, escaped, of_digits16, push_char, tails, text_from};
 use crate::machine::Machine;
-use crate::state::{Digits, Hand, Part, Role, Stop, Taken, Unclosed};
+use crate::state::{Digits, Hand, Kind, Part, Role, Stop, Tail, Taken};
 use json_value::Json;
 use sequences::Text;
 use std::alloc::AllocError;
@@ -30,7 +30,7 @@ impl Machine {
                 byte,
             )),
             Part::Low(high, digits) => self.in_low(role, high, digits, byte),
-            Part::Tail(ranges) => self.in_tail(role, ranges, byte),
+            Part::Tail(tail) => self.in_tail(role, tail, byte),
         }
     }
 
@@ -73,34 +73,24 @@ impl Machine {
             (spec.wide (levels_of self.old) role (self.old.text.items ++ (byte ∷ []))
             (spec.tails byte)) (state_of self.new)) }
     {
-        let ranges = tails(byte);
-        if ranges.is_empty() {
-            return Ok(Taken::Stops(Stop::Utf8));
+        match tails(byte) {
+            Some(tail) => self.text_adds(role, byte, Part::Tail(tail)),
+            None => Ok(Taken::Stops(Stop::Utf8)),
         }
-        self.text_adds(role, byte, Part::Tail(ranges))
     }
 
     // Takes a further byte of a character.
-    fn in_tail(
-        &mut self,
-        role: Role,
-        ranges: &'static [(u8, u8)],
-        byte: u8,
-    ) -> Result<Taken, AllocError>
+    fn in_tail(&mut self, role: Role, tail: Tail, byte: u8) -> Result<Taken, AllocError>
         ensures { IfOk result (λ taken. IsTaken taken
-            (spec.in_tail (levels_of self.old) role self.old.text.items ranges.now byte)
+            (spec.in_tail (levels_of self.old) role self.old.text.items (ranges_of tail) byte)
             (state_of self.new)) }
     {
-        let Some((first, rest)) = ranges.split_first() else {
-            return Ok(Taken::Stops(Stop::Utf8));
-        };
-        if byte < first.0 || first.1 < byte {
+        if byte < tail.least || tail.most < byte {
             return Ok(Taken::Stops(Stop::Utf8));
         }
-        if rest.is_empty() {
-            self.text_adds(role, byte, Part::Plain)
-        } else {
-            self.text_adds(role, byte, Part::Tail(rest))
+        match tail.next() {
+            Some(rest) => self.text_adds(role, byte, Part::Tail(rest)),
+            None => self.text_adds(role, byte, Part::Plain),
         }
     }
 
@@ -134,8 +124,8 @@ impl Machine {
             (spec.text_ends (levels_of self.old) Role.Name self.old.text.items)
             (state_of self.new)) }
     {
-        match self.inner {
-            Some(Unclosed::Map(_, _)) => {}
+        match self.kind() {
+            Some(Kind::Map) => {}
             _ => return Ok(Taken::Stops(Stop::Syntax)),
         }
         match text_from(self.alloc, self.text.as_slice())? {
@@ -149,8 +139,8 @@ impl Machine {
     pub(crate) fn names(&mut self, text: Text) -> Taken
         ensures { IsTaken result (spec.named (levels_of self.old) text) (state_of self.new) }
     {
-        match &mut self.inner {
-            Some(Unclosed::Map(_, name)) => put_text(name, text),
+        match self.kind() {
+            Some(Kind::Map) => self.levels[self.depth - 1].name = text,
             _ => return Taken::Stops(Stop::Syntax),
         }
         self.goes(Hand::Colon)
@@ -263,19 +253,11 @@ impl Machine {
     }
 }
 
-// Puts a text in the place of another.
-#[inline(always)]
-fn put_text(place: &mut Text, text: Text)
-    ensures { place.new ≡ text }
-{
-    *place = text;
-}
-
 // Why an escape doesn't take the byte.
 fn refused(byte: u8) -> Stop
     ensures { spec.refused byte ≡ Err result }
 {
-    if byte < 128 || !tails(byte).is_empty() {
+    if byte < 128 || tails(byte).is_some() {
         Stop::Syntax
     } else {
         Stop::Utf8

@@ -39,7 +39,7 @@ pub fn put_value<W: Out>(buffer: &mut OutBuffer, out: &mut W, value: &Json, leve
         Json::Num(numeral) => buffer.put(out, numeral.as_str().as_bytes()),
         Json::Str(text) => put_string(buffer, out, text.as_str().as_bytes()),
         Json::List(list) => put_list(buffer, out, list.as_slice(), level),
-        Json::Map(members) => put_object(buffer, out, members, level),
+        Json::Map(members) => put_object(buffer, out, members.get(), level),
     }
 }
 

@@ -4,7 +4,8 @@ ghost use Rattle.std.specs.Prelude.{◌≡◌, IfOk};
 ghost use Rattle.sequences.specs.Pairs.{AreDistinct, names_of};
 
 use crate::{Json, Members};
-use sequences::{NamedValues, Sequence, Text};
+use owned::Owned;
+use sequences::{Fitted, NamedValues, Text};
 use std::alloc::{AllocError, Global};
 
 /// An equal value, in memory of its own. An error comes where memory runs out.
@@ -17,8 +18,14 @@ pub fn copy_json(alloc: Global, value: &Json) -> Result<Json, AllocError>
         Json::Bool(truth) => Ok(Json::Bool(*truth)),
         Json::Num(numeral) => Ok(Json::Num(Text::of(alloc, numeral.as_str())?)),
         Json::Str(text) => Ok(Json::Str(Text::of(alloc, text.as_str())?)),
-        Json::List(list) => Ok(Json::List(Sequence::of(copy_items(alloc, list.as_slice())?))),
-        Json::Map(members) => Ok(Json::Map(copy_members(alloc, members)?)),
+        Json::List(list) => {
+            let copies = copy_items(alloc, list.as_slice())?;
+            Ok(Json::List(Fitted::of(alloc, copies)?))
+        }
+        Json::Map(members) => {
+            let copies = copy_members(alloc, members.get())?;
+            Ok(Json::Map(Owned::of(alloc, copies)?))
+        }
     }
 }
 

@@ -8,10 +8,11 @@
 mod copies;
 
 pub use copies::{copy_json, copy_members};
-use sequences::{NamedValues, Sequence, Text};
+use owned::Owned;
+use sequences::{Fitted, NamedValues, Text};
 
 /// The members of an array, in order.
-pub type JsonList = Sequence<Json>;
+pub type JsonList = Fitted<Json>;
 
 /// The members of an object, in order, under distinct names. A name is its characters, with no
 /// escape left in it.
@@ -31,5 +32,5 @@ pub enum Json {
     /// An array.
     List(JsonList),
     /// An object. Two objects that differ in the order of their members are two values.
-    Map(Members),
+    Map(Owned<Members>),
 }

@@ -4,6 +4,7 @@ use crate::trees::{copied, played};
 use coord::own_reel;
 use json_value::Json;
 use otio_model::{Clip, Effects, Item, ItemOf, MediaMap, Metadata, copy_item};
+use owned::Owned;
 use sequences::{NamedValues, Text};
 use std::alloc::{AllocError, Global};
 use std::process::Abort;
@@ -25,7 +26,7 @@ fn put_reel(alloc: Global, metadata: &mut Metadata, reel: &str) -> Result<(), Al
     let list = Text::of(alloc, "cmx_3600")?;
     let text = Text::of(alloc, reel)?;
     let members = NamedValues::one(alloc, "reel", Json::Str(text))?;
-    metadata.put(alloc, list, Json::Map(members))
+    metadata.put(alloc, list, Json::Map(Owned::of(alloc, members)?))
 }
 
 // A clip with so many members, which keeps the place of its reel, or that it has none.

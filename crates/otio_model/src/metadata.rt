@@ -191,7 +191,7 @@ fn reel_within(value: &Json, place: usize) -> Option<&Json>
     ensures { option_copied result ≡ member_in (codes "reel") (out-Json value.now) }
 {
     match value {
-        Json::Map(members) => value_near(members, REEL, place),
+        Json::Map(members) => value_near(members.get(), REEL, place),
         _ => None,
     }
 }
@@ -202,7 +202,7 @@ fn is_long(members: &Members) -> bool {
         return true;
     }
     match members.get(LIST) {
-        Some(Json::Map(inner)) => inner.len() > FEW,
+        Some(Json::Map(inner)) => inner.get().len() > FEW,
         _ => false,
     }
 }
@@ -235,7 +235,7 @@ fn lacks_reel(members: &Members) -> bool
 // The place of the reel in its object; 0 where there is none.
 fn place_of_reel(members: &Members) -> u32 {
     match members.get(LIST) {
-        Some(Json::Map(inner)) => place_of(inner.as_slice(), REEL),
+        Some(Json::Map(inner)) => place_of(inner.get().as_slice(), REEL),
         _ => 0,
     }
 }

@@ -47,7 +47,7 @@ pub fn read_fields(
         Refuses_rows place.now (map row_of rows.now) members fault) }
 {
     match value {
-        Json::Map(members) => read_rows(alloc, rows, members, place),
+        Json::Map(members) => read_rows(alloc, rows, members.get(), place),
         _ => unreachable!(),
     }
 }
@@ -121,7 +121,7 @@ fn read_member(alloc: Global, row: &Field, value: &Json, place: &Place) -> RowRe
         Kind::Effects => read_effects(alloc, list_of(alloc, row, value, place)?, place),
         Kind::Markers => read_markers(alloc, list_of(alloc, row, value, place)?, place),
         Kind::Media => match value {
-            Json::Map(members) => read_media(alloc, members, place),
+            Json::Map(members) => read_media(alloc, members.get(), place),
             _ => Err(field_fault(alloc, row, place)),
         },
     }

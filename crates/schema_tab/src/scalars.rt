@@ -102,7 +102,7 @@ fn members_in(value: Json) -> Option<Members>
         ⊥) (λ members. value ≡ json.Map members) }
 {
     match value {
-        Json::Map(members) => Some(members),
+        Json::Map(members) => Some(members.into_inner()),
         _ => None,
     }
 }

@@ -78,9 +78,10 @@ pub fn found_object(value: &Json) -> Option<Found<'_>>
         IsObjectOf value.now members name version → ⊥)
         (λ found. IsObjectOf value.now found.members.now found.name.now found.version) }
 {
-    let Json::Map(members) = value else {
+    let Json::Map(object) = value else {
         return None;
     };
+    let members = object.get();
     match members.get("OTIO_SCHEMA")? {
         Json::Str(text) => {
             let (name, version) = schema_parts(text.as_str())?;

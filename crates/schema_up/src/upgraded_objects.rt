@@ -7,6 +7,7 @@ ghost use Rattle.schema_up.specs.Upgrades as upgrades;
 
 use crate::old_names::{Form, behind_point, schema_text};
 use json_value::{Json, Members};
+use owned::Owned;
 use sequences::{NamedValues, Text};
 use std::alloc::{AllocError, Global};
 
@@ -96,7 +97,7 @@ fn missing(alloc: Global) -> Result<Json, AllocError>
     let mut members: Members = NamedValues::new(alloc);
     let schema = Json::Str(Text::of(alloc, "MissingReference.1")?);
     members.put(Text::of(alloc, "OTIO_SCHEMA")?, schema)?;
-    Ok(Json::Map(members))
+    Ok(Json::Map(Owned::of(alloc, members)?))
 }
 
 // The medium of a clip's one reference.
@@ -115,7 +116,7 @@ fn media_of(alloc: Global, medium: Json) -> Result<Json, AllocError>
 {
     let mut media: Members = NamedValues::new(alloc);
     media.put(Text::of(alloc, "DEFAULT_MEDIA")?, medium)?;
-    Ok(Json::Map(media))
+    Ok(Json::Map(Owned::of(alloc, media)?))
 }
 
 // The members of a clip of the second version, of those of one of the first.

@@ -6,7 +6,8 @@ ghost use Rattle.schema_up.specs.Upgrades.{items_at, map_at, pairs_at, upgraded,
 use crate::old_names::{Form, Row, schema_of};
 use crate::upgraded_objects::renew;
 use json_value::{Json, JsonList, Members};
-use sequences::{NamedValues, Sequence};
+use owned::Owned;
+use sequences::NamedValues;
 use std::alloc::{AllocError, Global};
 use std::mem;
 
@@ -57,23 +58,30 @@ fn upgrade_items(alloc: Global, items: JsonList, row: Row) -> Result<JsonList, A
 fn each_item(alloc: Global, items: JsonList, row: Row) -> Result<JsonList, AllocError>
     ensures { IfOk result (λ made. made ≡ items_at row items) }
 {
-    let mut list = items.into_vec();
+    let mut list = items.into_vec(alloc)?;
     for index in 0..list.len() {
         let item = &mut list[index];
         let value = mem::replace(&mut *item, Json::Null);
         *item = upgrade_at(alloc, value, row)?;
     }
-    Ok(Sequence::of(list))
+    JsonList::of(alloc, list)
 }
 
 // What an object's members become at a place.
 #[cycle(upgrade)]
-fn upgrade_map(alloc: Global, members: Members, row: Row) -> Result<Members, AllocError>
+fn upgrade_map(
+    alloc: Global,
+    members: Owned<Members>,
+    row: Row,
+) -> Result<Owned<Members>, AllocError>
     ensures { IfOk result (λ made. made ≡ map_at row members) }
 {
     match row {
-        Row::Object => upgrade_object(alloc, members),
-        Row::Media => each_member(alloc, members, Row::Media, Form::Other),
+        Row::Object => Owned::of(alloc, upgrade_object(alloc, members.into_inner())?),
+        Row::Media => {
+            let made = each_member(alloc, members.into_inner(), Row::Media, Form::Other)?;
+            Owned::of(alloc, made)
+        }
         Row::Kept | Row::Objects => Ok(members),
     }
 }

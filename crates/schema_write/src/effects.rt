@@ -5,10 +5,9 @@ ghost use Rattle.schema_write.specs.Objects as objects;
 
 use crate::numerals::{speed_numeral, zero_numeral};
 use crate::writing::{add, named, string, written};
-use json_value::{Json, copy_json};
+use json_value::{Json, JsonList, copy_json};
 use otio_model::{Effect, Effects, Freeze, Plain, Warp};
 use schema_rows::Schema;
-use sequences::Sequence;
 use std::alloc::{AllocError, Global};
 
 /// The effects of an item, in order.
@@ -20,7 +19,7 @@ pub fn effects_json(alloc: Global, effects: &Effects) -> Result<Json, AllocError
     'effects: for effect in list {
         values.push(effect_json(alloc, effect)?)?;
     }
-    Ok(Json::List(Sequence::of(values)))
+    Ok(Json::List(JsonList::of(alloc, values)?))
 }
 
 fn effect_json(alloc: Global, effect: &Effect) -> Result<Json, AllocError>

@@ -8,7 +8,6 @@ use crate::families::Family;
 use crate::scalars::{clip_in, gap_json, stack_of, track_of, transition_json};
 use json_value::{Json, JsonList};
 use otio_model::{Children, Item, ItemOf, Stack};
-use sequences::Sequence;
 use std::alloc::{AllocError, Global};
 
 /// An item in a family.
@@ -40,7 +39,7 @@ fn children_json(alloc: Global, children: &Children, family: Family) -> Result<J
     'items: for index in 0..children.len() {
         values.push(item_json(alloc, children.child(index), family)?)?;
     }
-    Ok(Sequence::of(values))
+    JsonList::of(alloc, values)
 }
 
 /// A timeline's root stack.

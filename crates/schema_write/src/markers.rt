@@ -7,10 +7,9 @@ ghost use Rattle.schema_write.specs.Styles.{style_of};
 use crate::families::Family;
 use crate::times::span_json;
 use crate::writing::{add, named, written, written_old};
-use json_value::{Json, copy_json};
+use json_value::{Json, JsonList, copy_json};
 use otio_model::{Mark, Marker, Markers};
 use schema_rows::Schema;
-use sequences::Sequence;
 use std::alloc::{AllocError, Global};
 
 /// The markers of an item in a family, in order.
@@ -23,7 +22,7 @@ pub fn markers_json(alloc: Global, markers: &Markers, family: Family) -> Result<
     'markers: for marker in list {
         values.push(marker_json(alloc, marker, family)?)?;
     }
-    Ok(Json::List(Sequence::of(values)))
+    Ok(Json::List(JsonList::of(alloc, values)?))
 }
 
 fn marker_json(alloc: Global, marker: &Marker, family: Family) -> Result<Json, AllocError>

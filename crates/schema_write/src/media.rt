@@ -8,6 +8,7 @@ use crate::times::span_json;
 use crate::writing::{add, named, string, written};
 use json_value::{Json, copy_json};
 use otio_model::{External, Generator, Media, MediaMap, Missing, Sequence};
+use owned::Owned;
 use schema_rows::Schema;
 use sequences::{NamedValues, Text};
 use std::alloc::{AllocError, Global};
@@ -16,7 +17,8 @@ use std::alloc::{AllocError, Global};
 pub fn media_json(alloc: Global, media: &MediaMap) -> Result<Json, AllocError>
     ensures { IfOk result (λ json. json ≡ objects.media_json media.now) }
 {
-    Ok(Json::Map(NamedValues::of(media_pairs(alloc, media)?)))
+    let pairs = NamedValues::of(media_pairs(alloc, media)?);
+    Ok(Json::Map(Owned::of(alloc, pairs)?))
 }
 
 /// The reference of a `Clip.1`: the first of the references, or null where there is none.

@@ -14,7 +14,6 @@ use crate::writing::{add, named, written};
 use json_value::{Json, JsonList};
 use otio_model::{Collection, Object, Objects, Timeline};
 use schema_rows::Schema;
-use sequences::Sequence;
 use std::alloc::{AllocError, Global};
 
 /// The object in JSON (OpenTimelineIO's schema pages): `OTIO_SCHEMA` with the name and the version
@@ -88,7 +87,7 @@ fn objects_json(alloc: Global, inside: &Objects, family: Family) -> Result<JsonL
     'objects: for inner in list {
         values.push(object_json(alloc, inner, family)?)?;
     }
-    Ok(Sequence::of(values))
+    JsonList::of(alloc, values)
 }
 
 fn timeline_json(alloc: Global, timeline: &Timeline, family: Family) -> Result<Json, AllocError>

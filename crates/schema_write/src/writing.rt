@@ -12,6 +12,7 @@ ghost use Rattle.schema_write.specs.Written.{name_of};
 
 use crate::families::newer;
 use json_value::{Json, Members, copy_json, copy_members};
+use owned::Owned;
 use schema_rows::{Field, Schema};
 use sequences::{NamedValues, Text};
 use std::alloc::{AllocError, Global};
@@ -28,7 +29,8 @@ pub fn string(alloc: Global, text: &Text) -> Result<Json, AllocError>
 fn object(alloc: Global, members: &Members) -> Result<Json, AllocError>
     ensures { IfOk result (λ json. json ≡ Map members.now) }
 {
-    Ok(Json::Map(copy_members(alloc, members)?))
+    let copy = copy_members(alloc, members)?;
+    Ok(Json::Map(Owned::of(alloc, copy)?))
 }
 
 /// The values of the first rows of each schema, metadata and name, with room for so many in all.
@@ -72,7 +74,7 @@ pub fn written(
     pairs.push((Text::of(alloc, "OTIO_SCHEMA")?, text))?;
     put_rows(alloc, &mut pairs, table, values)?;
     put_others(alloc, &mut pairs, table, rest)?;
-    Ok(Json::Map(NamedValues::of(pairs)))
+    Ok(Json::Map(Owned::of(alloc, NamedValues::of(pairs))?))
 }
 
 /// An object of an older schema by its table: the schema, a value for each row, and the members

@@ -3,4 +3,5 @@ pub mod Hashes
 pub mod Known
 pub mod Pairs
 pub mod Places
+pub mod Rows
 pub mod formers

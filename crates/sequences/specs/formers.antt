@@ -1,2 +1,3 @@
+pub mod fitted
 pub mod lists
 pub mod members

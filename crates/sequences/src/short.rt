@@ -7,9 +7,9 @@ use std::marker::Model;
 use std::str;
 
 /// How many bytes a short text has at most.
-const ROOM: usize = 22;
+const ROOM: usize = 14;
 
-/// A text of at most 22 bytes in UTF-8, which contracts see as the list of its bytes.
+/// A text of at most 14 bytes in UTF-8, which contracts see as the list of its bytes.
 #[derive(Drop)]
 pub(crate) struct Short {
     len: u8,
@@ -24,7 +24,7 @@ impl Model for Short {
 
     ghost view = { λ s. take s.len s.bytes };
 
-    ghost invariant = { λ s. (s.len ≤ 22) × (is_utf8 (take s.len s.bytes) ≡ true) };
+    ghost invariant = { λ s. (s.len ≤ 14) × (is_utf8 (take s.len s.bytes) ≡ true) };
 }
 
 impl Short {

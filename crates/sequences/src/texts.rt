@@ -9,7 +9,7 @@ use std::marker::Model;
 use std::str;
 
 /// A text in UTF-8, which contracts see as the list of its bytes. A text of few bytes takes no
-/// memory beside the value.
+/// memory next to the value.
 pub struct Text {
     held: Held,
 }
@@ -32,7 +32,7 @@ impl Model for Text {
 }
 
 impl Text {
-    /// The text without characters, which takes no memory beside the value.
+    /// The text without characters, which takes no memory next to the value.
     pub fn empty() -> Text
         ensures { result ≡ [] }
     {

@@ -84,7 +84,8 @@ fn is_member(rt: &impl Abort, value: Option<&Json>, spelling: &str) {
 
 fn are_members(rt: &impl Abort, value: &Json) {
     match value {
-        Json::Map(members) => {
+        Json::Map(object) => {
+            let members = object.get();
             assert!(rt; members.len() == 2, "other members");
             is_member(rt, members.value(0), "3");
             is_member(rt, members.value(1), "2");

@@ -5,6 +5,8 @@
 #[cfg(test)]
 mod device_tests;
 #[cfg(test)]
+mod fitted_tests;
+#[cfg(test)]
 mod json_tests;
 #[cfg(test)]
 mod layout_tests;

@@ -117,6 +117,8 @@ fn text_keeps(rt: &impl Abort, alloc: Global, characters: &str) -> Result<(), Al
 fn text_keeps_characters(rt: HostRuntime) -> Result<(), Fail> {
     let alloc = rt.alloc();
     text_keeps(&rt, alloc, "Zürich ✂")?;
+    text_keeps(&rt, alloc, "Überblendungs")?;
+    text_keeps(&rt, alloc, "Überblendungen")?;
     text_keeps(&rt, alloc, "Überblendung am Kai, einmal")?;
     let long = String::from_str(alloc, "Überblendung am Kai, zweimal")?;
     string_keeps(&rt, alloc, long, "Überblendung am Kai, zweimal")?;

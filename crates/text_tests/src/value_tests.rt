@@ -42,6 +42,6 @@ fn copies_deep_values(rt: HostRuntime) -> Result<(), Fail> {
 
 #[test]
 fn values_are_small(rt: HostRuntime) {
-    assert!(rt; std::mem::size_of::<Json>() == 32);
-    assert!(rt; std::mem::size_of::<(Text, Json)>() == 56);
+    assert!(rt; std::mem::size_of::<Json>() == 24);
+    assert!(rt; std::mem::size_of::<(Text, Json)>() == 40);
 }

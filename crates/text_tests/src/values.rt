@@ -2,8 +2,7 @@
 
 use dev_io::MemOut;
 use json_text::{JsonFault, JsonReader, write_json};
-use json_value::Json;
-use sequences::Sequence;
+use json_value::{Json, JsonList};
 use std::alloc::{AllocError, Global};
 use std::process::Abort;
 
@@ -45,7 +44,7 @@ pub fn nested(alloc: Global, depth: u32) -> Result<Json, AllocError> {
     let mut value = Json::Null;
     for _ in 0..depth {
         let inside = Vec::from_array(alloc, [value])?;
-        value = Json::List(Sequence::of(inside));
+        value = Json::List(JsonList::of(alloc, inside)?);
     }
     Ok(value)
 }

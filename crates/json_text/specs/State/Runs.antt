@@ -7,7 +7,7 @@ use Rattle.json_text.specs.declared.state.Ran.TheVariants.{All, Stops}
 use Rattle.json_text.specs.declared.state.Stop.{Stop}
 use Rattle.json_text.specs.declared.state.Stop.TheVariants.{Syntax, Utf8, Depth}
 use Rattle.json_text.specs.declared.faults.JsonFault.{JsonFault}
-use Rattle.json_text.specs.declared.state.Unclosed.{Unclosed}
+use Rattle.json_text.specs.State.Opened.{Unclosed}
 use Rattle.json_text.specs.declared.state.Role.{Role}
 use Rattle.json_text.specs.Grammar.{of_digits16}
 use Rattle.json_text.specs.State.Machine.{MachineState, state, value, number, text, plain, run, step, next_place, ends}

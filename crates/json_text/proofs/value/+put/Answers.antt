@@ -11,7 +11,7 @@ pub put_value-returns-in-List : goal.put_value-returns-in-List
 put_value-returns-in-List g t c = puts_as _ c.put_list.ensures (rw (c.in-List.is, c.as_slice.ensures) (sym (text_at-List c.in-List.list (deep c.args.level.now))))
 
 pub put_value-returns-in-Map : goal.put_value-returns-in-Map
-put_value-returns-in-Map g t c = puts_as _ c.put_object.ensures (rw c.in-Map.is (sym (text_at-Map c.in-Map.members (deep c.args.level.now))))
+put_value-returns-in-Map g t c = puts_as _ c.put_object.ensures (rw (c.in-Map.is, c.get.ensures) (sym (text_at-Map c.in-Map.members (deep c.args.level.now))))
 
 pub put_list-returns : goal.put_list-returns
 put_list-returns g t c =

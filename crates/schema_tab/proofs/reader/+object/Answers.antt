@@ -71,7 +71,8 @@ read_member-returns-in_ok-found-in-Medium-clause-fault t c =
     memory_only c.medium_row.result (λ (f : SchemaFault). Refuses c.args.place.now (row_of c.args.row.now) c.args.value.now f) c.medium_row.ensures.memory
 
 pub read_member-read_media-requires : goal.read_member-read_media-requires
-read_member-read_media-requires t c = (omega (arith, c.decreases, ap depth c.in-Map.is, depth-Map c.in-Map.members), subst HasNumerals c.in-Map.is c.requires.numerals)
+read_member-read_media-requires t c =
+    rw c.get.ensures (omega (arith, c.decreases, ap depth c.in-Map.is, depth-Map c.in-Map.members), subst HasNumerals c.in-Map.is c.requires.numerals)
 
 pub read_member-returns-in_ok-found-in-Stack-clause-fault : goal.read_member-returns-in_ok-found-in-Stack-clause-fault
 read_member-returns-in_ok-found-in-Stack-clause-fault t c =
@@ -79,7 +80,7 @@ read_member-returns-in_ok-found-in-Stack-clause-fault t c =
 
 pub read_member-returns-in-Map-clause-fault : goal.read_member-returns-in-Map-clause-fault
 read_member-returns-in-Map-clause-fault t c =
-    media_refused c.read_media.result c.args.place.now (row_of c.args.row.now) c.args.value.now c.in-Map.members (ap kind_of c.in-Media.is) c.in-Map.is c.read_media.ensures.fault
+    media_refused c.read_media.result c.args.place.now (row_of c.args.row.now) c.args.value.now c.in-Map.members (ap kind_of c.in-Media.is) c.in-Map.is (rw c.get.ensures at c.read_media.ensures.fault)
 
 pub read_member-returns-in_default : goal.read_member-returns-in_default
 read_member-returns-in_default t c =

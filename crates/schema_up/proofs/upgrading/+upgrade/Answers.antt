@@ -1,4 +1,5 @@
 use Rattle.std.proofs.Common.{arith, inl, inr, ap, sym, ◌∙◌, length}
+use Rattle.std.proofs.lemmas.Result.{IfOk-weaker}
 use Rattle.json_value.specs.declared.Json.{size-Json, List as JsonOfList, Map}
 use Rattle.schema_up.specs.UpgradeRows.{member_row}
 use Rattle.schema_up.specs.Upgrades.{pair_at, upgraded_at, items_at, map_at}
@@ -8,7 +9,7 @@ use Rattle.schema_up.proofs.upgrading.+upgrade.Goals as goal
 
 pub each_item-upgrade_at-requires : goal.each_item-upgrade_at-requires
 each_item-upgrade_at-requires t c =
-    let long = ap length c.into_vec-list.ensures in
+    let long = ap length c.in_ok-list.ensures in
     let was = next_was (λ value. upgraded_at value c.args.row) c.loop-index.index c.args.items c.loop-index.list.items c.index_mut-item.result.now c.loop-index.invariant c.index_mut-item.ensures.value in
     let below = no_deeper size-Json c.args.items c.loop-index.index c.index_mut-item.result.now (omega (arith, long)) was in
     let same = ap size-Json c.replace-value.ensures.value in
@@ -16,15 +17,16 @@ each_item-upgrade_at-requires t c =
 
 pub each_item-loop-index-preserved : goal.each_item-loop-index-preserved
 each_item-loop-index-preserved t c =
-    let long = ap length c.into_vec-list.ensures in
+    let long = ap length c.in_ok-list.ensures in
     let is = c.in_ok-item.ensures ∙ ap (λ value. upgraded_at value c.args.row) c.replace-value.ensures.value in
     done-more (λ value. upgraded_at value c.args.row) c.loop-index.index c.args.items c.loop-index.list.items c.index_mut-item.result.now c.in_ok-item.field-0 (omega (arith, long)) c.loop-index.invariant
     c.index_mut-item.ensures.value is
 
 pub each_item-returns : goal.each_item-returns
 each_item-returns t c =
-    let long = ap length c.into_vec-list.ensures in
-    c.of.ensures ∙ c.loop-index.invariant ∙ done-all (λ value. upgraded_at value c.args.row) c.loop-index.index c.args.items (omega (arith, long))
+    let long = ap length c.in_ok-list.ensures in
+    let all = c.loop-index.invariant ∙ done-all (λ value. upgraded_at value c.args.row) c.loop-index.index c.args.items (omega (arith, long)) in
+    IfOk-weaker c.of.result _ _ (λ made is. is ∙ all) c.of.ensures
 
 pub each_member-upgrade_at-requires : goal.each_member-upgrade_at-requires
 each_member-upgrade_at-requires t c =
@@ -56,7 +58,7 @@ each_member-returns t c =
 
 pub each_item-index_mut-item-requires : goal.each_item-index_mut-item-requires
 each_item-index_mut-item-requires t c =
-    let long = ap length c.into_vec-list.ensures in
+    let long = ap length c.in_ok-list.ensures in
     let now = ap length c.loop-index.invariant ∙ length-done (λ value. upgraded_at value c.args.row) c.loop-index.index c.args.items in
     omega (arith, long, now)
 

@@ -1,4 +1,5 @@
 use Rattle.std.proofs.Common.{◌∙◌, ap, sym, arith}
+use Rattle.std.proofs.lemmas.Result.{IfOk-weaker}
 use Rattle.otio_model.specs.declared.compositions.ItemOf.TheVariants.{Clip, Gap, Transition}
 use Rattle.otio_model.specs.Counts.{count_of}
 use Rattle.otio_model.specs.Falls.{child_counts}
@@ -25,7 +26,8 @@ children_json-items-preserved t c =
 
 pub children_json-returns : goal.children_json-returns
 children_json-returns t c =
-    c.of.ensures ∙ children_done (style_of c.args.family) c.args.children.now c.items.index c.items.values.items (omega (arith, c.len-index-end.ensures)) c.items.invariant
+    let all = children_done (style_of c.args.family) c.args.children.now c.items.index c.items.values.items (omega (arith, c.len-index-end.ensures)) c.items.invariant in
+    IfOk-weaker c.of.result _ _ (λ made is. is ∙ all) c.of.ensures
 
 pub item_json-returns-in-Clip : goal.item_json-returns-in-Clip
 item_json-returns-in-Clip t c = item_as (style_of c.args.family) c.clip_in.result (Clip c.in-Clip.clip) c.args.item.now (sym c.in-Clip.is) c.clip_in.ensures

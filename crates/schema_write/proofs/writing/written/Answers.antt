@@ -28,6 +28,6 @@ returns c =
     let all = object_added _ _ _ _ _ _ _ _ _ _ c.in_ok-put_others.ensures.added
     c.in_ok-put_rows.ensures c.in_ok-push.ensures.items c.in_ok-pairs.ensures.items
     c.in_ok-of-2.ensures (c.in_ok-of.ensures ∙ c.text.ensures) in
-    ap Map (c.of-3.ensures ∙ all)
+    ap Map (c.in_ok-of-3.ensures ∙ c.of-3.ensures ∙ all)
     ∙ ap (λ r. Map ((schema_key, Str (text_of c.args.schema))
     ∷ (named_values r c.args.values.items ++ others r c.args.rest.now))) c.table-table.ensures

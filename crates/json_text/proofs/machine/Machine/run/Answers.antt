@@ -1,4 +1,4 @@
-use Rattle.std.proofs.Common.{◌≡◌, ◌+◌, ◌∙◌, Ok, take, arith, ap, subst, length, length-drop}
+use Rattle.std.proofs.Common.{◌≡◌, ◌+◌, ◌∙◌, Ok, take, arith, subst, length-drop}
 use Rattle.json_text.specs.State.Machine.{run}
 use Rattle.json_text.specs.State.Stands.{state_of}
 use Rattle.json_text.proofs.RunLemmas.{run_more, run_skim}
@@ -9,11 +9,9 @@ loop-at-preserved-then-count-gt0 c =
     let n = c.in_ok-count.count in
     let bytes = c.args.bytes.now in
     let at = c.loop-at.at in
-    let on = subst (λ x. run 127 (state_of c.loop-at.self) (take n x) ≡ Ok (state_of c.skim.new.self)) c.after.ensures c.in_ok-count.ensures.ran in
-    let some = c.in_ok-count.ensures.within in
     record {
-      within = omega (arith, ap length c.after.ensures, length-drop at bytes);
-      ran = run_skim 127 (state_of c.args.self.now) (state_of c.loop-at.self) (state_of c.skim.new.self) bytes at n c.loop-at.invariant.ran on;
+      within = omega (arith, c.in_ok-count.ensures.within, length-drop at bytes);
+      ran = run_skim 127 (state_of c.args.self.now) (state_of c.loop-at.self) (state_of c.skim_from.new.self) bytes at n c.loop-at.invariant.ran c.in_ok-count.ensures.ran;
     }
 
 pub loop-at-preserved : goal.loop-at-preserved
@@ -21,13 +19,12 @@ loop-at-preserved c =
     let n = c.in_ok-count.count in
     let bytes = c.args.bytes.now in
     let at = c.loop-at.at in
-    let on = subst (λ x. run 127 (state_of c.loop-at.self) (take n x) ≡ Ok (state_of c.skim.new.self)) c.after.ensures c.in_ok-count.ensures.ran in
     let same : at + n ≡ at = omega (arith, c.if-count-gt0.false) in
-    let went = subst (λ m. run 127 (state_of c.args.self.now) (take m bytes) ≡ Ok (state_of c.skim.new.self)) same
-    (run_skim 127 (state_of c.args.self.now) (state_of c.loop-at.self) (state_of c.skim.new.self) bytes at n c.loop-at.invariant.ran on) in
+    let went = subst (λ m. run 127 (state_of c.args.self.now) (take m bytes) ≡ Ok (state_of c.skim_from.new.self)) same
+    (run_skim 127 (state_of c.args.self.now) (state_of c.loop-at.self) (state_of c.skim_from.new.self) bytes at n c.loop-at.invariant.ran c.in_ok-count.ensures.ran) in
     record {
       within = omega arith;
-      ran = run_more 127 (state_of c.args.self.now) (state_of c.skim.new.self) bytes at (omega arith) went ∙ rw c.in-Goes.is at c.in_ok-step.ensures;
+      ran = run_more 127 (state_of c.args.self.now) (state_of c.skim_from.new.self) bytes at (omega arith) went ∙ rw c.in-Goes.is at c.in_ok-step.ensures;
     }
 
 pub returns-in-Stops : goal.returns-in-Stops
@@ -35,12 +32,11 @@ returns-in-Stops c =
     let n = c.in_ok-count.count in
     let bytes = c.args.bytes.now in
     let at = c.loop-at.at in
-    let on = subst (λ x. run 127 (state_of c.loop-at.self) (take n x) ≡ Ok (state_of c.skim.new.self)) c.after.ensures c.in_ok-count.ensures.ran in
     let same : at + n ≡ at = omega (arith, c.if-count-gt0.false) in
     record {
       within = omega arith;
-      before = state_of c.skim.new.self;
-      ran = subst (λ m. run 127 (state_of c.args.self.now) (take m bytes) ≡ Ok (state_of c.skim.new.self)) same
-          (run_skim 127 (state_of c.args.self.now) (state_of c.loop-at.self) (state_of c.skim.new.self) bytes at n c.loop-at.invariant.ran on);
+      before = state_of c.skim_from.new.self;
+      ran = subst (λ m. run 127 (state_of c.args.self.now) (take m bytes) ≡ Ok (state_of c.skim_from.new.self)) same
+          (run_skim 127 (state_of c.args.self.now) (state_of c.loop-at.self) (state_of c.skim_from.new.self) bytes at n c.loop-at.invariant.ran c.in_ok-count.ensures.ran);
       stops = rw c.in-Stops.is at c.in_ok-step.ensures;
     }

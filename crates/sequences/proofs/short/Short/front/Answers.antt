@@ -6,8 +6,8 @@ use Rattle.sequences.proofs.short.Short.front.Goals as goal
 pub invariant_of-result : goal.invariant_of-result
 invariant_of-result c = (
   omega (arith, c.if-count-gt-ROOM.false),
-  ap is_utf8 (window c.args.count 22 c.args.bytes.now c.copy_from_slice.new.self (omega (arith, c.if-count-gt-ROOM.false)) c.copy_from_slice.ensures.after) ∙ c.requires,
+  ap is_utf8 (window c.args.count 14 c.args.bytes.now c.copy_from_slice.new.self (omega (arith, c.if-count-gt-ROOM.false)) c.copy_from_slice.ensures.after) ∙ c.requires,
 )
 
 pub returns : goal.returns
-returns c = window c.args.count 22 c.args.bytes.now c.copy_from_slice.new.self (omega (arith, c.if-count-gt-ROOM.false)) c.copy_from_slice.ensures.after
+returns c = window c.args.count 14 c.args.bytes.now c.copy_from_slice.new.self (omega (arith, c.if-count-gt-ROOM.false)) c.copy_from_slice.ensures.after
