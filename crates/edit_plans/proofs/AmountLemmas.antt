@@ -17,7 +17,7 @@ pub ticks-append : (xs ys : List (ItemOf Listed)) → ticks_in (xs ++ ys) ≡ ti
 ticks-append xs ys = ap added (mapped-append length_of xs ys)
     ∙ added-append (map length_of xs) (map length_of ys)
 
-one_ticks : (o : Option ℕ) → added (o ∷ []) ≡ or_zero o
+pub one_ticks : (o : Option ℕ) → added (o ∷ []) ≡ or_zero o
 one_ticks None = refl
 one_ticks (Some n) = omega arith
 
@@ -36,11 +36,12 @@ pub amount_all : (xs : List (ItemOf Listed)) (i : ℕ) (a : Amount) → length x
     → a ≡ amount_in (take i xs) → a ≡ amount_in xs
 amount_all xs i a h f = f ∙ ap amount_in (taken_all xs i h)
 
-none_there : {A : Type 0} (k : ℕ) → ◌≡◌ {A = Option A} (slice_get [] k) None
+pub none_there : {A : Type 0} (k : ℕ) → ◌≡◌ {A = Option A} (slice_get [] k) None
 none_there zero = refl
 none_there (suc k) = refl
 
-dropped : {A : Type 0} (at k : ℕ) (xs : List A) → slice_get (drop at xs) k ≡ slice_get xs (at + k)
+pub dropped : {A : Type 0} (at k : ℕ) (xs : List A)
+    → slice_get (drop at xs) k ≡ slice_get xs (at + k)
 dropped zero k xs = let e : k ≡ 0 + k = omega arith in ap (slice_get xs) e
 dropped (suc at) k [] = none_there k ∙ sym (none_there (suc at + k))
 dropped (suc at) k (x ∷ xs) = let e : suc (at + k) ≡ suc at + k = omega arith in dropped at k xs

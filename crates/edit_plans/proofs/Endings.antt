@@ -14,6 +14,7 @@ use Rattle.otio_model.specs.declared.compositions.Listed.{Listed}
 use Rattle.otio_model.specs.declared.effect_types.Effect.{Effect}
 use Rattle.otio_model.specs.declared.timelines.Timeline.{Timeline}
 use Rattle.otio_model.specs.declared.patches.Patch.{Patch}
+use Rattle.otio_model.specs.declared.patches.Put.TheVariants.{Items}
 use Rattle.otio_model.specs.declared.edit_types.Edit.{Edit}
 use Rattle.otio_model.specs.declared.edit_types.Edit.TheVariants as A
 use Rattle.otio_model.specs.declared.edit_types.EditFault.{EditFault}
@@ -506,13 +507,13 @@ few_put t e place at number put s h m i x f = (all_get Fit put i x
 
 -- ---- the plan
 
-target_is : (p : Patch) (t : Timeline) (l : Listed) → target p t ≡ Some l
+pub target_is : (p : Patch) (t : Timeline) (l : Listed) → target p t ≡ Some l
     → applied p t ≡ with_list p l t
 target_is p t l e = let f : Option Listed → Timeline =
     λ o. elim o [ None ↦ t | Some m ↦ with_list p m t ] in ap f e
 
 abbrev patch : List ℕ → ℕ → ℕ → List (ItemOf Listed) → Patch
-patch place at number put = record { place = place; at = at; count = number; put = put }
+patch place at number put = record { place = place; at = at; put = Items number put }
 
 home_plan : (t : Timeline) (e : Edit) (at number : ℕ) (put : List (ItemOf Listed))
     (r : Ready t e at number put) → IsMiddle t e (place_of e) at number put → (IsTooLong t e → ⊥)
@@ -537,7 +538,7 @@ pub planned : (t : Timeline) (e : Edit) (place : List ℕ) (at number : ℕ)
     (put : List (ItemOf Listed)) → IsSound t → count t.tracks.children < 2 ^ 32
     → IsMiddle t e place at number put
     → (IsTooLong t e → ⊥) → (HasMany t e → ⊥) → IsPlan t e
-    (record { place = place; at = at; count = number; put = put })
+    (record { place = place; at = at; put = Items number put })
 planned t e place at number put s h m short few =
     let k = at_home t e place at number put m in
     subst (λ p. IsPlan t e (patch p at number put)) m.there

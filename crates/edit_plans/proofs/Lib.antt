@@ -21,6 +21,7 @@ pub mod Endings
 pub mod Exchanges
 pub mod PinLemmas
 pub mod Rates
+pub mod Retimings
 pub mod Shown
 pub mod TrackLemmas
 pub mod WayLemmas

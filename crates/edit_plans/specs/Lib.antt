@@ -8,5 +8,6 @@ pub mod Neighbours
 pub mod Way
 pub mod Amounts
 pub mod Pins
+pub mod Retimings
 pub mod Planned
 pub mod Ways

@@ -1,6 +1,7 @@
 -- What a plan of an edit is, and what its timeline shows.
-use Rattle.std.specs.Prelude.{◌≡◌, ◌≢◌, ℕ, ◌+◌, ◌≤◌, ℤ, Bool, true, false, List, Some, None, length}
-use Rattle.std.specs.Prelude.{slice_get}
+use Rattle.std.specs.Prelude.{◌≡◌, ◌≢◌, ℕ, ◌+◌, ◌≤◌, ℤ, Bool, true, false, List, Option, Some, None, length}
+use Rattle.std.specs.Prelude.{drop, slice_get}
+use Rattle.tick_time.specs.declared.spans.Span.{Span}
 use Rattle.otio_model.specs.declared.compositions.ItemOf.{ItemOf}
 use Rattle.otio_model.specs.declared.compositions.Listed.{Listed}
 use Rattle.otio_model.specs.declared.timelines.Timeline.{Timeline}
@@ -8,7 +9,8 @@ use Rattle.otio_model.specs.declared.patches.Patch.{Patch}
 use Rattle.otio_model.specs.declared.edit_types.Edit.{Edit}
 use Rattle.otio_model.specs.declared.edit_types.Edit.TheVariants as A
 use Rattle.otio_model.specs.Edits.{replaced}
-use Rattle.otio_model.specs.Patches.{IsFit, applied}
+use Rattle.otio_model.specs.Patches.{IsFit, applied, comes, goes}
+use Rattle.otio_model.specs.Retimed.{retimed}
 use Rattle.coord.specs.Agreement.{Agree}
 use Rattle.coord.specs.Programs.{at}
 use Rattle.coord.specs.Soundness.{IsSound}
@@ -22,6 +24,7 @@ use Rattle.edits_law.specs.Down.{down}
 use Rattle.edits_law.specs.Editable.{HasEditItem}
 use Rattle.edits_law.specs.Kept.{KeepsLength}
 use Rattle.edits_law.specs.Through.{through}
+use Rattle.edit_plans.specs.Retimings.{KeepsUnranged}
 
 -- the five edits of lists, and not those of edges
 abbrev pub is_list_edit : Edit → Bool
@@ -50,14 +53,27 @@ pub record IsMiddle (t : Timeline) (e : Edit) (place : List ℕ) (at count : ℕ
   pub few_out : count ≤ touches (frame_of t) e (list_of t e) + 2
   pub few_in : length put ≤ touches (frame_of t) e (list_of t e) + 4
 
+-- The same of an edit that gives children from one on these source ranges, and changes nothing
+-- else. One that gets none has none.
+pub record IsRetiming (t : Timeline) (e : Edit) (place : List ℕ) (at : ℕ)
+    (ranges : List (Option Span)) : Type 0 where
+  pub there : place_of e ≡ place
+  pub item : HasEditItem e
+  pub early : early_fault t e ≡ None
+  pub within : at + length ranges ≤ length (list_of t e)
+  pub made : all_made (rate_of t) (edited (frame_of t) e (list_of t e))
+      ≡ Some (retimed at ranges (list_of t e))
+  pub kept : KeepsUnranged ranges (drop at (list_of t e))
+  pub few : length ranges ≤ touches (frame_of t) e (list_of t e) + 2
+
 -- The patch fits and gives the timeline after the edit, which is sound. It takes out few children
 -- more than the edit touches, and puts in few more.
 pub record IsPlan (t : Timeline) (e : Edit) (p : Patch) : Type 0 where
   pub fit : IsFit p t
   pub after : IsAfter t e (applied p t)
   pub sound : IsSound (applied p t)
-  pub few_out : p.count ≤ touches (frame_of t) e (list_of t e) + 2
-  pub few_in : length p.put ≤ touches (frame_of t) e (list_of t e) + 4
+  pub few_out : goes p.put ≤ touches (frame_of t) e (list_of t e) + 2
+  pub few_in : comes p.put ≤ touches (frame_of t) e (list_of t e) + 4
 
 -- Each root child shows at each instant what agrees with the edit's law, reckoned through the old
 -- timeline, and equals it where the edit is steady. Where the track's length is kept, the root

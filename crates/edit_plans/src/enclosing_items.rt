@@ -24,7 +24,7 @@ use pieces::{known_ticks, member};
 const MOST_LENGTH: u128 = MOST_TICKS as u128;
 
 /// A million seconds in millionths of a tick.
-const MOST_END: i128 = MOST_TICKS * 1_000_000;
+pub(crate) const MOST_END: i128 = MOST_TICKS * 1_000_000;
 
 // Whether an item is too long.
 fn is_long_item(item: &Item) -> bool
@@ -61,8 +61,8 @@ fn ticks_with(item: &Item, available: u128) -> u128
     }
 }
 
-// How far so many ticks go at a speed, in millionths of a tick.
-fn played_ticks(ticks: u128, speed: i64) -> i128
+/// How far so many ticks go at a speed, in millionths of a tick.
+pub(crate) fn played_ticks(ticks: u128, speed: i64) -> i128
     requires ticks { ticks ≤ most_ticks }
     requires speed { IsSpeed speed }
     ensures value { result ≡ (pos ticks *ℤ speed) }
@@ -72,8 +72,8 @@ fn played_ticks(ticks: u128, speed: i64) -> i128
     media_ticks(ticks as i128, speed)
 }
 
-// Where what goes so far ends, in millionths of a tick, from a start in ticks.
-fn end_from(start: i128, played: i128) -> i128
+/// Where what goes so far ends, in millionths of a tick, from a start in ticks.
+pub(crate) fn end_from(start: i128, played: i128) -> i128
     requires start_low { (pos 0 -ℤ pos most_ticks) ≤ℤ start }
     requires start_high { start ≤ℤ pos most_ticks }
     requires least { (pos 0 -ℤ pos 1000000000000000000000000000000000) ≤ℤ played }

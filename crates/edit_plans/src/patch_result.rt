@@ -20,10 +20,10 @@ use crate::replaced_children::Middle;
 use crate::totals::{Amount, amount_of, stretch_amount};
 use crate::tracks::track_of;
 use limits::MOST_ITEMS;
-use otio_model::{EditFault, Patch, Place, PutItems, Timeline};
+use otio_model::{EditFault, Patch, Place, Put, PutItems, Timeline};
 
-// So many ticks without those that go and with those that come, up to the greatest number.
-fn exchanged_ticks(all: u128, gone: u128, come: u128) -> u128
+/// So many ticks without those that go and with those that come, up to the greatest number.
+pub(crate) fn exchanged_ticks(all: u128, gone: u128, come: u128) -> u128
     requires { gone ≤ all }
     ensures { result ≡ capped ((all - gone) + come) }
 {
@@ -103,7 +103,9 @@ pub fn finish(timeline: &Timeline, place: Place, middle: Middle) -> Result<Patch
     Ok(Patch {
         place,
         at: middle.at,
-        count: middle.count,
-        put: PutItems::of(middle.put),
+        put: Put::Items {
+            count: middle.count,
+            items: PutItems::of(middle.put),
+        },
     })
 }

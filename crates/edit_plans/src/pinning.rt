@@ -34,7 +34,7 @@ pub(crate) fn first_index(place: &Place) -> Option<u32>
 }
 
 /// The source_range of an item; a transition has none.
-pub(crate) fn source_range(item: &Item) -> Option<Span>
+pub fn source_range(item: &Item) -> Option<Span>
     ensures { result ≡ source_of item.now }
 {
     match item {

@@ -9,9 +9,12 @@ use Rattle.otio_model.specs.declared.edit_types.Edit.{Edit}
 use Rattle.otio_model.specs.declared.patches.Patch.{Patch}
 use Rattle.otio_model.specs.declared.timelines.Timeline.{Timeline}
 use Rattle.otio_model.specs.Counts.{count}
-use Rattle.otio_model.specs.Patches.{IsFit, applied, target, undoing, undoing_list}
+use Rattle.otio_model.specs.Patches.{IsFit, applied, comes, goes, put_back, target, undoing, undoing_list}
 use Rattle.otio_model.specs.Timelines.{bare}
 use Rattle.otio_model.specs.Trees.{items_of}
+use Rattle.otio_model.specs.declared.patches.Put.{Put}
+use Rattle.otio_model.specs.declared.patches.Put.TheVariants.{Items, Ranges}
+use Rattle.otio_model.proofs.Retiming.{sources_length}
 use Rattle.otio_model.proofs.UndoLemmas.{undone_same}
 use Rattle.coord.proofs.SpareLemmas.{sound_bare}
 use Rattle.undo_log.specs.Histories.{History, unspared}
@@ -69,19 +72,26 @@ roomier h k a b e f w = record {
 -- ---- how many children the patch that undoes another one has
 
 record Sizes (p q : Patch) : Type 0 where
-  puts : length q.put ≤ p.count
-  takes : q.count ≡ length p.put
+  puts : comes q.put ≤ goes p.put
+  takes : goes q.put ≡ comes p.put
 
 taken_few : (n : ℕ) (l : List (ItemOf Listed)) → length (take n l) ≤ n
 taken_few n l = omega (arith, length-take n l)
 
+put_sizes : (at : ℕ) (q : Put) (xs : List (ItemOf Listed)) → at + goes q ≤ length xs
+    → (comes (put_back at q xs) ≤ goes q) × (goes (put_back at q xs) ≡ comes q)
+put_sizes at (Items count items) xs h = (taken_few count (drop at xs), refl)
+put_sizes at (Ranges rs) xs h =
+    let long = sources_length at (length rs) xs h in (omega (arith, long), long)
+
 sizes : (p : Patch) (b : Timeline) → IsFit p b → Sizes p (undoing p b)
 sizes p b f = by (target p b) f.within
   where
-    by : (o : Option Listed) → IsSomeAnd o (λ l. p.at + p.count ≤ length (items_of l))
+    by : (o : Option Listed) → IsSomeAnd o (λ l. p.at + goes p.put ≤ length (items_of l))
         → Sizes p (elim o as (λ _. Patch) [ None ↦ p | Some l ↦ undoing_list p l ])
     by None h = absurd h
-    by (Some l) h = record { puts = taken_few p.count (drop p.at (items_of l)); takes = refl }
+    by (Some l) h = let s = put_sizes p.at p.put (items_of l) h in
+        record { puts = s.0; takes = s.1 }
 
 -- ---- the state
 
@@ -107,8 +117,8 @@ committed_editable t e p s i f w = record {
 -- ---- a change that is planned
 
 narrow_of : (t : Timeline) (e : Edit) (p : Patch) → IsPlan t e p
-    → IsNarrowFor e (bare t) (applied p (bare t)) (length (undoing p (bare t)).put)
-    (undoing p (bare t)).count
+    → IsNarrowFor e (bare t) (applied p (bare t)) (comes (undoing p (bare t)).put)
+    (goes (undoing p (bare t)).put)
 narrow_of t e p i =
     let n = sizes p (bare t) (fit_bare p t i.fit) in
     record {
@@ -119,21 +129,21 @@ narrow_of t e p i =
 
 -- the patch that undoes it stands first
 first_undoing : (b : Timeline) (p : Patch) (e : Edit) (es : List Edit) (ps : List Patch)
-    → IsFit p b → IsNarrowFor e b (applied p b) (length (undoing p b).put) (undoing p b).count
+    → IsFit p b → IsNarrowFor e b (applied p b) (comes (undoing p b).put) (goes (undoing p b).put)
     → AreUndoingEach b es ps → AreUndoingEach (applied p b) (e ∷ es) (undoing p b ∷ ps)
 first_undoing b p e es ps f n w =
     let same = undone_same p b f in (
-      subst (λ a. IsNarrowFor e a (applied p b) (length (undoing p b).put) (undoing p b).count)
+      subst (λ a. IsNarrowFor e a (applied p b) (comes (undoing p b).put) (goes (undoing p b).put))
           (sym same) n,
       subst (λ a. AreUndoingEach a es ps) (sym same) w,
     )
 
 first_redoing : (b : Timeline) (p : Patch) (e : Edit) (es : List Edit) (ps : List Patch)
-    → IsFit p b → IsNarrowFor e (applied p b) b (undoing p b).count (length (undoing p b).put)
+    → IsFit p b → IsNarrowFor e (applied p b) b (goes (undoing p b).put) (comes (undoing p b).put)
     → AreRedoingEach b es ps → AreRedoingEach (applied p b) (e ∷ es) (undoing p b ∷ ps)
 first_redoing b p e es ps f n w =
     let same = undone_same p b f in (
-      subst (λ a. IsNarrowFor e (applied p b) a (undoing p b).count (length (undoing p b).put))
+      subst (λ a. IsNarrowFor e (applied p b) a (goes (undoing p b).put) (comes (undoing p b).put))
           (sym same) n,
       subst (λ a. AreRedoingEach a es ps) (sym same) w,
     )
@@ -255,7 +265,7 @@ undone-crosses b c made undone from to left kept x past future =
     by (e ∷ es) w =
         let p = x.patch in
         let n = sizes p b x.fits in
-        let narrow : IsNarrowFor e (applied p b) b (undoing p b).count (length (undoing p b).put) =
+        let narrow : IsNarrowFor e (applied p b) b (goes (undoing p b).put) (comes (undoing p b).put) =
         record {
           after = w.0.after;
           to_undo = omega (arith, n.takes, w.0.to_undo);
@@ -283,7 +293,7 @@ redone-crosses b c made undone from to left kept x future past =
     by (e ∷ es) w =
         let p = x.patch in
         let n = sizes p b x.fits in
-        let narrow : IsNarrowFor e b (applied p b) (length (undoing p b).put) (undoing p b).count =
+        let narrow : IsNarrowFor e b (applied p b) (comes (undoing p b).put) (goes (undoing p b).put) =
         record {
           after = w.0.after;
           to_undo = omega (arith, n.puts, w.0.to_undo);

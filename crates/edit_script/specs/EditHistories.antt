@@ -3,7 +3,7 @@ use Rattle.std.specs.Prelude.{◌≡◌, ℕ, zero, suc, ◌+◌, ◌≤◌, Lis
 use Rattle.otio_model.specs.declared.patches.Patch.{Patch}
 use Rattle.otio_model.specs.declared.timelines.Timeline.{Timeline}
 use Rattle.otio_model.specs.declared.edit_types.Edit.{Edit}
-use Rattle.otio_model.specs.Patches.{applied}
+use Rattle.otio_model.specs.Patches.{applied, comes, goes}
 use Rattle.otio_model.specs.Timelines.{bare}
 use Rattle.undo_log.specs.Histories.{History}
 use Rattle.undo_log.specs.States.{State, state_of}
@@ -35,7 +35,7 @@ AreUndoingEach t [] [] = Unit {0}
 AreUndoingEach t [] (p ∷ ps) = ⊥
 AreUndoingEach t (e ∷ es) [] = ⊥
 AreUndoingEach t (e ∷ es) (p ∷ ps) =
-    IsNarrowFor e (applied p t) t (length p.put) p.count × AreUndoingEach (applied p t) es ps
+    IsNarrowFor e (applied p t) t (comes p.put) (goes p.put) × AreUndoingEach (applied p t) es ps
 
 -- the patches that redo these edits, from the timeline before them
 abbrev pub AreRedoingEach : Timeline → List Edit → List Patch → Type 0
@@ -43,7 +43,7 @@ AreRedoingEach t [] [] = Unit {0}
 AreRedoingEach t [] (p ∷ ps) = ⊥
 AreRedoingEach t (e ∷ es) [] = ⊥
 AreRedoingEach t (e ∷ es) (p ∷ ps) =
-    IsNarrowFor e t (applied p t) p.count (length p.put) × AreRedoingEach (applied p t) es ps
+    IsNarrowFor e t (applied p t) (goes p.put) (comes p.put) × AreRedoingEach (applied p t) es ps
 
 -- each patch of the log is that of the edit at its place, and holds few children more than that
 -- touches

@@ -4,7 +4,7 @@ use Rattle.otio_model.specs.declared.patches.Patch.{Patch}
 use Rattle.otio_model.specs.declared.timelines.Timeline.{Timeline}
 use Rattle.otio_model.specs.declared.edit_types.Edit.{Edit}
 use Rattle.otio_model.specs.Counts.{count}
-use Rattle.otio_model.specs.Patches.{applied}
+use Rattle.otio_model.specs.Patches.{applied, comes, goes}
 use Rattle.otio_model.specs.Timelines.{bare}
 use Rattle.coord.specs.Soundness.{IsSound}
 use Rattle.undo_log.specs.Histories.{History}
@@ -41,13 +41,13 @@ pub record IsNarrow (a b : Timeline) (undone redone : ℕ) : Type 0 where
 abbrev pub AreUndoing : Timeline → List Patch → Type 0
 AreUndoing t [] = Unit {0}
 AreUndoing t (p ∷ ps) =
-    IsNarrow (applied p t) t (length p.put) p.count × AreUndoing (applied p t) ps
+    IsNarrow (applied p t) t (comes p.put) (goes p.put) × AreUndoing (applied p t) ps
 
 -- the patches that redo edits, the next first, from the timeline before them
 abbrev pub AreRedoing : Timeline → List Patch → Type 0
 AreRedoing t [] = Unit {0}
 AreRedoing t (p ∷ ps) =
-    IsNarrow t (applied p t) p.count (length p.put) × AreRedoing (applied p t) ps
+    IsNarrow t (applied p t) (goes p.put) (comes p.put) × AreRedoing (applied p t) ps
 
 -- each patch of the log stands for an edit, and holds few children more than that touches
 pub record HoldsEdits (h : History) (t : Timeline) : Type 0 where

@@ -16,3 +16,5 @@ pub mod Neighbours
 pub mod Early
 pub mod Asking
 pub mod Planning
+pub mod Ranges
+pub mod EvenShapes

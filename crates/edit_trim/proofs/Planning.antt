@@ -18,7 +18,12 @@ use Rattle.edits.specs.After.{frame_of, list_of, place_of, rate_of}
 use Rattle.edits.specs.Edges.{Held}
 use Rattle.edits.specs.Refusals.{IsRefused, at_once, place_fault, too_long}
 use Rattle.edits_law.specs.Editable.{HasEditItem}
-use Rattle.edit_plans.specs.Planned.{IsMiddle}
+use Rattle.edit_plans.specs.declared.retiming.Retiming.{Retiming}
+use Rattle.edit_plans.specs.Planned.{IsMiddle, IsRetiming}
+use Rattle.edit_trim.specs.declared.edge_planner.Plan.{Plan}
+use Rattle.edit_trim.specs.declared.edge_planner.Plan.TheVariants as P
+use Rattle.edit_trim.specs.Plans.{IsPlanned, IsPlannedBy}
+use Rattle.edit_trim.specs.Retimes.{IsRetimedBy}
 use Rattle.edit_trim.specs.Asked.{edit_of}
 use Rattle.edit_trim.specs.Founds.{IsFound, IsNoItem, IsNoNeighbour, IsSuited, motion_touches}
 use Rattle.edit_plans.specs.Pins.{pin_by}
@@ -86,6 +91,39 @@ middle_is t place at g m s o l put r k n e f p low = subst
       few_out = subst (λ z. n ≤ z + 2) (sym q.touch) out;
       few_in = subst (λ z. length put ≤ z + 4) (sym q.touch) few;
     })
+
+-- the source ranges of what was found
+retiming_is : (t : Timeline) (place : List ℕ) (at g : ℤ) (m : EdgeEdit) (s : Seat) (o : Motion)
+    (l : List (ItemOf Listed)) (r : Rate) (n : Retiming) → IsListAt l t place → r ≡ rate_of t
+    → place_fault place t ≡ None → pos 0 ≤ℤ at → IsFound (frame_of t) m l (at *ℤ frame_of t) s o
+    → g ≡ growth_of o → pin_by g place t ≡ None → IsRetimedBy r l s o n
+    → IsRetiming t (edit_of place at m) place n.at n.ranges.items
+retiming_is t place at g m s o l r n e f p low = subst
+    (λ q. IsFound (frame_of t) m q (at *ℤ frame_of t) s o → g ≡ growth_of o
+    → pin_by g place t ≡ None → IsRetimedBy r q s o n
+    → IsRetiming t (edit_of place at m) place n.at n.ranges.items) (sym (list_is t place at m l e))
+    (λ w u v k.
+    let q = known t place at m s o p low w in
+    record {
+      there = place_is place at m;
+      item = item_is place at m;
+      early = q.pinned ∙ ap (λ z. pin_by z place t) (sym u) ∙ v;
+      within = k.within;
+      made = ap (all_made (rate_of t)) q.made ∙ ap (λ z. all_made z (motion_list o w.held)) (sym f)
+          ∙ k.made w.held w.seat;
+      kept = k.kept;
+      few = subst (λ z. length n.ranges.items ≤ z + 2) (sym q.touch) k.few;
+    })
+
+pub plan_is : (t : Timeline) (place : List ℕ) (at g : ℤ) (m : EdgeEdit) (s : Seat) (o : Motion)
+    (l : List (ItemOf Listed)) (r : Rate) (n : Plan) → IsListAt l t place → r ≡ rate_of t
+    → place_fault place t ≡ None → pos 0 ≤ℤ at → IsFound (frame_of t) m l (at *ℤ frame_of t) s o
+    → g ≡ growth_of o → pin_by g place t ≡ None → IsPlannedBy r l s o n
+    → IsPlanned t (edit_of place at m) place n
+plan_is t place at g m s o l r (P.Others n) e f p low w u v k = middle_is t place at g m s o l
+    n.put.items r n.at n.count e f p low w u v k.within k.made k.count k.few
+plan_is t place at g m s o l r (P.Ranges n) e f p low w u v k =
+    retiming_is t place at g m s o l r n e f p low w u v k
 
 -- ---- refusals
 

@@ -1,10 +1,10 @@
 -- What becomes of an item and of what stands beside it.
-use Rattle.std.specs.Prelude.{pos, ◌+ℤ◌, ◌-ℤ◌, ◌≤ℤ◌, List, ◌++◌}
+use Rattle.std.specs.Prelude.{pos, ◌+ℤ◌, ◌-ℤ◌, ◌≤ℤ◌, Bool, true, List, ◌++◌}
 use Rattle.otio_model.specs.declared.compositions.ItemOf.{ItemOf}
 use Rattle.otio_model.specs.declared.compositions.Listed.{Listed}
 use Rattle.edits.specs.Children.{Child, ticks}
 use Rattle.edits.specs.Edges.{Held, Zone, left_before, left_behind, first_changed, last_changed}
-use Rattle.edits.specs.Edges.{one, moved, grown, slipped_item, gap_of}
+use Rattle.edits.specs.Edges.{one, moved, grown, slipped_item, gap_of, is_zero}
 use Rattle.edit_plans.specs.Bounds.{IsMove}
 use Rattle.edit_trim.specs.declared.resized_items.Change.{Change}
 use Rattle.edit_trim.specs.declared.resized_items.Change.TheVariants as C
@@ -20,6 +20,12 @@ abbrev pub IsChange : Change → Type 0
 IsChange (C.Move head tail) = IsMove head × IsMove tail
 IsChange (C.Grow by) = IsMove by
 IsChange (C.Slip by) = IsMove by
+
+-- the item stays, whatever becomes of its edges
+abbrev pub stays : Change → Bool
+stays (C.Move head tail) = true
+stays (C.Grow by) = is_zero by
+stays (C.Slip by) = true
 
 -- a length is left of the item
 abbrev pub Leaves : Change → ItemOf Listed → Type 0

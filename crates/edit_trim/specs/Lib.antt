@@ -4,3 +4,5 @@ pub mod Changes
 pub mod Founds
 pub mod Motions
 pub mod Seats
+pub mod Retimes
+pub mod Plans

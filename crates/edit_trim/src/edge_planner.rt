@@ -3,6 +3,7 @@
 ghost use Rattle.std.specs.Prelude.{◌≡◌, ◌≢◌, ◌<◌, ◌≤◌, ◌^◌, ◌+◌, ◌⊎◌, ℕ, IfErr, IfNone, IfOk};
 ghost use Rattle.std.specs.Prelude.{IfSome, None, Some, false, true, length, pos};
 ghost use Rattle.std.specs.Prelude.{◌≤ℤ◌, ◌<ℤ◌, ◌*ℤ◌};
+ghost use Rattle.otio_model.specs.declared.edit_types.Edit.{Edit as AnyEdit};
 ghost use Rattle.otio_model.specs.Counts.{count as tally};
 ghost use Rattle.otio_model.specs.Edits.{replaced};
 ghost use Rattle.otio_model.specs.Patches.{applied};
@@ -19,6 +20,7 @@ ghost use Rattle.edit_trim.specs.Asked.{edit_of};
 ghost use Rattle.edit_trim.specs.Founds.{HasNeighbours, IsFound, IsNoItem, IsNoNeighbour};
 ghost use Rattle.edit_trim.specs.Founds.{IsSuited, LacksNeighbour, motion_touches};
 ghost use Rattle.edit_trim.specs.Motions.{IsMotion, growth_of, motion_list};
+ghost use Rattle.edit_trim.specs.Plans.{IsPlanned, IsPlannedBy};
 ghost use Rattle.edit_trim.specs.Seats.{IsAt};
 ghost use Rattle.edit_trim.specs.declared.edge_moves.Motion.TheVariants as moves;
 
@@ -27,7 +29,11 @@ use crate::edge_edits::{EdgeEdit, parts_of};
 use crate::edge_moves::{Motion, in_ticks, ripple, roll, slide, slip, trim};
 use crate::replacements::reshaped;
 use crate::resized_items::{Change, Making, changed};
-use edit_plans::{Middle, child, edit_rate, finish, frame_at, held, pinned, place_fault, track_of};
+use crate::retimes::retimes;
+use edit_plans::{
+    Middle, Retiming, child, edit_rate, finish, finish_ranges, frame_at, held, pinned, place_fault,
+    track_of,
+};
 use otio_model::{Children, Edit, EditFault, Patch, Place, Seat, Timeline};
 use pieces::RangedFault;
 use std::alloc::Global;
@@ -161,21 +167,55 @@ fn growth(motion: Motion) -> i128
     }
 }
 
-// What an edit puts in place of the children that it touches, where nothing refuses it up to the
-// result's times.
+/// What an edit makes of the children that it touches.
+#[derive(Drop)]
+enum Plan {
+    /// Others in their place.
+    Others(Middle),
+    /// Other source ranges, and nothing else.
+    Ranges(Retiming),
+}
+
+// What a motion makes of the children that it touches. [`RangedFault::Range`] comes only where a
+// new time is out of range, and [`RangedFault::Memory`] where memory runs out.
+fn planned_by(
+    making: Making,
+    children: &Children,
+    seat: Seat,
+    motion: Motion,
+) -> Result<Plan, RangedFault>
+    requires few { tally children.now < 2 ^ 32 }
+    requires faultless { AreCuttable (items_of children.now) }
+    requires held { IsSuited (items_of children.now) seat motion }
+    requires start { seat.start ≤ℤ pos 10000000000000000000000000000000000000 }
+    ensures made { IfOk result (IsPlannedBy making.rate (items_of children.now) seat motion) }
+    ensures far { IfErr result (λ fault. fault ≡ RangedFault.Range → (h : Held)
+        → IsAt (items_of children.now) seat h → has_far (motion_list motion h) ≡ true) }
+{
+    match retimes(making, children, seat, motion) {
+        Ok(Some(retiming)) => Ok(Plan::Ranges(retiming)),
+        Ok(None) => match middle_of(making, children, seat, motion) {
+            Ok(middle) => Ok(Plan::Others(middle)),
+            Err(fault) => Err(fault),
+        },
+        Err(fault) => Err(fault),
+    }
+}
+
+// What an edit makes of the children that it touches, where nothing refuses it up to the result's
+// times.
 fn planned(
     alloc: Global,
     timeline: &Timeline,
     place: &Place,
     at: i64,
     edges: EdgeEdit,
-) -> Result<Middle, EditFault>
+) -> Result<Plan, EditFault>
     requires sound { IsSound timeline.now }
     requires few { tally timeline.now.tracks.children < 2 ^ 32 }
     requires there { refusals.place_fault place.now timeline.now ≡ None }
     requires low { pos 0 ≤ℤ at }
-    ensures middle { IfOk result (λ m. IsMiddle timeline.now (edit_of place.now at edges) place.now
-        m.at m.count m.put.items) }
+    ensures plan { IfOk result (IsPlanned timeline.now (edit_of place.now at edges) place.now) }
     ensures fault { IfErr result (λ fault. fault ≢ EditFault.Memory
         → IsRefused timeline.now (edit_of place.now at edges) fault) }
 {
@@ -189,10 +229,26 @@ fn planned(
         Ok(()) => {}
         Err(fault) => return Err(fault),
     }
-    match middle_of(Making { alloc, rate }, children, found.seat, found.motion) {
-        Ok(middle) => Ok(middle),
+    match planned_by(Making { alloc, rate }, children, found.seat, found.motion) {
+        Ok(made) => Ok(made),
         Err(RangedFault::Range) => Err(EditFault::TooLong),
         Err(RangedFault::Memory) => Err(EditFault::Memory),
+    }
+}
+
+// The patch that makes this of the children, or why the result is refused.
+fn finished(timeline: &Timeline, place: Place, plan: Plan) -> Result<Patch, EditFault>
+    requires sound { IsSound timeline.now }
+    requires few { tally timeline.now.tracks.children < 2 ^ 32 }
+    requires edit { (e : AnyEdit) × IsPlanned timeline.now e place plan }
+    ensures plan { IfOk result (λ patch. (e : AnyEdit) → IsPlanned timeline.now e place plan →
+        IsPlan timeline.now e patch) }
+    ensures fault { IfErr result (λ fault. (e : AnyEdit) → IsPlanned timeline.now e place plan →
+        IsRefused timeline.now e fault) }
+{
+    match plan {
+        Plan::Others(middle) => finish(timeline, place, middle),
+        Plan::Ranges(retiming) => finish_ranges(timeline, place, retiming),
     }
 }
 
@@ -218,7 +274,7 @@ fn plan_parts_of(
         return Err(EditFault::Negative);
     }
     match planned(alloc, timeline, &place, at, edges) {
-        Ok(middle) => finish(timeline, place, middle),
+        Ok(made) => finished(timeline, place, made),
         Err(fault) => Err(fault),
     }
 }

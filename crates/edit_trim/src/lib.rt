@@ -10,5 +10,6 @@ mod edge_moves;
 mod edge_planner;
 mod replacements;
 mod resized_items;
+mod retimes;
 
 pub use edge_planner::plan_trim;

@@ -48,8 +48,8 @@ pub(crate) struct Interval {
     pub to: i128,
 }
 
-// Whether an item is no transition, so that it takes time.
-fn takes_time(item: &Item) -> bool
+/// Whether an item is no transition, so that it takes time.
+pub(crate) fn takes_time(item: &Item) -> bool
     ensures { result ≡ not (is_transition item.now) }
 {
     match item {
@@ -215,8 +215,8 @@ fn parts(
     }
 }
 
-// A zone as what starts at an instant sees it.
-fn seen_from(zone: Interval, instant: i128) -> Interval
+/// A zone as what starts at an instant sees it.
+pub(crate) fn seen_from(zone: Interval, instant: i128) -> Interval
     requires from { IsInstant zone.from }
     requires to { IsInstant zone.to }
     requires low { pos 0 ≤ℤ instant }

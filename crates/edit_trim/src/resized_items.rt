@@ -1,12 +1,14 @@
 //! What becomes of an item whose edges move.
 
 ghost use Rattle.limits.specs.Limits.{most_ticks};
-ghost use Rattle.std.specs.Prelude.{◌≡◌, ◌≤◌, IfErr, IfOk, IfSome, IfNone, Some, [], ◌∷◌};
+ghost use Rattle.std.specs.Prelude.{◌≡◌, ◌≤◌, IfErr, IfOk, IfSome, IfNone, None, Some, [], ◌∷◌};
 ghost use Rattle.std.specs.Prelude.{length as length_of};
 ghost use Rattle.std.specs.Prelude.{pos, true, false, FitsSigned};
 ghost use Rattle.std.specs.Prelude.{◌≤ℤ◌, ◌-ℤ◌, ◌+ℤ◌, ◌*ℤ◌, ◌&&◌, ◌||◌};
 ghost use Rattle.std.specs.Int.{int_div_euclid, w128};
 ghost use Rattle.otio_model.specs.Lengths as lengths;
+ghost use Rattle.otio_model.specs.Lengths.{source_of};
+ghost use Rattle.otio_model.specs.Retimed.{with_source};
 ghost use Rattle.coord.specs.Speeds as speeds;
 ghost use Rattle.edits.specs.Finest.{in_range};
 ghost use Rattle.edits.specs.Children as children;
@@ -18,11 +20,11 @@ ghost use Rattle.edit_trim.specs.Changes as changes;
 ghost use Rattle.edit_trim.specs.Changes.{IsChange, Leaves};
 
 use coord::speed;
-use edit_plans::{is_gap, is_zero};
+use edit_plans::{is_gap, is_zero, source_range};
 use otio_model::{Item, copy_item};
-use pieces::{RangedFault, new_gap, ranged, sound_ticks, start_ticks, with_last};
+use pieces::{RangedFault, new_gap, new_range, ranged, sound_ticks, start_ticks, with_last};
 use std::alloc::Global;
-use tick_time::Rate;
+use tick_time::{Rate, Span};
 
 /// How new items are made.
 #[derive(Clone, Copy)]
@@ -274,4 +276,100 @@ pub(crate) fn gap_of(making: Making, ticks: i128) -> Result<Vec<Item>, RangedFau
         return one_gap(making, ticks);
     }
     Ok(Vec::new(making.alloc))
+}
+
+// The source range of an item once it has this start and this length.
+fn resized_range(
+    making: Making,
+    item: &Item,
+    start: i128,
+    length: i128,
+) -> Result<Option<Span>, RangedFault>
+    requires { pos 0 ≤ℤ length }
+    ensures made { IfOk result (λ range. children.made making.rate
+        (children.Ranged item.now start length) ≡ Some (with_source range item.now)) }
+    ensures kept { IfOk result (λ range. range ≡ None → source_of item.now ≡ None) }
+    ensures far { IfErr result
+        (λ _. is_far (children.Ranged item.now start length) ≡ true) }
+{
+    match new_range(item, start, length, making.rate) {
+        Ok(range) => Ok(Some(range)),
+        Err(fault) => Err(fault),
+    }
+}
+
+// The source range of an item whose head and tail move so far.
+fn moved_range(
+    making: Making,
+    item: &Item,
+    head: i128,
+    tail: i128,
+) -> Result<Option<Span>, RangedFault>
+    requires item { IsCuttable item.now }
+    requires head { IsMove head }
+    requires tail { IsMove tail }
+    requires left { pos 0 ≤ℤ ((children.ticks item.now -ℤ head) +ℤ tail) }
+    ensures made { IfOk result (λ range. children.made making.rate (edges.moved head tail item.now)
+        ≡ Some (with_source range item.now)) }
+    ensures kept { IfOk result (λ range. range ≡ None → source_of item.now ≡ None) }
+    ensures far { IfErr result (λ _. is_far (edges.moved head tail item.now) ≡ true) }
+{
+    if is_still(head, tail) {
+        return Ok(source_range(item));
+    }
+    match media_at(item, head) {
+        Some(start) => {
+            let length = moved_ticks(sound_ticks(item), head, tail);
+            resized_range(making, item, start, length)
+        }
+        None => Err(RangedFault::Range),
+    }
+}
+
+// The source range of an item whose start moves so far in its media, unless it is a gap.
+fn slipped_range(making: Making, item: &Item, by: i128) -> Result<Option<Span>, RangedFault>
+    requires item { IsCuttable item.now }
+    requires by { IsMove by }
+    ensures made { IfOk result (λ range. children.made making.rate
+        (edges.slipped_item by item.now) ≡ Some (with_source range item.now)) }
+    ensures kept { IfOk result (λ range. range ≡ None → source_of item.now ≡ None) }
+    ensures far { IfErr result (λ _. is_far (edges.slipped_item by item.now) ≡ true) }
+{
+    if is_kept(item, by) {
+        return Ok(source_range(item));
+    }
+    let start = slipped_start(start_ticks(item), by);
+    resized_range(making, item, start, sound_ticks(item))
+}
+
+/// Whether an item stays, whatever becomes of its edges.
+pub(crate) fn stays(change: Change) -> bool
+    ensures { result ≡ changes.stays change }
+{
+    match change {
+        Change::Grow { by } => is_zero(by),
+        _ => true,
+    }
+}
+
+/// The source range of an item once it is changed, where it stays.
+pub(crate) fn new_source(
+    making: Making,
+    item: &Item,
+    change: Change,
+) -> Result<Option<Span>, RangedFault>
+    requires item { IsCuttable item.now }
+    requires change { IsChange change }
+    requires leaves { Leaves change item.now }
+    requires stays { changes.stays change ≡ true }
+    ensures made { IfOk result (λ range. all_made making.rate (changes.changed change item.now)
+        ≡ Some (with_source range item.now ∷ [])) }
+    ensures kept { IfOk result (λ range. range ≡ None → source_of item.now ≡ None) }
+    ensures far { IfErr result (λ _. has_far (changes.changed change item.now) ≡ true) }
+{
+    match change {
+        Change::Move { head, tail } => moved_range(making, item, head, tail),
+        Change::Grow { .. } => Ok(source_range(item)),
+        Change::Slip { by } => slipped_range(making, item, by),
+    }
 }

@@ -3,7 +3,7 @@
 ghost use Rattle.undo_log.specs.States.{IsKept};
 
 use crate::trees::{one, stack, timeline_of, track};
-use otio_model::{Children, ItemOf, Items, Patch, Place, PutItems, Timeline, copy_timeline};
+use otio_model::{Children, ItemOf, Items, Patch, Place, Put, PutItems, Timeline, copy_timeline};
 use std::alloc::{AllocError, Global};
 use std::test::Fail;
 use undo_log::{Log, UndoFault};
@@ -36,12 +36,11 @@ fn copied(alloc: Global, made: Result<Timeline, AllocError>) -> Result<Timeline,
 fn patch(alloc: Global) -> Result<Patch, AllocError> {
     let mut place = Place::new(alloc);
     place.push(0)?;
-    let put = PutItems::of(empty_stacks(alloc, 3)?.into_vec());
+    let items = PutItems::of(empty_stacks(alloc, 3)?.into_vec());
     Ok(Patch {
         place,
         at: 0,
-        count: 1,
-        put,
+        put: Put::Items { count: 1, items },
     })
 }
 

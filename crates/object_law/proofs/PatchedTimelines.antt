@@ -8,9 +8,14 @@ use Rattle.otio_model.specs.declared.compositions.ItemOf.TheVariants as I
 use Rattle.otio_model.specs.declared.compositions.StackOf.{StackOf}
 use Rattle.otio_model.specs.declared.compositions.TrackOf.{TrackOf}
 use Rattle.otio_model.specs.declared.patches.Patch.{Patch}
+use Rattle.otio_model.specs.declared.patches.Put.{Put}
+use Rattle.otio_model.specs.declared.patches.Put.TheVariants.{Items, Ranges}
+use Rattle.otio_model.specs.Retimed.{retimed, with_source, with_sources}
+use Rattle.tick_time.specs.declared.spans.Span.{Span}
+use Rattle.object_law.specs.Law.{ArePut}
 use Rattle.otio_model.specs.declared.timelines.Timeline.{Timeline}
-use Rattle.otio_model.specs.Edits.{deeper, changed, list_at, with_at, replaced, IsTrack, LeadsToTrack}
-use Rattle.otio_model.specs.Patches.{target, IsFit, with_list, applied}
+use Rattle.otio_model.specs.Edits.{deeper, changed, list_at, with_at, IsTrack, LeadsToTrack}
+use Rattle.otio_model.specs.Patches.{target, IsFit, with_list, applied, put_at}
 use Rattle.otio_model.specs.Trees.{listed, items_of, children_of, below, is_transition}
 use Rattle.otio_model.proofs.Views.{items-listed}
 use Rattle.otio_model.specs.Misplaced.{side_by_side}
@@ -190,15 +195,46 @@ list_in (i ∷ place) l found h e = through_at place found (items_of l) i (slice
 applied_is : (p : Patch) (t : Timeline) (l : Listed) → target p t ≡ Some l → applied p t ≡ with_list p l t
 applied_is p t l e = rw (e, applied) refl
 
-pub patched_is_writable : (p : Patch) (t : Timeline) (l : Listed) → IsFit p t → target p t ≡ Some l → IsTimeline t → AreItems p.put → side_by_side (replaced p.at p.count p.put (items_of l)) ≡ false
+-- items with other source ranges
+sourced_item : (r : Option Span) (x : ItemOf Listed) → IsItem x → IsItem (with_source r x)
+sourced_item r (I.Clip c) h = Q.clip _ (record c { source_range = r }) refl (such (I.Clip c) h)
+sourced_item r (I.Gap g) h = Q.gap _ (record g { source_range = r }) refl (such (I.Gap g) h)
+sourced_item r (I.Transition t) h = h
+sourced_item r (I.Stack s) h = Q.stack _ (record s { source_range = r }) refl (by (such (I.Stack s) h))
+  where
+    by : IsStack s → IsStack (record s { source_range = r })
+    by (Q.stack_of _ o effects markers none items) = Q.stack_of _ o effects markers none items
+sourced_item r (I.Track t) h = Q.track _ (record t { source_range = r }) refl (by (such (I.Track t) h))
+  where
+    by : Q.IsTrack t → Q.IsTrack (record t { source_range = r })
+    by (Q.track_of _ o effects markers alone items) = Q.track_of _ o effects markers alone items
+
+sourced_items : (rs : List (Option Span)) (items : List (ItemOf Listed)) → AreItems items → AreItems (with_sources rs items)
+sourced_items [] items h = h
+sourced_items (r ∷ rs) [] h = h
+sourced_items (r ∷ rs) (x ∷ items) h = let s = all_such (x ∷ items) h in
+    Q.more_items _ (with_source r x) (with_sources rs items) refl (sourced_item r x s.0) (sourced_items rs items s.1)
+
+retimed_items : (at : ℕ) (rs : List (Option Span)) (items : List (ItemOf Listed)) → AreItems items → AreItems (retimed at rs items)
+retimed_items zero rs items h = sourced_items rs items h
+retimed_items (suc at) rs [] h = h
+retimed_items (suc at) rs (x ∷ items) h = let s = all_such (x ∷ items) h in
+    Q.more_items _ x (retimed at rs items) refl s.0 (retimed_items at rs items s.1)
+
+-- items as a patch leaves them
+put_items : (at : ℕ) (q : Put) (items : List (ItemOf Listed)) → AreItems items → ArePut q → AreItems (put_at at q items)
+put_items at (Items count put) items own h =
+    joined_items (take at items) (put ++ drop (at + count) items) (front_items at items own)
+    (joined_items put (drop (at + count) items) h (back_items (at + count) items own))
+put_items at (Ranges rs) items own h = retimed_items at rs items own
+
+pub patched_is_writable : (p : Patch) (t : Timeline) (l : Listed) → IsFit p t → target p t ≡ Some l → IsTimeline t → ArePut p.put → side_by_side (put_at p.at p.put (items_of l)) ≡ false
     → IsTimeline (applied p t)
 patched_is_writable p t l fit e h put alone =
     let own = list_in p.place t.tracks.children l (stack_items t.tracks h.1) e in
-    let new : AreItems (replaced p.at p.count p.put (items_of l)) =
-    joined_items (take p.at (items_of l)) (p.put ++ drop (p.at + p.count) (items_of l)) (front_items p.at (items_of l) own)
-    (joined_items p.put (drop (p.at + p.count) (items_of l)) put (back_items (p.at + p.count) (items_of l) own)) in
-    let m = listed (replaced p.at p.count p.put (items_of l)) in
+    let now = put_at p.at p.put (items_of l) in
+    let new : AreItems now = put_items p.at p.put (items_of l) own put in
     let root : IsStack (with_list p l t).tracks =
-    root_with p.place (listed (replaced p.at p.count p.put (items_of l))) t.tracks fit.track h.1 (subst AreItems (sym (items-listed (replaced p.at p.count p.put (items_of l)))) new)
-    (ap side_by_side (items-listed (replaced p.at p.count p.put (items_of l))) ∙ alone) in
+    root_with p.place (listed now) t.tracks fit.track h.1 (subst AreItems (sym (items-listed now)) new)
+    (ap side_by_side (items-listed now) ∙ alone) in
     subst IsTimeline (sym (applied_is p t l e)) (h.0, root)

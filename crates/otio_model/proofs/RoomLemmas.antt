@@ -12,7 +12,11 @@ use Rattle.otio_model.specs.Edits.{list_at}
 use Rattle.otio_model.specs.Rooms.{Holds, Room, Suits}
 use Rattle.otio_model.specs.Spares.{room_of}
 use Rattle.otio_model.specs.declared.reserve.Spare.TheInside.{Inside}
-use Rattle.otio_model.specs.Patches.{Fits, IsRoomFor}
+use Rattle.otio_model.specs.declared.compositions.ItemOf.{ItemOf}
+use Rattle.otio_model.specs.declared.patches.Put.{Put}
+use Rattle.otio_model.specs.declared.patches.Put.TheVariants.{Items, Ranges}
+use Rattle.tick_time.specs.declared.spans.Span.{Span}
+use Rattle.otio_model.specs.Patches.{Fits, goes, IsRoomFor, Suffices}
 
 -- the vectors of a spare have room for a replacement
 pub record HasRoom (s : Inside) (count long put : ℕ) : Type 0 where
@@ -39,33 +43,38 @@ both None P Q h k = absurd h
 both (Some l) P Q h k = (h, k)
 
 -- the children that the place leads to have what is taken out, and the spare has room
-pub roomy : (p : Patch) (t : Timeline) (place : List ℕ) (put : ℕ) → place ≡ p.place
-    → put ≡ length p.put → Fits p t → IsRoomFor p t
-    → IsSomeAnd (list_at place t.tracks.children) (λ l. (p.at + p.count ≤ length (items_of l))
-    × Holds p.count (length (items_of l)) put t.spare)
+pub roomy : (p : Patch) (t : Timeline) (place : List ℕ) → place ≡ p.place → Fits p t
+    → IsRoomFor p t
+    → IsSomeAnd (list_at place t.tracks.children)
+    (λ l. (p.at + goes p.put ≤ length (items_of l)) × Suffices p.put (length (items_of l)) t.spare)
 unfolding IsRoomFor
-roomy p t place put e n f r =
-    subst (λ q. IsSomeAnd (list_at q t.tracks.children) (λ l. (p.at + p.count ≤ length (items_of l))
-    × Holds p.count (length (items_of l)) put t.spare)) (sym e) (
-    subst (λ m. IsSomeAnd (list_at p.place t.tracks.children)
-    (λ l. (p.at + p.count ≤ length (items_of l))
-    × Holds p.count (length (items_of l)) m t.spare)) (sym n)
-    (both (list_at p.place t.tracks.children) (λ l. p.at + p.count ≤ length (items_of l))
-    (λ l. Holds p.count (length (items_of l)) (length p.put) t.spare) f r)
-    )
+roomy p t place e f r =
+    subst (λ q. IsSomeAnd (list_at q t.tracks.children) (λ l. (p.at + goes p.put ≤ length (items_of l))
+    × Suffices p.put (length (items_of l)) t.spare)) (sym e)
+    (both (list_at p.place t.tracks.children) (λ l. p.at + goes p.put ≤ length (items_of l))
+    (λ l. Suffices p.put (length (items_of l)) t.spare) f r)
 
 -- room that was made for the children that the place leads to
 pub room_made : (r : Result (Unit {0}) AllocError) (p : Patch) (t : Timeline) (l : Listed)
-    (place : List ℕ) (long put : ℕ) → place ≡ p.place → Some l ≡ list_at place t.tracks.children
-    → long ≡ length (items_of l) → put ≡ length p.put
-    → OnOk r (Holds p.count long put t.spare) → OnOk r (IsRoomFor p t)
+    (place : List ℕ) (long : ℕ) → place ≡ p.place → Some l ≡ list_at place t.tracks.children
+    → long ≡ length (items_of l) → OnOk r (Suffices p.put long t.spare) → OnOk r (IsRoomFor p t)
 unfolding IsRoomFor
-room_made (Err e) p t l place long put e1 e2 e3 e4 h = tt
-room_made (Ok u) p t l place long put e1 e2 e3 e4 h =
+room_made (Err e) p t l place long e1 e2 e3 h = tt
+room_made (Ok u) p t l place long e1 e2 e3 h =
     let there : list_at p.place t.tracks.children ≡ Some l =
     ap (λ q. list_at q t.tracks.children) (sym e1) ∙ sym e2 in
-    let holds : Holds p.count (length (items_of l)) (length p.put) t.spare =
-    subst (λ m. Holds p.count (length (items_of l)) m t.spare) e4
-    (subst (λ n. Holds p.count n put t.spare) e3 h) in
-    subst (λ o. IfSome o (λ l. Holds p.count (length (items_of l)) (length p.put) t.spare))
-    (sym there) holds
+    let suffices : Suffices p.put (length (items_of l)) t.spare =
+    subst (λ n. Suffices p.put n t.spare) e3 h in
+    subst (λ o. IfSome o (λ l. Suffices p.put (length (items_of l)) t.spare)) (sym there) suffices
+
+-- the same by what is put
+pub items_room : (r : Result (Unit {0}) AllocError) (q : Put) (count long n : ℕ)
+    (items : List (ItemOf Listed)) (s : Room) → q ≡ Items count items → n ≡ length items
+    → OnOk r (Holds count long n s) → OnOk r (Suffices q long s)
+items_room (Err e) q count long n items s f g h = tt
+items_room (Ok u) q count long n items s f g h =
+    subst (λ p. Suffices p long s) (sym f) (subst (λ m. Holds count long m s) g h)
+
+pub ranges_room : (q : Put) (long : ℕ) (rs : List (Option Span)) (s : Room) → q ≡ Ranges rs
+    → Suffices q long s
+ranges_room q long rs s f = subst (λ p. Suffices p long s) (sym f) tt

@@ -3,15 +3,14 @@
 ghost use Rattle.std.specs.Prelude.{◌≡◌, ◌↔◌, ◌+◌, ◌≤◌, IsTrue, OnOk};
 ghost use Rattle.std.specs.Option.{option_copied};
 ghost use Rattle.otio_model.specs.Trees as trees;
-ghost use Rattle.otio_model.specs.Patches.{IsFit, IsRoomFor, Takes, applied, undoing};
+ghost use Rattle.otio_model.specs.Patches.{IsFit, IsRoomFor, Takes, applied, goes, undoing};
 ghost use Rattle.otio_model.specs.Timelines.{bare};
 
 use crate::compositions::ItemOf;
 use crate::lists::{Item, Stack};
-use crate::patches::Patch;
-use crate::place_walk::{Stretch, children_at, replace_at};
+use crate::patches::{Patch, Put};
+use crate::place_walk::{children_at, replace_at};
 use crate::places::Place;
-use crate::put_items::PutItems;
 use crate::reserve::Spare;
 use json_value::Members;
 use sequences::Text;
@@ -100,7 +99,10 @@ impl Timeline {
             unreachable!()
         };
         let long = children.len();
-        self.spare.make(patch.count, long, patch.put.len())
+        match &patch.put {
+            Put::Items { count, items } => self.spare.make(*count, long, items.len()),
+            Put::Ranges(_) => Ok(()),
+        }
     }
 
     /// Replaces children of the track that the patch leads to, and hands back the patch that undoes
@@ -111,34 +113,33 @@ impl Timeline {
         ensures undo { result ≡ undoing patch self.old }
         ensures new { bare self.new ≡ applied patch (bare self.old) }
     {
-        let Patch {
-            place,
-            at,
-            count,
-            put,
-        } = patch;
-        let added = put.len();
-        let taken = replace_at(
+        let Patch { place, at, put } = patch;
+        let put = replace_at(
             &mut self.tracks.children,
             place.as_slice(),
-            Stretch { at, count },
-            put.into_held(),
+            at,
+            put,
             &mut self.spare,
         );
-        Patch {
-            place,
-            at,
-            count: added,
-            put: PutItems::of_held(taken),
-        }
+        Patch { place, at, put }
+    }
+}
+
+// How many children a patch takes out, or gives a source range.
+fn taken(put: &Put) -> usize
+    ensures { result ≡ goes put.now }
+{
+    match put {
+        Put::Items { count, items: _ } => *count,
+        Put::Ranges(ranges) => ranges.as_slice().len(),
     }
 }
 
 // Whether the patch takes out no more than so many children.
 fn is_within(patch: &Patch, children: usize) -> bool
-    ensures { IsTrue result ↔ (patch.now.at + patch.now.count ≤ children) }
+    ensures { IsTrue result ↔ (patch.now.at + goes patch.now.put ≤ children) }
 {
-    match patch.at.checked_add(patch.count) {
+    match patch.at.checked_add(taken(&patch.put)) {
         Some(end) => end <= children,
         None => false,
     }

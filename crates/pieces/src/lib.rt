@@ -17,5 +17,5 @@ pub use cutting::{CutFault, cut, is_whole, is_whole_at};
 pub use item_lengths::{known_ticks, member, sound_ticks, start_ticks, ticks_of};
 pub use list_backs::back_items;
 pub use list_fronts::{add_copy, front_items, new_gap, short_gap, with_last};
-pub use new_ranges::{RangedFault, ranged, ranged_within};
+pub use new_ranges::{RangedFault, new_range, ranged, ranged_within};
 pub use stripping::{is_stripped, strip};

@@ -86,6 +86,29 @@ fn with_range(item: Item, range: Span) -> Item
     }
 }
 
+/// The range of an item with this start and this length, in ticks, counted as [`ranged`] counts
+/// them. [`RangedFault::Range`] comes only where the start or the length lies beyond a million
+/// seconds.
+#[tactic(auto, using(crate::proofs::SameTimes::made_from, crate::proofs::SameTimes::far_start, crate::proofs::SameTimes::far_length))]
+pub fn new_range(item: &Item, start: i128, len: i128, rate: Rate) -> Result<Span, RangedFault>
+    requires { pos 0 ≤ℤ len }
+    ensures made { IfOk result
+        (λ span. children.made rate (children.Ranged item.now start len)
+        ≡ Some (children.with_range span item.now)) }
+    ensures fault { IfErr result (λ fault. fault ≡ RangedFault.Range) }
+    ensures far { IfErr result (λ _. is_far (children.Ranged item.now start len) ≡ true) }
+{
+    let start = match Time::near(start, start_rate(item, rate)) {
+        Ok(time) => time,
+        Err(_) => return Err(RangedFault::Range),
+    };
+    let len = match Time::near(len, length_rate(item, rate)) {
+        Ok(time) => time,
+        Err(_) => return Err(RangedFault::Range),
+    };
+    Ok(Span { start, len })
+}
+
 /// A copy of an item with this start and this length, in ticks. They are counted at the rates of
 /// the old start and length, or at the record rate `rate` where the item has no range; where they
 /// are no whole units of these, at the finest rate. [`RangedFault::Range`] comes only where the

@@ -8,6 +8,7 @@ use Rattle.otio_model.specs.declared.compositions.ItemOf.TheVariants.{Track}
 use Rattle.otio_model.specs.declared.compositions.Listed.{Listed}
 use Rattle.otio_model.specs.declared.edit_types.Edit.{Edit}
 use Rattle.otio_model.specs.declared.patches.Patch.{Patch}
+use Rattle.otio_model.specs.declared.patches.Put.TheVariants.{Items}
 use Rattle.otio_model.specs.declared.timelines.Timeline.{Timeline}
 use Rattle.otio_model.specs.Edits.{IsTrack, list_at, replaced}
 use Rattle.otio_model.specs.Misplaced.{side_by_side}
@@ -105,7 +106,7 @@ stays_writable t e new s h i v a =
     (made_apart false (rate_of t) (edited (frame_of t) e (list_of t e)) d.items d.are
     (edited_apart (frame_of t) e (list_of t e) calm (premises t e s i).suits)) in
     let q : Patch = record
-    { place = place_of e; at = 0; count = length (items_of l); put = d.items } in
+    { place = place_of e; at = 0; put = Items (length (items_of l)) d.items } in
     let fit : IsFit q t = record {
       track = subst (λ o. IsSomeAnd o IsTrack) (sym there) tt;
       within = subst (λ o. IsSomeAnd o (λ k. 0 + length (items_of l) ≤ length (items_of k)))

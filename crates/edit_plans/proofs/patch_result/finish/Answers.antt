@@ -1,6 +1,7 @@
 use Rattle.std.proofs.Common.{arith, sym, refl, ◌∙◌, subst, List}
 use Rattle.otio_model.specs.declared.compositions.ItemOf.{ItemOf}
 use Rattle.otio_model.specs.declared.compositions.Listed.{Listed}
+use Rattle.otio_model.specs.declared.patches.Put.TheVariants.{Items}
 use Rattle.edits.specs.Refusals.{too_long as refused_long, too_many as refused_many}
 use Rattle.edit_plans.specs.Planned.{IsPlan}
 use Rattle.edit_plans.proofs.Endings.{few_put, not_too_long, not_too_many, planned, too_long}
@@ -41,9 +42,7 @@ returns-clause-plan c = λ e m.
     (record {
       place = c.args.place;
       at = c.args.middle.at;
-      count = c.args.middle.count;
-      put =
-          l;
+      put = Items c.args.middle.count l;
     })) (sym c.of.ensures)
     (planned c.args.timeline.now e c.args.place c.args.middle.at c.args.middle.count
     c.args.middle.put.items c.requires.sound c.requires.few m

@@ -19,22 +19,22 @@ returns-then-at-lt0-clause-fault c =
 pub planned-requires-clause-there : goal.planned-requires-clause-there
 planned-requires-clause-there c = sym c.in-None.ensures
 
-pub finish-requires-clause-edit : goal.finish-requires-clause-edit
-finish-requires-clause-edit c =
+pub finished-requires-clause-edit : goal.finished-requires-clause-edit
+finished-requires-clause-edit c =
     let at = c.ranges.at in
-    (edit_of c.args.place c.args.at c.args.edges, (simp to_z-of_z at c.in-Ok.ensures.middle))
+    (edit_of c.args.place c.args.at c.args.edges, (simp to_z-of_z at c.in-Ok.ensures.plan))
 
 pub returns-in-Ok-clause-plan : goal.returns-in-Ok-clause-plan
 returns-in-Ok-clause-plan c =
     let at = c.ranges.at in
-    IfOk-weaker c.finish.result _ _ (λ p f. f (edit_of c.args.place c.args.at c.args.edges)
-    (simp to_z-of_z at c.in-Ok.ensures.middle)) c.finish.ensures.plan
+    IfOk-weaker c.finished.result _ _ (λ p f. f (edit_of c.args.place c.args.at c.args.edges)
+    (simp to_z-of_z at c.in-Ok.ensures.plan)) c.finished.ensures.plan
 
 pub returns-in-Ok-clause-fault : goal.returns-in-Ok-clause-fault
 returns-in-Ok-clause-fault c =
     let at = c.ranges.at in
-    IfErr-weaker c.finish.result _ _ (λ p f _. f (edit_of c.args.place c.args.at c.args.edges)
-    (simp to_z-of_z at c.in-Ok.ensures.middle)) c.finish.ensures.fault
+    IfErr-weaker c.finished.result _ _ (λ p f _. f (edit_of c.args.place c.args.at c.args.edges)
+    (simp to_z-of_z at c.in-Ok.ensures.plan)) c.finished.ensures.fault
 
 pub returns-in-Err-clause-fault : goal.returns-in-Err-clause-fault
 returns-in-Err-clause-fault c =

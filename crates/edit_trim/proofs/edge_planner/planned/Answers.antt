@@ -3,7 +3,7 @@ use mir.Syntax.{w128}
 use Rattle.std.proofs.lemmas.Int.{to_z-of_z}
 use Rattle.otio_model.specs.Trees.{items_of}
 use Rattle.edits.specs.After.{frame_of}
-use Rattle.edit_trim.proofs.Planning.{found, lacks, middle_is, pins, suits, too_far}
+use Rattle.edit_trim.proofs.Planning.{found, lacks, pins, plan_is, suits, too_far}
 use Rattle.edit_trim.proofs.edge_planner.planned.Goals as goal
 
 pub returns-in-Err-clause-fault : goal.returns-in-Err-clause-fault
@@ -27,8 +27,8 @@ returns-in-Err-pinned-clause-fault c =
     c.in-Err-pinned.fault c.track_of-children.ensures.list c.requires.there c.requires.low w
     c.growth.ensures ((simp to_z-of_z at c.in-Err-pinned.ensures.fault) n)
 
-pub middle_of-requires-clause-held : goal.middle_of-requires-clause-held
-middle_of-requires-clause-held c =
+pub planned_by-requires-clause-held : goal.planned_by-requires-clause-held
+planned_by-requires-clause-held c =
     let w = found c.args.timeline.now c.frame_at.result c.args.at c.args.edges
     (items_of c.track_of-children.result.now) c.in-Ok.found.seat c.in-Ok.found.motion
     (search rules) c.ranges.at
@@ -36,21 +36,19 @@ middle_of-requires-clause-held c =
     suits (frame_of c.args.timeline.now) _ c.args.edges (items_of c.track_of-children.result.now)
     c.in-Ok.found.seat c.in-Ok.found.motion w
 
-pub returns-in-Ok-middle_of-clause-middle : goal.returns-in-Ok-middle_of-clause-middle
-returns-in-Ok-middle_of-clause-middle c =
+pub returns-in-Ok-planned_by-clause-plan : goal.returns-in-Ok-planned_by-clause-plan
+returns-in-Ok-planned_by-clause-plan c =
     let w = found c.args.timeline.now c.frame_at.result c.args.at c.args.edges
     (items_of c.track_of-children.result.now) c.in-Ok.found.seat c.in-Ok.found.motion
     (search rules) c.ranges.at
     (c.frame_at.ensures.value c.args.timeline.now c.edit_rate-rate.ensures) c.in-Ok.ensures.found in
     let fits : FitsSigned w128 c.growth.result = search rules in
-    middle_is c.args.timeline.now c.args.place.now c.args.at c.growth.result c.args.edges
+    plan_is c.args.timeline.now c.args.place.now c.args.at c.growth.result c.args.edges
     c.in-Ok.found.seat c.in-Ok.found.motion (items_of c.track_of-children.result.now)
-    c.in-Ok-middle_of.middle.put.items c.edit_rate-rate.result c.in-Ok-middle_of.middle.at
-    c.in-Ok-middle_of.middle.count c.track_of-children.ensures.list c.edit_rate-rate.ensures
+    c.edit_rate-rate.result c.in-Ok-planned_by.made c.track_of-children.ensures.list
+    c.edit_rate-rate.ensures
     c.requires.there c.requires.low w c.growth.ensures
-    (simp to_z-of_z at c.in-Ok-pinned.ensures.ok) c.in-Ok-middle_of.ensures.within
-    c.in-Ok-middle_of.ensures.made c.in-Ok-middle_of.ensures.count
-    c.in-Ok-middle_of.ensures.few
+    (simp to_z-of_z at c.in-Ok-pinned.ensures.ok) c.in-Ok-planned_by.ensures.made
 
 pub returns-in-Err-Range-clause-fault : goal.returns-in-Err-Range-clause-fault
 returns-in-Err-Range-clause-fault c =

@@ -1,4 +1,4 @@
--- The pieces are counted and summed anew.
+-- The pieces are counted and summed again.
 use Rattle.std.proofs.Common.{arith, ap, sym, ◌∙◌, length, subst}
 use Rattle.otio_model.specs.Trees.{listed}
 use Rattle.otio_model.specs.Edits.{replaced}
@@ -7,7 +7,7 @@ use Rattle.otio_model.specs.Pieces.{AllPieces, all_items}
 use Rattle.otio_model.specs.PutItems.{items_held}
 use Rattle.otio_model.proofs.Views.{shown}
 use Rattle.otio_model.proofs.Windows.{length_replaced}
-use Rattle.otio_model.proofs.place_walk.replace.Goals as goal
+use Rattle.otio_model.proofs.place_walk.replace_some.Goals as goal
 
 pub number-requires : goal.number-requires
 number-requires c =
