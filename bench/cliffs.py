@@ -142,15 +142,20 @@ def nested_tracks(size):
 
 
 def moved_beside(size, moved, kind):
-    """Three items, of which the first carries much: its neighbour is moved, or what it shows."""
-    lines = {'slide': lambda index: f'slide 0 {10 * LENGTH + 5} {1 - 2 * (index % 2)}', 'slip': lambda index: f'slip 0 {5 * LENGTH} {1 - 2 * (index % 2)}'}
+    """Three items, of which the first carries much: its neighbour is moved or trimmed, or what it shows."""
+    by = lambda index: 1 - 2 * (index % 2)
+    lines = {
+        'slide': lambda index: f'slide 0 {10 * LENGTH + 5} {by(index)}',
+        'trim': lambda index: f'trim 0 {10 * LENGTH + 5} {by(index)} 0',
+        'slip': lambda index: f'slip 0 {5 * LENGTH} {by(index)}',
+    }
     items = [moved, clip(1), clip(2)]
     return edited(timeline([track(items)]), numbered(size, lines[kind]))
 
 
-def full_stack(size):
+def full_stack(size, kind):
     more = f',"source_range":{time_range(0, 10 * LENGTH)}'
-    return moved_beside(max(2, size * 2 // 10), stack([clip(index, '', 100 * LENGTH) for index in range(49 * size)], more), 'slide')
+    return moved_beside(max(2, size * 2 // 10), stack([clip(index, '', 100 * LENGTH) for index in range(49 * size)], more), kind)
 
 
 def full_metadata(size):
@@ -219,7 +224,8 @@ SHAPES = [
     ('90 000 media references of other keys, 10 000 frames', no_media),
     ('a stack of 10 000 disabled clips, 100 000 frames', dark_stack),
     ('a nested stack of 49 000 tracks, 10 000 overwrites in one', nested_tracks),
-    ('a nested stack of 49 000 clips, 200 slides next to it', full_stack),
+    ('a nested stack of 49 000 clips, 200 slides next to it', lambda size: full_stack(size, 'slide')),
+    ('the same, 200 trims', lambda size: full_stack(size, 'trim')),
     ('metadata of a million numbers, 60 slips', full_metadata),
     ('a clip of 20 000 markers, 200 slips', full_markers),
     ('a clip of 10 000 effects, 1 000 slips', full_effects),
