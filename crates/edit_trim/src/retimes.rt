@@ -191,7 +191,7 @@ fn first_ranges(
     }
 }
 
-// Source ranges before an item, its own, and those behind it.
+// Source ranges before an item, its own, and those after it.
 fn joined(
     before: Vec<Option<Span>>,
     range: Option<Span>,

@@ -9,7 +9,7 @@ use std::alloc::{AllocError, Global};
 use std::marker::Model;
 
 /// A list of values in order. The list itself takes 16 bytes, and no other memory where it is
-/// empty; one value lies in memory for no more.
+/// empty.
 pub struct Fitted<T> {
     row: Row<T>,
 }
