@@ -4,3 +4,4 @@ pub mod BufferLemmas
 pub mod PartLemmas
 pub mod Leaving
 pub mod Walks
+pub mod Reading

@@ -10,6 +10,7 @@ mod numbers;
 mod output;
 mod output_faults;
 mod real;
+mod retries;
 mod schedule;
 
 pub use buffer::{BUFFER_SIZE, OutBuffer, write_parts};
@@ -20,3 +21,4 @@ pub use numbers::{put_large, put_number, put_signed};
 pub use output::{Out, WriteFault, write_all};
 pub use output_faults::OutputFault;
 pub use real::{RealFiles, RealOut};
+pub use retries::read_retrying;

@@ -8,13 +8,11 @@ ghost use Rattle.dev_io.specs.Timetable.{raised, raised_if, is_failed};
 use crate::call_record::{CallRecord, after_aim, after_bytes, after_open, after_read};
 use crate::files::{Failed, Files, Opened};
 use crate::output::Out;
+use crate::retries::{RETRIES, read_retrying};
 use std::fs::File;
 use std::io;
 use std::io::{ErrorKind, Read, Write};
 use std::rt::Files as System;
-
-// How often a read or a write that a signal interrupts is made again.
-const RETRIES: usize = 1000;
 
 // The file in hand.
 #[derive(Drop)]
@@ -68,31 +66,16 @@ impl<R: System + Input> RealFiles<R> {
     }
 
     // Reads the next bytes of the file in hand, and none where there is none.
-    fn read_once(&mut self, buf: &mut [u8]) -> io::Result<usize>
+    fn read_some(&mut self, buf: &mut [u8]) -> io::Result<usize>
         ensures bound { ReadsAtMost result buf.new }
         ensures faults { file_faults self.new ≡ file_faults self.old }
         ensures handed { file_calls self.new ≡ file_calls self.old }
     {
         match &mut self.hand {
             Hand::Nothing => Ok(0),
-            Hand::File(file) => file.read(buf),
-            Hand::Input(input) => input.read(buf),
+            Hand::File(file) => read_retrying(file, buf),
+            Hand::Input(input) => read_retrying(input, buf),
         }
-    }
-
-    // Reads, and again where that was interrupted.
-    fn read_some(&mut self, buf: &mut [u8]) -> io::Result<usize>
-        ensures bound { ReadsAtMost result buf.new }
-        ensures faults { file_faults self.new ≡ file_faults self.old }
-        ensures handed { file_calls self.new ≡ file_calls self.old }
-    {
-        'tries: for _ in 0..RETRIES {
-            match self.read_once(buf) {
-                Err(error) if error.kind() == ErrorKind::Interrupted => {}
-                result => return result,
-            }
-        }
-        self.read_once(buf)
     }
 
     // Opens the file of that name, and counts an error.

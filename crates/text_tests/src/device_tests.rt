@@ -1,6 +1,7 @@
 // The devices of the system, and each public call where nothing fails.
 use dev_io::*;
 use std::alloc::{AllocError, Global};
+use std::io::{ErrorKind, Read};
 use std::process::Abort;
 use std::test::Fail;
 use std::{fs, io};
@@ -88,6 +89,47 @@ fn a_real_file_is_written(rt: HostRuntime) {
     text_is(&rt, fs::read_to_string(&rt, "made"), "some text");
     outcome_is(&rt, out.aim("no/folder"), Err(Failed));
     drop(out);
+}
+
+// A reader of one text whose first `interruptions` reads are interrupted.
+#[derive(Drop)]
+struct Interrupted {
+    interruptions: usize,
+    text: &'static [u8],
+}
+
+impl Read for Interrupted {
+    fn read(&mut self, buf: &mut [u8]) -> io::Result<usize> {
+        if self.interruptions > 0 {
+            self.interruptions -= 1;
+            return Err(ErrorKind::Interrupted.into());
+        }
+        let count = self.text.len().min(buf.len());
+        buf[..count].copy_from_slice(&self.text[..count]);
+        self.text = &self.text[count..];
+        Ok(count)
+    }
+}
+
+fn gives(rt: &impl Abort, input: &mut Interrupted, bytes: &[u8]) {
+    let mut buf = [0; 4];
+    let count = read_retrying(input, &mut buf).expect(rt, "a read");
+    assert!(rt; &buf[..count] == bytes);
+}
+
+#[test]
+fn an_interrupted_read_is_not_the_end(rt: HostRuntime) {
+    let mut input = Interrupted {
+        interruptions: 1,
+        text: b"a text",
+    };
+    gives(&rt, &mut input, b"a te");
+    input.interruptions = 1_000;
+    gives(&rt, &mut input, b"xt");
+    gives(&rt, &mut input, b"");
+    input.interruptions = 1_001;
+    let stopped = read_retrying(&mut input, &mut [0; 4]);
+    assert!(rt; stopped.is_err_and(|error| error.kind() == ErrorKind::Interrupted));
 }
 
 fn put_files(files: &mut MemFiles) -> Result<(), AllocError> {
