@@ -52,7 +52,7 @@ static FILES: [Named; 7] = [
 
 fn put_timelines(alloc: Global, files: &mut MemFiles) -> Result<(), AllocError> {
     put_text(files, "x.otio", three_tracks(alloc))?;
-    let a = ("a.mov", Some(0), 10);
+    let a = ("a.mov", 0, 10);
     put_text(files, "a.otio", one_track(alloc, &[a]))?;
     put_text(files, "cut.otio", crossed_track(alloc, [20, 20], [0, 4]))?;
     put_text(files, "late.otio", crossed_track(alloc, [10, 3], [2, 8]))

@@ -1,4 +1,4 @@
-//! Runs of command lines over files in memory, and what is held against them.
+//! Runs of command lines over files and streams in memory, and what is held against them.
 
 ghost use Rattle.std.specs.Prelude.{◌<◌, IfOk, Some};
 ghost use Rattle.dev_io.specs.Calls.{IsFresh};
@@ -10,9 +10,6 @@ use std::alloc::{AllocError, Global};
 use std::mem::forget;
 use std::process::Abort;
 use std::test::Fail;
-
-/// How many lines the usage text has.
-const USAGE_LINES: usize = 10;
 
 /// How many bytes a stream has room for.
 const ROOM: usize = 120_000;
@@ -58,8 +55,8 @@ pub struct Answer {
     pub err: MemOut,
 }
 
-/// Adds files.
-pub fn put_all(files: &mut MemFiles, named: &[Named]) -> Result<(), AllocError> {
+// Adds files.
+fn put_all(files: &mut MemFiles, named: &[Named]) -> Result<(), AllocError> {
     for (name, bytes) in named {
         files.put(name, bytes)?;
     }
@@ -93,8 +90,8 @@ fn words_of(alloc: Global, line: &str) -> Result<Vec<String>, AllocError> {
     Ok(words)
 }
 
-/// How a command line ends over these files.
-pub fn status_of<W: Out, E: Out>(
+// How a command line ends over these files.
+fn status_of<W: Out, E: Out>(
     alloc: Global,
     line: &str,
     files: &mut MemFiles,
@@ -148,13 +145,9 @@ pub fn ended(rt: &impl Abort, line: &str, answer: &Answer, status: Status) {
     assert!(rt; answer.status == status, "{line}");
 }
 
-fn has_sent(rt: &impl Abort, line: &str, stream: &MemOut, bytes: &[u8]) {
-    assert!(rt; stream.sent() == bytes, "{line}");
-}
-
 /// Holds that these bytes were sent, and that no name was aimed at.
 pub fn was_sent(rt: &impl Abort, line: &str, stream: &MemOut, bytes: &[u8]) {
-    has_sent(rt, line, stream, bytes);
+    assert!(rt; stream.sent() == bytes, "{line}");
     assert!(rt; stream.target().is_none(), "{line}");
 }
 
@@ -179,8 +172,8 @@ pub fn check_case_over(
     Ok(())
 }
 
-/// Holds the status, the output and the message of a command line against those of the case.
-pub fn check_case(
+// Holds the status, the output and the message of a command line against those of the case.
+fn check_case(
     rt: &impl Abort,
     alloc: Global,
     files: &mut MemFiles,
@@ -189,7 +182,7 @@ pub fn check_case(
     check_case_over(rt, alloc, files, case, WHOLE_BOTH)
 }
 
-/// Holds each of some cases over the same files.
+/// Holds each of some cases over these files.
 pub fn check_cases(
     rt: &impl Abort,
     alloc: Global,
@@ -200,19 +193,6 @@ pub fn check_cases(
         check_case(rt, alloc, files, case)?;
     }
     Ok(())
-}
-
-/// Holds each of some cases over these files.
-pub fn check_all(
-    rt: &impl Abort,
-    alloc: Global,
-    named: &[Named],
-    cases: &[Case<'_>],
-) -> Result<(), Fail> {
-    let mut files = files_of(alloc, named)?;
-    let held = check_cases(rt, alloc, &mut files, cases);
-    drop(files);
-    held
 }
 
 /// Holds a case over these files, of which a read gives at most so many bytes, and that call fails;
@@ -247,118 +227,10 @@ pub fn done(
     Ok(answer)
 }
 
-/// Adds a file of what a command line sends. Holds that it is done, and that nothing is told.
-pub fn put_output(
-    rt: &impl Abort,
-    alloc: Global,
-    files: &mut MemFiles,
-    line: &str,
-    name: &str,
-) -> Result<(), Fail> {
-    let answer = done(rt, alloc, files, line)?;
-    let put = files.put(name, answer.out.sent());
-    drop(answer);
-    put?;
-    Ok(())
-}
-
-/// Holds that a stream is aimed at that name.
-pub fn is_aimed(rt: &impl Abort, stream: &MemOut, name: &str) {
-    assert!(rt; stream.target() == Some(name));
-}
-
-/// Holds that a command line is done over these files, and sends this file.
-pub fn check_target(
-    rt: &impl Abort,
-    alloc: Global,
-    named: &[Named],
-    line: &str,
-    sent: &Named,
-) -> Result<(), Fail> {
-    let (target, output) = *sent;
-    let mut files = files_of(alloc, named)?;
-    let answered = done(rt, alloc, &mut files, line);
-    drop(files);
-    let answer = answered?;
-    is_aimed(rt, &answer.out, target);
-    has_sent(rt, line, &answer.out, output);
-    drop(answer);
-    Ok(())
-}
-
-/// How many lines end in these bytes.
-pub fn line_count(bytes: &[u8]) -> usize {
-    bytes.iter().filter(|b| **b == b'\n').count()
-}
-
-// The answer to a command line. Holds that it has this status, and that nothing is sent.
-fn not_done(
-    rt: &impl Abort,
-    alloc: Global,
-    files: &mut MemFiles,
-    line: &str,
-    status: Status,
-) -> Result<Answer, Fail> {
-    let answer = answer_to(alloc, files, line)?;
-    ended(rt, line, &answer, status);
-    was_sent(rt, line, &answer.out, b"");
-    Ok(answer)
-}
-
-// Holds that these bytes are the usage text.
-fn is_usage(rt: &impl Abort, line: &str, told: &[u8]) {
-    assert!(rt;
-        told.starts_with(b"otio: usage\n  otio convert ["),
-        "{line}"
-    );
-    assert!(rt; line_count(told) == USAGE_LINES, "{line}");
-}
-
-/// Holds that each of some command lines is answered by the usage text alone.
-pub fn check_usages(
-    rt: &impl Abort,
-    alloc: Global,
-    files: &mut MemFiles,
-    lines: &[&str],
-) -> Result<(), Fail> {
-    for line in lines {
-        let answer = not_done(rt, alloc, files, line, Status::Usage)?;
-        is_usage(rt, line, answer.err.sent());
-        drop(answer);
-    }
-    Ok(())
-}
-
-/// Holds the same over these files.
-pub fn check_all_usages(
-    rt: &impl Abort,
-    alloc: Global,
-    named: &[Named],
-    lines: &[&str],
-) -> Result<(), Fail> {
-    let mut files = files_of(alloc, named)?;
-    let held = check_usages(rt, alloc, &mut files, lines);
-    drop(files);
-    held
-}
-
-/// Holds that a command line is refused, and that nothing is sent and no output aimed at.
-pub fn check_refused(
-    rt: &impl Abort,
-    alloc: Global,
-    files: &mut MemFiles,
-    line: &str,
-) -> Result<(), Fail> {
-    let answer = not_done(rt, alloc, files, line, Status::Refused)?;
-    assert!(rt; !answer.err.sent().is_empty(), "{line}");
-    drop(answer);
-    Ok(())
-}
-
 /// A command line, and what it sends.
 pub type Sends<'a> = (&'a str, &'a [u8]);
 
-// Holds that an output in pieces of 16 bytes of which that call fails is told of, behind a part of
+// Holds that an output in pieces of 16 bytes of which that call fails is told of, after a part of
 // the whole.
 fn check_cut_off(
     rt: &impl Abort,
@@ -383,10 +255,10 @@ pub fn check_cut_offs(
     rt: &impl Abort,
     alloc: Global,
     files: &mut MemFiles,
-    behind: u64,
+    end: u64,
     sends: Sends<'_>,
 ) -> Result<(), Fail> {
-    for failing in 1..behind {
+    for failing in 1..end {
         check_cut_off(rt, alloc, files, failing, sends)?;
     }
     Ok(())

@@ -190,7 +190,7 @@ fn check_reached(rt: &impl Abort, alloc: Global, timeline: &Timeline) -> Result<
 #[test]
 fn places_are_reached(rt: HostRuntime) -> Result<(), Fail> {
     let alloc = rt.alloc();
-    match timeline_of(alloc, nested_track(alloc, true))? {
+    match timeline_of(alloc, nested_track(alloc))? {
         Some(timeline) => {
             let held = check_reached(&rt, alloc, &timeline);
             forget(timeline);
@@ -260,7 +260,7 @@ fn check_first_cut(rt: &impl Abort, alloc: Global, timeline: &Timeline) -> Resul
 #[test]
 fn lists_are_cut(rt: HostRuntime) -> Result<(), Fail> {
     let alloc = rt.alloc();
-    let two = [("a.mov", Some(0), 10), ("b.mov", Some(0), 10)];
+    let two = [("a.mov", 0, 10), ("b.mov", 0, 10)];
     match timeline_of(alloc, one_track(alloc, &two))? {
         Some(timeline) => {
             let held = check_first_cut(&rt, alloc, &timeline);
@@ -305,7 +305,7 @@ fn joined_len(alloc: Global, first: Timeline, second: Timeline) -> Option<usize>
 #[test]
 fn timelines_are_joined(rt: HostRuntime) -> Result<(), Fail> {
     let alloc = rt.alloc();
-    let text = one_track(alloc, &[("a.mov", Some(0), 10)]);
+    let text = one_track(alloc, &[("a.mov", 0, 10)]);
     let len = match timeline_of(alloc, text)? {
         Some(first) => match timeline_of(alloc, two_layers(alloc)) {
             Ok(Some(second)) => joined_len(alloc, first, second),

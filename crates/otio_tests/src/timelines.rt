@@ -9,8 +9,8 @@ const ROOT: &str =
 
 const TRACK: &str = "{\"OTIO_SCHEMA\":\"Track.1\",\"children\":[";
 
-/// Adds texts, one after another.
-pub fn put_parts(text: &mut String, parts: &[&str]) -> Result<(), AllocError> {
+// Adds texts, one after another.
+fn put_parts(text: &mut String, parts: &[&str]) -> Result<(), AllocError> {
     for part in parts {
         text.push_str(part)?;
     }
@@ -24,8 +24,8 @@ fn put_time(text: &mut String, frames: u32) -> Result<(), AllocError> {
     put_parts(text, &[front, digits.format(frames), "}"])
 }
 
-/// The JSON of a span of so many frames.
-pub fn put_span(text: &mut String, start: u32, length: u32) -> Result<(), AllocError> {
+// The JSON of a span of so many frames.
+fn put_span(text: &mut String, start: u32, length: u32) -> Result<(), AllocError> {
     text.push_str("{\"OTIO_SCHEMA\":\"TimeRange.1\",\"start_time\":")?;
     put_time(text, start)?;
     text.push_str(",\"duration\":")?;
@@ -33,15 +33,15 @@ pub fn put_span(text: &mut String, start: u32, length: u32) -> Result<(), AllocE
     text.push_str("}")
 }
 
-/// A gap of so many frames.
-pub fn put_gap(text: &mut String, length: u32) -> Result<(), AllocError> {
+// A gap of so many frames.
+fn put_gap(text: &mut String, length: u32) -> Result<(), AllocError> {
     text.push_str("{\"OTIO_SCHEMA\":\"Gap.1\",\"source_range\":")?;
     put_span(text, 0, length)?;
     text.push_str("}")
 }
 
-/// A clip of media that are there from 0 for 240 frames.
-pub fn put_clip(text: &mut String, start: u32, length: u32, url: &str) -> Result<(), AllocError> {
+// A clip of media that are there from 0 for 240 frames.
+fn put_clip(text: &mut String, start: u32, length: u32, url: &str) -> Result<(), AllocError> {
     text.push_str("{\"OTIO_SCHEMA\":\"Clip.2\",\"source_range\":")?;
     put_span(text, start, length)?;
     text.push_str(
@@ -51,13 +51,13 @@ pub fn put_clip(text: &mut String, start: u32, length: u32, url: &str) -> Result
     put_parts(text, &[",\"target_url\":\"", url, "\"}}"])
 }
 
-// What stands between two clips with a dissolve: its offsets before and behind the cut.
+// What stands between two clips with a dissolve: its offsets before and after the cut.
 fn put_cross(text: &mut String, offsets: [u32; 2]) -> Result<(), AllocError> {
-    let [before, behind] = offsets;
+    let [before, after] = offsets;
     text.push_str("},{\"OTIO_SCHEMA\":\"Transition.1\",\"in_offset\":")?;
     put_time(text, before)?;
     text.push_str(",\"out_offset\":")?;
-    put_time(text, behind)?;
+    put_time(text, after)?;
     text.push_str("},")
 }
 
@@ -95,7 +95,7 @@ fn put_crossed_track(
 }
 
 /// A track of two clips with a dissolve between them: their lengths, and the offsets before and
-/// behind the cut.
+/// after the cut.
 pub fn crossed_track(
     alloc: Global,
     lengths: [u32; 2],
@@ -137,49 +137,38 @@ fn put_three_tracks(text: &mut String) -> Result<(), AllocError> {
 }
 
 /// A timeline that starts at frame 86400: two clips of 48 frames with a dissolve of 12 between
-/// them, the fast clip behind its gap, and sound.
+/// them, the fast clip after its gap, and sound.
 pub fn three_tracks(alloc: Global) -> Result<String, AllocError> {
     let mut text = String::new(alloc);
     put_three_tracks(&mut text)?;
     Ok(text)
 }
 
-fn put_one_track(text: &mut String, items: &[(&str, Option<u32>, u32)]) -> Result<(), AllocError> {
+fn put_one_track(text: &mut String, items: &[(&str, u32, u32)]) -> Result<(), AllocError> {
     text.push_str(ROOT)?;
     text.push_str(TRACK)?;
     let mut lead = "";
     for (url, start, length) in items {
         text.push_str(lead)?;
         lead = ",";
-        match start {
-            Some(first) => {
-                put_clip(text, *first, *length, url)?;
-                text.push_str("}")?;
-            }
-            None => put_gap(text, *length)?,
-        }
+        put_clip(text, *start, *length, url)?;
+        text.push_str("}")?;
     }
     text.push_str("]}]}}")
 }
 
-/// A track of a clip of each of these starts and lengths, the media of each named by its letter.
-/// A start of none is a gap.
-pub fn one_track(alloc: Global, items: &[(&str, Option<u32>, u32)]) -> Result<String, AllocError> {
+/// A track of a clip of each of these media, starts and lengths.
+pub fn one_track(alloc: Global, items: &[(&str, u32, u32)]) -> Result<String, AllocError> {
     let mut text = String::new(alloc);
     put_one_track(&mut text, items)?;
     Ok(text)
 }
 
-// A composition at twice its speed, of a track of two clips of 30 frames, and of 20 frames where it
-// has a range of its own.
-fn put_stack(text: &mut String, ranged: bool) -> Result<(), AllocError> {
-    text.push_str("{\"OTIO_SCHEMA\":\"Stack.1\",")?;
-    if ranged {
-        text.push_str("\"source_range\":")?;
-        put_span(text, 0, 20)?;
-        text.push_str(",")?;
-    }
-    text.push_str("\"effects\":[{\"OTIO_SCHEMA\":\"LinearTimeWarp.1\",\"time_scalar\":2.0}],")?;
+// Twenty frames of a composition at twice its speed, of a track of two clips of 30 frames.
+fn put_stack(text: &mut String) -> Result<(), AllocError> {
+    text.push_str("{\"OTIO_SCHEMA\":\"Stack.1\",\"source_range\":")?;
+    put_span(text, 0, 20)?;
+    text.push_str(",\"effects\":[{\"OTIO_SCHEMA\":\"LinearTimeWarp.1\",\"time_scalar\":2.0}],")?;
     text.push_str("\"children\":[{\"OTIO_SCHEMA\":\"Track.1\",\"children\":[")?;
     put_clip(text, 0, 30, "q.mov")?;
     text.push_str("},")?;
@@ -187,20 +176,38 @@ fn put_stack(text: &mut String, ranged: bool) -> Result<(), AllocError> {
     text.push_str("}]}]}")
 }
 
-fn put_nested_track(text: &mut String, ranged: bool) -> Result<(), AllocError> {
+fn put_nested_track(text: &mut String) -> Result<(), AllocError> {
     text.push_str(ROOT)?;
     text.push_str(TRACK)?;
     put_clip(text, 0, 10, "p.mov")?;
     text.push_str("},")?;
-    put_stack(text, ranged)?;
+    put_stack(text)?;
     text.push_str(",")?;
     put_clip(text, 0, 10, "z.mov")?;
     text.push_str("}]}]}}")
 }
 
-/// A track of a clip, such a composition, with a range of its own or without, and a clip.
-pub fn nested_track(alloc: Global, ranged: bool) -> Result<String, AllocError> {
+/// A track of a clip, such a composition, and a clip.
+pub fn nested_track(alloc: Global) -> Result<String, AllocError> {
     let mut text = String::new(alloc);
-    put_nested_track(&mut text, ranged)?;
+    put_nested_track(&mut text)?;
+    Ok(text)
+}
+
+fn put_gaps(text: &mut String, count: usize) -> Result<(), AllocError> {
+    text.push_str(r#"{"OTIO_SCHEMA":"Timeline.1","tracks":{"OTIO_SCHEMA":"Stack.1","children":["#)?;
+    for index in 0..count {
+        if index > 0 {
+            text.push_str(",")?;
+        }
+        text.push_str(r#"{"OTIO_SCHEMA":"Gap.1"}"#)?;
+    }
+    text.push_str("]}}")
+}
+
+/// A timeline of so many gaps.
+pub fn gaps(alloc: Global, count: usize) -> Result<String, AllocError> {
+    let mut text = String::new(alloc);
+    put_gaps(&mut text, count)?;
     Ok(text)
 }

@@ -1,128 +1,33 @@
-//! Objects that are read and written again, also by way of their JSON values, and texts that stand
-//! for none.
+//! Calls on objects that no command makes: their JSON values, also in the older family.
 
-use crate::runs::{
-    Answer, Case, Manner, Streams, WHOLE, WHOLE_BOTH, check_case, check_case_over, done, put_text,
-};
-use crate::texts::{OLDER, REFUSED, REWRITTEN};
+use crate::texts::{OLDER, REWRITTEN};
+use crate::timelines::gaps;
 use dev_io::{MemFiles, MemOut};
 use json_text::write_json;
 use otio_model::Object;
-use otio_tools::Status;
 use schema_write::{FamilyFault, json_of, json_of_old};
 use source_files::object_file;
 use std::alloc::{AllocError, Global};
 use std::mem::forget;
-use std::process::Abort;
 use std::test::Fail;
 
-/// Whether bytes are those of a text, blanks and line feeds aside.
-pub fn is_squeezed(bytes: &[u8], text: &[u8]) -> bool {
+// Whether bytes are those of a text, blanks and line feeds aside.
+fn is_squeezed(bytes: &[u8], text: &[u8]) -> bool {
     let mut rest = text;
     for byte in bytes {
         if *byte != b' ' && *byte != b'\n' {
             match rest.split_first() {
-                Some((first, behind)) => {
+                Some((first, after)) => {
                     if first != byte {
                         return false;
                     }
-                    rest = behind;
+                    rest = after;
                 }
                 None => return false,
             }
         }
     }
     rest.is_empty()
-}
-
-// Holds that what was sent is this text, blanks and line feeds aside.
-fn has_squeezed(rt: &impl Abort, answer: &Answer, wanted: &str) {
-    assert!(rt;
-        is_squeezed(answer.out.sent(), wanted.as_bytes()),
-        "{wanted}"
-    );
-}
-
-/// Holds that a command line is done, and sends this text, blanks and line feeds aside.
-pub fn check_squeezed(
-    rt: &impl Abort,
-    alloc: Global,
-    files: &mut MemFiles,
-    line: &str,
-    wanted: &str,
-) -> Result<(), Fail> {
-    let answer = done(rt, alloc, files, line)?;
-    has_squeezed(rt, &answer, wanted);
-    drop(answer);
-    Ok(())
-}
-
-fn check_rewritten(rt: &impl Abort, alloc: Global, files: &mut MemFiles) -> Result<(), Fail> {
-    for case in &REWRITTEN {
-        files.put("a.otio", case.text.as_bytes())?;
-        check_squeezed(rt, alloc, files, "convert a.otio", case.written)?;
-    }
-    Ok(())
-}
-
-fn check_refused(rt: &impl Abort, alloc: Global, files: &mut MemFiles) -> Result<(), Fail> {
-    for case in &REFUSED {
-        files.put("a.otio", case.text.as_bytes())?;
-        let told = case.told.as_bytes();
-        let refused: Case<'_> = ("convert a.otio", Status::Refused, b"", told);
-        check_case(rt, alloc, files, &refused)?;
-    }
-    Ok(())
-}
-
-#[test]
-fn objects_are_written_again(rt: HostRuntime) -> Result<(), Fail> {
-    let mut files = MemFiles::new(rt.alloc());
-    let held = check_rewritten(&rt, rt.alloc(), &mut files);
-    drop(files);
-    held
-}
-
-#[test]
-fn first_faults_are_told(rt: HostRuntime) -> Result<(), Fail> {
-    let mut files = MemFiles::new(rt.alloc());
-    let held = check_refused(&rt, rt.alloc(), &mut files);
-    drop(files);
-    held
-}
-
-fn put_gaps(text: &mut String, count: usize) -> Result<(), AllocError> {
-    text.push_str(r#"{"OTIO_SCHEMA":"Timeline.1","tracks":{"OTIO_SCHEMA":"Stack.1","children":["#)?;
-    for index in 0..count {
-        if index > 0 {
-            text.push_str(",")?;
-        }
-        text.push_str(r#"{"OTIO_SCHEMA":"Gap.1"}"#)?;
-    }
-    text.push_str("]}}")
-}
-
-// The text of a timeline of so many gaps.
-fn gaps(alloc: Global, count: usize) -> Result<String, AllocError> {
-    let mut text = String::new(alloc);
-    put_gaps(&mut text, count)?;
-    Ok(text)
-}
-
-#[test]
-fn a_timeline_of_1000_gaps_is_read(rt: HostRuntime) -> Result<(), Fail> {
-    let out = Manner {
-        failing: 1,
-        ..WHOLE
-    };
-    let streams = Streams { out, ..WHOLE_BOTH };
-    let told = b"otio: output failed\n";
-    let case: Case = ("convert a.otio", Status::Output, b"", told);
-    let mut files = MemFiles::new(rt.alloc());
-    put_text(&mut files, "a.otio", gaps(rt.alloc(), 1_000))?;
-    let held = check_case_over(&rt, rt.alloc(), &mut files, &case, streams);
-    drop(files);
-    held
 }
 
 // The object that the file `a.otio` stands for; none where it stands for none.
