@@ -9,7 +9,8 @@ has to be done and tell nothing, or be refused (status 1) with no output and one
 status, no crash, and no run above ten seconds. What `convert` and `edit` write as timeline or JSON has to be written the same when it is read again.
 
 The table has how many runs were done and how many refused, and then how often each code came. The status is 1 where a run ended otherwise; the file of
-such a run is kept in /tmp. The same seed (1) makes the same changes. The program is OTIO of the environment, or the one that `./otio --prove` builds.
+such a run is kept in the folder for temporary files. The same seed (1) makes the same changes. The program is OTIO of the environment, or the one that
+`./otio --prove` builds.
 """
 import argparse
 import collections
@@ -166,7 +167,7 @@ def main():
                     fault = fault_of(words, folder, answer)
                     if fault is not None:
                         others += 1
-                        kept = f'/tmp/changed.{asked.seed}.{number}.{name}'
+                        kept = os.path.join(tempfile.gettempdir(), f'changed.{asked.seed}.{number}.{name}')
                         shutil.copy(os.path.join(folder, 'changed'), kept)
                         print(f'otherwise: {line}, {kept}: {fault}', flush=True)
             runs += sum(statuses.values())
